@@ -1,0 +1,19 @@
+//! What each part of a GraphQL syntax tree is made of: names, values that may be shared, and the places
+//! where they stand in a source text.
+//!
+//! - `span`: numbers of source files, and stretches of their texts.
+//! - `name`: names, with their syntax, and the macro `name!`.
+//! - `node`: values and texts that several trees may share.
+//! - `laws`: what holds of all of these, as contracts of functions that do nothing.
+#![tactic(auto)]
+
+pub mod laws;
+pub mod name;
+pub mod node;
+mod node_str;
+#[cfg(test)]
+mod refusals;
+mod shared;
+mod shared_text;
+pub mod span;
+mod text;

@@ -1,0 +1,316 @@
+//! Names, with their syntax.
+ghost use Rattle.std.specs.Prelude.{◌≡◌, ◌↔◌, IfOk, IfErr, IfSome, IsTrue, IsSome, IsOk, Some, None, length, true, false, string_bytes};
+ghost use Rattle.std.specs.List.{list_all};
+ghost use Rattle.std.specs.Rc.{rc_str_bytes};
+ghost use Rattle.graphql_base.specs.Names.{is_name, is_name_start, is_name_continue, begins_in};
+
+use crate::span::SourceSpan;
+use crate::text::Text;
+use std::alloc::{AllocError, Global};
+use std::fmt::{self, Debug, Display, Formatter, Write};
+use std::rc::RcStr;
+use thiserror::Error;
+
+/// A name (the production `Name` of the GraphQL grammar): a letter or `_`, followed by letters, digits
+/// and `_`, all of ASCII.
+///
+/// A name is its text, which is static or shared, and optionally the place where it stands in a source
+/// text. Equality, order and hash are those of the text alone: a name equals one that stands elsewhere,
+/// or whose text is kept in the other way. The order is that of the bytes. A clone keeps the location,
+/// and whether the text is static.
+///
+/// ```
+/// let name = Name::new(alloc, "id")?;
+/// name == name!(id) // true
+/// ```
+#[derive(Drop)]
+#[derive_where(PartialEq, Eq, PartialOrd, Ord, Hash)]
+pub struct Name {
+    text: Text,
+    #[derive_where(skip)]
+    location: Option<SourceSpan>,
+    pub ghost valid: { IsTrue (is_name text.bytes) },
+}
+
+/// The name of a type (the production `NamedType`).
+pub type NamedType = Name;
+
+/// The error of a text that is no name.
+#[derive(Clone, Debug, Drop, PartialEq, Eq, Error)]
+#[error("`{name}` is not a valid GraphQL name")]
+pub struct InvalidNameError {
+    /// The text.
+    pub name: String,
+    /// Where the text stands. The constructors of `Name` don't know it, and leave it out.
+    pub location: Option<SourceSpan>,
+}
+
+/// Why a constructor of `Name` made none.
+#[derive(Clone, Debug, Drop, PartialEq, Eq, Error)]
+pub enum NameError {
+    /// The text isn't in name syntax.
+    #[error(transparent)]
+    Invalid(InvalidNameError),
+    /// Memory was refused, for the name or for the text of an error.
+    #[error("out of memory")]
+    Memory,
+}
+
+impl NameError {
+    ghost use Rattle.graphql_base.specs.NameErrors.{IsRefusalOf};
+
+    /// The refusal of a text outside the syntax, which it holds where memory suffices.
+    fn invalid(alloc: Global, text: &str) -> NameError
+        requires { is_name text.now ≡ false }
+        ensures { IsRefusalOf text.now result }
+    {
+        match String::from_str(alloc, text) {
+            Ok(name) => NameError::Invalid(InvalidNameError {
+                name,
+                location: None,
+            }),
+            Err(_) => NameError::Memory,
+        }
+    }
+}
+
+fn starts_name(byte: u8) -> bool
+    ensures { result ≡ is_name_start byte }
+{
+    byte.is_ascii_alphabetic() || byte == b'_'
+}
+
+fn begins_as_name(bytes: &[u8]) -> bool
+    ensures { result ≡ begins_in is_name_start bytes.now }
+{
+    match bytes {
+        [] => false,
+        [first, ..] => starts_name(*first),
+    }
+}
+
+fn continues_name(byte: u8) -> bool
+    ensures { result ≡ is_name_continue byte }
+{
+    starts_name(byte) || byte.is_ascii_digit()
+}
+
+fn continues_as_name(bytes: &[u8]) -> bool
+    ensures { result ≡ list_all is_name_continue bytes.now }
+{
+    bytes.iter().all(|byte| continues_name(*byte))
+}
+
+impl Name {
+    ghost use Rattle.graphql_base.specs.Name.{name_text, is_static_name, name_location, IsNewName};
+    ghost use Rattle.graphql_base.specs.NameErrors.{IsRefusalOf};
+    ghost use Rattle.graphql_base.specs.Span.{span_len};
+
+    /// Whether the text is in name syntax: the test of the condition that the constructors without a test have.
+    pub fn is_valid_syntax(text: &str) -> bool
+        ensures { result ≡ is_name text.now }
+    {
+        let bytes = text.as_bytes();
+        begins_as_name(bytes) && continues_as_name(bytes)
+    }
+
+    /// A name over a copy of the text, which clones of the name share.
+    ///
+    /// `NameError::Invalid` for a text outside name syntax, and for no other: it holds the text and no
+    /// location. `NameError::Memory` where memory is refused.
+    ///
+    /// ```
+    /// Name::new(alloc, "id")      // a name
+    /// Name::new(alloc, "1nvalid") // NameError::Invalid
+    /// ```
+    pub fn new(alloc: Global, text: &str) -> Result<Name, NameError>
+        ensures ok { IfOk result (IsNewName text.now false) }
+        ensures err { IfErr result (IsRefusalOf text.now) }
+    {
+        if !Name::is_valid_syntax(text) {
+            return Err(NameError::invalid(alloc, text));
+        }
+        Name::new_unchecked(alloc, text).map_err(|_| NameError::Memory)
+    }
+
+    /// A name over a shared text. A text in name syntax always gives a name, and takes no memory.
+    ///
+    /// `NameError::Invalid` for a text outside name syntax, and for no other: it holds the text and no
+    /// location. `NameError::Memory` where memory for that text is refused.
+    pub fn new_shared(alloc: Global, text: RcStr) -> Result<Name, NameError>
+        ensures valid { IsOk result ↔ IsTrue (is_name (rc_str_bytes text)) }
+        ensures ok { IfOk result (IsNewName (rc_str_bytes text) false) }
+        ensures err { IfErr result (IsRefusalOf (rc_str_bytes text)) }
+    {
+        if !Name::is_valid_syntax(text.as_str()) {
+            return Err(NameError::invalid(alloc, text.as_str()));
+        }
+        Ok(Name::from_arc_unchecked(text))
+    }
+
+    /// A name over a static text. A text in name syntax always gives a name, and takes no memory.
+    ///
+    /// `NameError::Invalid` for a text outside name syntax, and for no other: it holds the text and no
+    /// location. `NameError::Memory` where memory for that text is refused.
+    pub fn new_static(alloc: Global, text: &'static str) -> Result<Name, NameError>
+        ensures valid { IsOk result ↔ IsTrue (is_name text.now) }
+        ensures ok { IfOk result (IsNewName text.now true) }
+        ensures err { IfErr result (IsRefusalOf text.now) }
+    {
+        if !Name::is_valid_syntax(text) {
+            return Err(NameError::invalid(alloc, text));
+        }
+        Ok(Name::new_static_unchecked(text))
+    }
+
+    /// A name over a copy of a text that is in name syntax, without a test. `AllocError` where memory is refused.
+    pub fn new_unchecked(alloc: Global, text: &str) -> Result<Name, AllocError>
+        requires { IsTrue (is_name text.now) }
+        ensures { IfOk result (IsNewName text.now false) }
+    {
+        Ok(Name::from_arc_unchecked(RcStr::from_str(alloc, text)?))
+    }
+
+    /// A name over a shared text that is in name syntax, without a test. It takes no memory.
+    pub fn from_arc_unchecked(text: RcStr) -> Name
+        requires { IsTrue (is_name (rc_str_bytes text)) }
+        ensures { IsNewName (rc_str_bytes text) false result }
+    {
+        Name {
+            text: Text::from_shared(text),
+            location: None,
+        }
+    }
+
+    /// A name over a static text that is in name syntax, without a test. It takes no memory; `name!` calls it.
+    pub fn new_static_unchecked(text: &'static str) -> Name
+        requires { IsTrue (is_name text.now) }
+        ensures { IsNewName text.now true result }
+    {
+        Name {
+            text: Text::from_static(text),
+            location: None,
+        }
+    }
+
+    /// This name with another location: a stretch of as many bytes as the name has.
+    pub fn with_location(self, span: SourceSpan) -> Name
+        requires { span_len span ≡ length (name_text self) }
+        ensures text { name_text result ≡ name_text self }
+        ensures form { is_static_name result ≡ is_static_name self }
+        ensures location { name_location result ≡ Some span }
+    {
+        Name {
+            text: self.text,
+            location: Some(span),
+        }
+    }
+
+    /// The place where the name stands in a source text. A name just made has none.
+    pub fn location(&self) -> Option<SourceSpan>
+        ensures { result ≡ name_location self.now }
+    {
+        self.location
+    }
+
+    /// How many bytes the text has, which is also how many characters.
+    pub fn len(&self) -> usize
+        ensures { result ≡ length (name_text self.now) }
+    {
+        self.as_str().len()
+    }
+
+    /// The text, which is in name syntax.
+    pub fn as_str(&self) -> &str
+        ensures text { result.now ≡ name_text self.now }
+        ensures syntax { IsTrue (is_name result.now) }
+    {
+        self.text.as_str()
+    }
+
+    /// The text, exactly if it is static.
+    pub fn as_static_str(&self) -> Option<&'static str>
+        ensures some { IsSome result ↔ IsTrue (is_static_name self.now) }
+        ensures text { IfSome result (λ text. text.now ≡ name_text self.now) }
+    {
+        self.text.as_static_str()
+    }
+
+    /// The text as one more owner of it, if it is shared; `Ok(None)` exactly if it is static.
+    ///
+    /// `AllocError` only for a shared text, where one more owner is refused.
+    pub fn to_cloned_arc(&self) -> Result<Option<RcStr>, AllocError>
+        ensures static_text { IsTrue (is_static_name self.now) → result ≡ Ok None }
+        ensures shared_text { is_static_name self.now ≡ false → IfOk result IsSome }
+        ensures text { IfOk result (λ copy. IfSome copy (λ text. rc_str_bytes text ≡ name_text self.now)) }
+    {
+        self.text.to_shared()
+    }
+
+    /// The text as a shared one: the name's own, if it is shared, and else a copy.
+    ///
+    /// `AllocError` only for a static text, where memory for the copy is refused.
+    pub fn into_shared(self, alloc: Global) -> Result<RcStr, AllocError>
+        ensures text { IfOk result (λ text. rc_str_bytes text ≡ name_text self) }
+        ensures shared { is_static_name self ≡ false → IsOk result }
+    {
+        self.text.into_shared(alloc)
+    }
+}
+
+impl AsRef<Name> for Name {
+    fn as_ref(&self) -> &Name
+        ensures { result.now ≡ self.now }
+    {
+        self
+    }
+}
+
+impl Clone for Name {
+    ghost is_clone = { λ name copy. copy ≡ name };
+
+    fn clone(&self) -> Result<Name, AllocError> {
+        Ok(Name {
+            text: self.text.clone()?,
+            location: self.location,
+        })
+    }
+}
+
+impl Display for Name {
+    ghost use Rattle.graphql_base.specs.Name.{name_text};
+
+    ghost output = { λ name. Some (name_text name) };
+
+    fn fmt<W: Write>(&self, f: &mut Formatter<W>) -> fmt::Result {
+        f.pad(self.as_str())
+    }
+}
+
+impl Debug for Name {
+    fn fmt<W: Write>(&self, f: &mut Formatter<W>) -> fmt::Result {
+        self.text.fmt(f)
+    }
+}
+
+/// A name over a static text: an identifier, or a text literal. It takes no memory.
+///
+/// That the text is in name syntax is proved at the call, so `name!("1nvalid")` is refused by the check.
+/// It stands in the body of a function.
+///
+/// ```
+/// name!(Query)
+/// name!("__typename")
+/// ```
+#[macro_export]
+macro_rules! name {
+    ($word:ident) => {
+        $crate::name::Name::new_static_unchecked(stringify!($word))
+    };
+    ($text:literal) => {
+        $crate::name::Name::new_static_unchecked($text)
+    };
+}
+
+#[cfg(test)]
+mod tests;

@@ -1,0 +1,29 @@
+use Rattle.std.proofs.Common.{◌≡◌, ℕ, ◌+◌, ◌<◌, List, [], ◌∷◌, get_or, length, ap, arith, refl}
+use Rattle.std.proofs.lemmas.Str.{IsCharBoundary-start, IsCharBoundary-after_ascii}
+use Rattle.graphql_text.specs.QuotedForm.{quoted_character}
+use Rattle.graphql_text.proofs.Runs.{run_plain, run_escape, run_restart}
+use Rattle.graphql_text.proofs.quoted_string.write_runs.Goals as goal
+use Rattle.graphql_text.proofs.quoted_string.write_runs.Goals.{in-Some, in_default}
+
+pub loop-i-init : goal.loop-i-init
+loop-i-init g c = record { order = omega arith; boundary = IsCharBoundary-start c.args.text.now c.utf8.text; plain = refl; wrote = g.met.O.Target.nothing _ }
+
+pub loop-i-preserved : goal.loop-i-preserved
+loop-i-preserved g c =
+    let t : List ℕ = c.args.text.now in
+    let i : ℕ = c.loop-i.i in
+    let I = c.loop-i.invariant in
+    let within : i < length t = omega (arith, ap length c.as_bytes-byte-items.ensures.value) in
+    elim c.match-escape.branch [
+      | in-Some w ↦
+          let is = rw c.as_bytes-byte-items.ensures.value at w.in-Some.ensures in
+          rw (w.from-is, w.out-is) (record {
+            order = omega arith;
+            boundary = IsCharBoundary-after_ascii t i c.utf8.text within is.0;
+            plain = run_restart quoted_character t (i + 1);
+            wrote = rw (← run_escape quoted_character t w.in-Some.escape.now c.loop-i.from i within is.1 I.plain) (g.met.O.Target.more _ _ _ _ _ (g.met.O.Target.more _ _ _ _ _ I.wrote (rw w.range.ensures.value at w.write_piece.ensures)) w.text.ensures);
+          })
+      | in_default w ↦
+          let is : quoted_character (get_or t i 0) ≡ get_or t i 0 ∷ [] = rw c.as_bytes-byte-items.ensures.value at w.in_default.ensures in
+          rw (w.from-is, w.out-is) (record { order = omega arith; boundary = I.boundary; plain = run_plain quoted_character t c.loop-i.from i I.order within is I.plain; wrote = I.wrote })
+    ]

@@ -1,0 +1,7 @@
+use Rattle.std.proofs.Common.{refl}
+use Rattle.graphql_text.proofs.Ascii.{float_bytes}
+use Rattle.graphql_text.proofs.WritingLaws.{writes_item}
+use Rattle.graphql_text.proofs.writers.write_float.Goals as goal
+
+pub returns : goal.returns
+returns g c = λ mode level. writes_item refl (rw (float_bytes (record { text = c.args.text.now; valid = c.requires })) c.text.ensures)

@@ -1,0 +1,25 @@
+-- GraphQL's lexical grammar, and layouts.
+pub mod Characters
+pub mod BlockStringValue
+pub mod Strings
+pub mod Tokens
+pub mod QuotedForm
+pub mod BlockForm
+pub mod Literals
+pub mod Layout
+pub mod Nesting
+pub mod Lines
+pub mod Groups
+pub mod Levels
+pub mod Spelling
+pub mod Forms
+pub mod PrintedTokens
+pub mod Reading
+pub mod Writing
+pub mod Place
+pub mod Printing
+pub mod Sinks
+pub mod Buffer
+pub mod Targets
+pub mod Stack
+pub mod laws

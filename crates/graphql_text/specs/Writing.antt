@@ -1,0 +1,38 @@
+-- What a writer does with the items of a layout. `wrote a bytes b` says what a target does with bytes, from a to b.
+use Rattle.std.specs.Prelude.{◌≡◌, ℕ, ◌+◌, List, [], ◌∷◌, ◌++◌, codes, cond, Option, None, Some, option_map, encode_utf8_all}
+use Rattle.graphql_base.specs.Names.{is_name}
+use Rattle.graphql_text.specs.Tokens.{Punctuation, Name, punctuator_text}
+use Rattle.graphql_text.specs.Layout.{Item, Word, Space, Comma, raises, lowers, text_of_items}
+
+-- From a to b the text of the items was written, in UTF-8, at a level. They raise it as often as they lower it.
+pub record WritesItems {O : Type 0} (wrote : O → List ℕ → O → Type 0) (a b : O) (mode : Option (List ℕ)) (level : ℕ) (items : List Item) : Type 0 where
+  pub text : wrote a (encode_utf8_all (text_of_items mode level 0 0 items)) b
+  pub balanced : raises items ≡ lowers items
+
+-- The same of items that need not be balanced: after them stands another level.
+pub record WritesToLevel {O : Type 0} (wrote : O → List ℕ → O → Type 0) (a b : O) (mode : Option (List ℕ)) (level : ℕ) (items : List Item) (after : ℕ) : Type 0 where
+  pub text : wrote a (encode_utf8_all (text_of_items mode level 0 0 items)) b
+  pub levels : after + lowers items ≡ level + raises items
+
+-- Of all the items, from a to b those before the rest were written.
+pub record WritesFront {O : Type 0} (wrote : O → List ℕ → O → Type 0) (a b : O) (mode : Option (List ℕ)) (level : ℕ) (all : List Item) (after : ℕ) (rest : List Item) : Type 0 where
+  pub done : List Item
+  pub parted : all ≡ done ++ rest
+  pub written : WritesToLevel wrote a b mode level done after
+
+-- The text of an item that is the same at every place and its own UTF-8 form.
+abbrev pub fixed_item_text : Item → Option (List ℕ)
+fixed_item_text (Word (Punctuation mark)) = Some (punctuator_text mark)
+fixed_item_text (Word (Name name)) = cond (is_name name) (Some name) None
+fixed_item_text Space = Some (codes " ")
+fixed_item_text Comma = Some (codes ",")
+fixed_item_text _ = None
+
+abbrev pub after_text : Option (List ℕ) → Option (List ℕ) → Option (List ℕ)
+after_text None _ = None
+after_text (Some text) rest = option_map (λ more. text ++ more) rest
+
+-- the text of such items
+abbrev pub fixed_text : List Item → Option (List ℕ)
+fixed_text [] = Some []
+fixed_text (item ∷ items) = after_text (fixed_item_text item) (fixed_text items)

@@ -1,0 +1,3 @@
+-- Lemmas that the laws of impls cite, no definitions.
+pub mod Sinks
+pub mod Targets

@@ -1,0 +1,267 @@
+//! Kinds of trees that are printed, and their prints.
+ghost use Rattle.std.specs.Prelude.{◌≡◌, ℕ, ◌↔◌, [], true, false, List, Bool, Option, Some, None, codes, IfOk, OnOk, OnErr, IsOk, IsErrOf, IsTrue, MatchOption, string_bytes, encode_utf8_all, chars};
+ghost use Rattle.graphql_text.specs.Buffer.{waiting_bytes};
+ghost use Rattle.graphql_text.specs.Forms.{Form};
+ghost use Rattle.graphql_text.specs.Layout.{Item, IsBlankMode};
+ghost use Rattle.graphql_text.specs.Levels.{Fits, Overflows};
+ghost use Rattle.graphql_text.specs.Place.{mode_of};
+ghost use Rattle.graphql_text.specs.Reading.{Laws, layout_of};
+ghost use Rattle.graphql_text.specs.Sinks.{CanFault, SinkTook, SinkFaulted};
+
+use crate::buffer::Buffer;
+use crate::place::Place;
+use crate::sink::TextSink;
+use crate::target::{Target, ToFormatter, ToSink, ToText, finish};
+use std::alloc::{AllocError, Global};
+use std::fmt;
+use thiserror::Error;
+
+/// A kind of tree that is printed, and read back as itself alone.
+///
+/// `Serialize` prints it. The ghost members say what the kind is: its trees without locations, how they are laid out, the
+/// grammar that reads them, the side conditions of what can be read; and `laws` is the proof that these fit together.
+pub trait Syntax {
+    /// The trees of the kind without locations. Two values that are alike have the same one.
+    ghost Tree: { Type 0 };
+
+    ghost tree: { Self → Tree };
+
+    /// The items of a tree: told whether the layout is broken, and whether nothing stands before the tree.
+    ghost shape: { Bool → Bool → Tree → List Item };
+
+    /// How deep the groups of a tree stand in one another.
+    ghost nesting: { Tree → ℕ };
+
+    /// How many parts of a tree wait on stacks at most while it is written.
+    ghost parts: { Tree → ℕ };
+
+    /// The side conditions.
+    ghost obeys: { Tree → Type 0 };
+
+    /// The grammar: the tokens from a place on, and those that follow the tree.
+    ghost derives: { Tree → Form };
+
+    ghost laws: { Laws shape nesting obeys derives };
+
+    /// Whether the tree keeps the side conditions of its kind: then what is printed of it can be read. It takes no memory.
+    fn is_well_formed(&self) -> bool
+        ensures { IsTrue result ↔ obeys (tree self.now) };
+
+    /// How deep the groups of the tree stand in one another. `None` if that does not fit.
+    fn find_nesting(&self) -> Option<usize>
+        ensures { MatchOption result (Overflows 0 (nesting (tree self.now))) (λ n. n ≡ nesting (tree self.now)) };
+
+    /// Writes the whole layout of the tree from a place on. Memory for its stacks is asked for before the first byte.
+    fn write<O: Target>(&self, out: &mut O, place: &Place<'_>) -> Result<(), AllocError>
+    where
+        Self: Sized,
+        requires { Fits place.now.level (nesting (tree self.now)) }
+        ensures ok { OnOk result (O.wrote out.old (encode_utf8_all (layout_of shape (mode_of place.now.prefix) place.now.level (tree self.now))) out.new) }
+        ensures err { OnErr result (out.new ≡ out.old) }
+        ensures free { parts (tree self.now) ≡ 0 → IsOk result };
+}
+
+/// Why a tree was not printed, or not to its end.
+#[derive(Clone, Copy, Debug, PartialEq, Eq, Error)]
+pub enum PrintError {
+    /// The starting level and the nesting of the tree don't fit into a `usize` together. Nothing was written.
+    #[error("indentation level overflow")]
+    LevelOverflow,
+    /// Memory was refused. Nothing was written.
+    #[error("out of memory")]
+    Memory,
+    /// The sink faulted. It has taken a beginning of the bytes, and not all of them.
+    #[error("the writer failed")]
+    Sink,
+}
+
+/// A tree, and the layout that it is printed in.
+#[derive_where(Clone, Copy)]
+pub struct Serialize<'a, T> {
+    tree: &'a T,
+    prefix: Option<&'a str>,
+    level: usize,
+}
+
+impl<'a, T> Serialize<'a, T> {
+    ghost use Rattle.graphql_text.specs.Printing.{print_tree, print_mode, print_level};
+
+    /// The tree in the default layout: a prefix of two spaces, from level 0.
+    pub fn new(tree: &'a T) -> Serialize<'a, T>
+        ensures tree { print_tree result ≡ tree.now }
+        ensures mode { print_mode result ≡ Some (codes "  ") }
+        ensures level { print_level result ≡ 0 }
+    {
+        Serialize {
+            tree,
+            prefix: Some("  "),
+            level: 0,
+        }
+    }
+
+    /// Over several lines, each of which begins with the prefix as often as its level.
+    pub fn indent_prefix(self, prefix: &'a str) -> Serialize<'a, T>
+        ensures tree { print_tree result ≡ print_tree self.entry }
+        ensures mode { print_mode result ≡ Some (chars prefix.now) }
+        ensures level { print_level result ≡ print_level self.entry }
+    {
+        Serialize {
+            prefix: Some(prefix),
+            ..self
+        }
+    }
+
+    /// On one line.
+    pub fn no_indent(self) -> Serialize<'a, T>
+        ensures tree { print_tree result ≡ print_tree self.entry }
+        ensures mode { print_mode result ≡ None }
+        ensures level { print_level result ≡ print_level self.entry }
+    {
+        Serialize {
+            prefix: None,
+            ..self
+        }
+    }
+
+    /// From this level on, in levels of indentation.
+    pub fn initial_indent_level(self, level: usize) -> Serialize<'a, T>
+        ensures tree { print_tree result ≡ print_tree self.entry }
+        ensures mode { print_mode result ≡ print_mode self.entry }
+        ensures level { print_level result ≡ level }
+    {
+        Serialize { level, ..self }
+    }
+}
+
+/// Sends the whole layout of a tree to a sink.
+fn send_layout<T: Syntax, S: TextSink>(
+    tree: &T,
+    out: &mut ToSink<'_, S>,
+    place: &Place<'_>,
+) -> Result<(), AllocError>
+    requires level { Fits place.now.level (T.nesting (T.tree tree.now)) }
+    requires faults { CanFault (S.fault_count out.old.sink.now) }
+    requires fresh { out.old.stopped ≡ false }
+    requires empty { waiting_bytes out.old.buffer ≡ [] }
+    ensures name { out.new.sink.ghost_name ≡ out.old.sink.ghost_name }
+    ensures err { OnErr result (out.new.sink.now ≡ out.old.sink.now) }
+    ensures free { T.parts (T.tree tree.now) ≡ 0 → IsOk result }
+    ensures stopped { OnOk result (out.new.stopped ≡ true → SinkFaulted S.taken S.fault_count out.old.sink.now (encode_utf8_all (layout_of T.shape (mode_of place.now.prefix) place.now.level (T.tree tree.now))) out.new.sink.now) }
+    ensures printed { OnOk result (out.new.stopped ≡ false → SinkTook S.taken S.fault_count out.old.sink.now (encode_utf8_all (layout_of T.shape (mode_of place.now.prefix) place.now.level (T.tree tree.now))) out.new.sink.now) }
+{
+    tree.write(out, place)?;
+    finish(out);
+    Ok(())
+}
+
+impl<'a, T: Syntax> Serialize<'a, T> {
+    ghost use Rattle.graphql_text.specs.Printing.{ReadsAlone, print_tree, print_mode, print_level, print_bytes};
+
+    /// Whether the level and the nesting of the tree fit together.
+    fn fits(&self) -> bool
+        ensures { IsTrue result ↔ Fits (print_level self.now) (T.nesting (T.tree (print_tree self.now))) }
+    {
+        match self.tree.find_nesting() {
+            Some(nesting) => nesting <= usize::MAX - self.level,
+            None => false,
+        }
+    }
+
+    /// The place where the print begins.
+    fn start(&self) -> Place<'a>
+        ensures mode { mode_of result.prefix ≡ print_mode self.now }
+        ensures level { result.level ≡ print_level self.now }
+    {
+        Place {
+            prefix: self.prefix,
+            level: self.level,
+        }
+    }
+
+    /// Prints into a sink.
+    ///
+    /// `Ok`: the sink has taken exactly the bytes of the layout. `LevelOverflow` comes exactly where the starting level and
+    /// the nesting don't fit together, before memory is asked for; `Memory` where the memory of a stack was refused, before
+    /// the first byte; `Sink` at the sink's first fault, after a beginning of the bytes.
+    pub fn print_to<S: TextSink>(&self, sink: &mut S) -> Result<(), PrintError>
+        requires { CanFault (S.fault_count sink.old) }
+        ensures printed { OnOk result (SinkTook S.taken S.fault_count sink.old (print_bytes T.shape T.tree self.now) sink.new) }
+
+        ensures overflow { IsErrOf result PrintError.LevelOverflow ↔ Overflows (print_level self.now) (T.nesting (T.tree (print_tree self.now))) }
+        ensures untouched { IsErrOf result PrintError.LevelOverflow → sink.new ≡ sink.old }
+        ensures memory { IsErrOf result PrintError.Memory → sink.new ≡ sink.old }
+        ensures free { T.parts (T.tree (print_tree self.now)) ≡ 0 → IsErrOf result PrintError.Memory → ⊥ }
+        ensures stopped { IsErrOf result PrintError.Sink → SinkFaulted S.taken S.fault_count sink.old (print_bytes T.shape T.tree self.now) sink.new }
+
+        // What was printed of a well-formed tree is read as that tree, and as no other.
+        ensures read { OnOk result (T.obeys (T.tree (print_tree self.now)) → IsBlankMode (print_mode self.now) →
+            ReadsAlone T.derives (print_bytes T.shape T.tree self.now) (T.tree (print_tree self.now))) }
+    {
+        if !self.fits() {
+            return Err(PrintError::LevelOverflow);
+        }
+        let mut out = ToSink {
+            sink,
+            stopped: false,
+            buffer: Buffer::new(),
+        };
+        if send_layout(self.tree, &mut out, &self.start()).is_err() {
+            return Err(PrintError::Memory);
+        }
+        if out.stopped {
+            Err(PrintError::Sink)
+        } else {
+            Ok(())
+        }
+    }
+
+    /// The text of the layout. `LevelOverflow` and `Memory` come as in `print_to`, and `Memory` also where the text itself
+    /// cannot grow; it never answers `Sink`.
+    pub fn to_text(&self, alloc: Global) -> Result<String, PrintError>
+        ensures printed { IfOk result (λ text. string_bytes text ≡ print_bytes T.shape T.tree self.now) }
+
+        ensures overflow { IsErrOf result PrintError.LevelOverflow ↔ Overflows (print_level self.now) (T.nesting (T.tree (print_tree self.now))) }
+        ensures sink { IsErrOf result PrintError.Sink → ⊥ }
+
+        // What was printed of a well-formed tree is read as that tree, and as no other.
+        ensures read { IfOk result (λ text. T.obeys (T.tree (print_tree self.now)) → IsBlankMode (print_mode self.now) →
+            ReadsAlone T.derives (string_bytes text) (T.tree (print_tree self.now))) }
+    {
+        if !self.fits() {
+            return Err(PrintError::LevelOverflow);
+        }
+        let mut out = ToText {
+            text: String::new(alloc),
+            failed: false,
+        };
+        if self.tree.write(&mut out, &self.start()).is_err() {
+            return Err(PrintError::Memory);
+        }
+        let ToText { text, failed } = out;
+        if failed {
+            Err(PrintError::Memory)
+        } else {
+            Ok(text)
+        }
+    }
+}
+
+impl<'a, T: Syntax> fmt::Display for Serialize<'a, T> {
+    ghost use Rattle.graphql_text.specs.Printing.{print_bytes};
+
+    ghost output = { λ s. Some (print_bytes T.shape T.tree s) };
+
+    fn fmt<W: fmt::Write>(&self, f: &mut fmt::Formatter<W>) -> fmt::Result {
+        if !self.fits() {
+            return Err(fmt::Error);
+        }
+        let mut out = ToFormatter {
+            formatter: f,
+            failed: false,
+        };
+        if self.tree.write(&mut out, &self.start()).is_err() {
+            return Err(fmt::Error);
+        }
+        if out.failed { Err(fmt::Error) } else { Ok(()) }
+    }
+}

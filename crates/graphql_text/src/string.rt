@@ -1,0 +1,36 @@
+//! Strings, quoted or as block strings.
+
+ghost use Rattle.std.specs.Prelude.{[], ◌∷◌, chars};
+ghost use Rattle.graphql_text.specs.Layout.{AsDescription, AsValue, StringItem};
+ghost use Rattle.graphql_text.specs.Place.{mode_of};
+ghost use Rattle.graphql_text.specs.Writing.{WritesItems};
+
+use crate::block_string::{can_be_block, holds, write_block};
+use crate::place::Place;
+use crate::quoted_string::write_quoted;
+use crate::target::Target;
+
+/// Writes a string value: as a block string under a prefix, if the value holds a line feed and can be a block string, else quoted.
+///
+/// A value can be a block string if it holds no carriage return, its first and its last line aren't blank, and at least one line begins
+/// with a character that is neither a space nor a tab.
+pub fn write_string_value<O: Target>(out: &mut O, place: &Place<'_>, value: &str)
+    ensures { WritesItems O.wrote out.old out.new (mode_of place.now.prefix) place.now.level (StringItem (chars value.now) AsValue ∷ []) }
+{
+    match place.prefix {
+        Some(prefix) if holds(value, b'\n') && can_be_block(value) => {
+            write_block(out, prefix, place.level, value)
+        }
+        _ => write_quoted(out, value),
+    }
+}
+
+/// Writes a description, the string alone: as a block string under a prefix, if it can be one, else quoted.
+pub fn write_description<O: Target>(out: &mut O, place: &Place<'_>, value: &str)
+    ensures { WritesItems O.wrote out.old out.new (mode_of place.now.prefix) place.now.level (StringItem (chars value.now) AsDescription ∷ []) }
+{
+    match place.prefix {
+        Some(prefix) if can_be_block(value) => write_block(out, prefix, place.level, value),
+        _ => write_quoted(out, value),
+    }
+}

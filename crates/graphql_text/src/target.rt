@@ -1,0 +1,182 @@
+//! What a printer writes to: a sink, a text, a formatter.
+ghost use Rattle.std.specs.Prelude.{◌≡◌, ◌++◌, ℕ, [], List, IsTrue, string_bytes};
+ghost use Rattle.std.proofs.Common.{refl, ◌∙◌};
+ghost use Rattle.graphql_text.specs.Buffer.{waiting_bytes};
+ghost use Rattle.graphql_text.specs.Sinks.{Sends, SendsBuffered};
+ghost use Rattle.graphql_text.specs.Targets.{TextGrew, FormatterTook};
+ghost use Rattle.graphql_text.specs.laws.Sinks.{buffered_nothing, buffered_idle, buffered_more};
+ghost use Rattle.graphql_text.specs.laws.Targets.{grew_nothing, grew_idle, grew_more, formatted_nothing, formatted_idle, formatted_more};
+
+use crate::buffer::Buffer;
+use crate::sink::{TextSink, put_all};
+use std::fmt;
+
+/// What a printer writes its text to. After a write that failed it takes no more, and remembers it: so the writers of a tree
+/// answer nothing, and only the whole print asks whether it came through.
+pub trait Target {
+    /// From one moment to the other these bytes were written, or writing stopped within them.
+    ghost wrote: { Self → List ℕ → Self → Type 0 };
+
+    /// Nothing is written any more.
+    ghost stopped: { Self → Type 0 };
+
+    /// Writes the text.
+    fn text(&mut self, text: &str)
+        ensures { wrote self.old text.now self.new };
+
+    /// Whether a write failed. A long loop asks, to end early.
+    fn is_stopped(&self) -> bool
+        ensures { IsTrue result → stopped self.now };
+
+    ghost nothing: { (a : Self) → wrote a [] a };
+
+    ghost idle: { (a : Self) (bytes : List ℕ) → stopped a → wrote a bytes a };
+
+    ghost more: { (a b c : Self) (x y : List ℕ) → wrote a x b → wrote b y c → wrote a (x ++ y) c };
+}
+
+/// A target over a sink, with a buffer between them.
+#[derive(Drop)]
+pub(crate) struct ToSink<'a, S> {
+    pub sink: &'a mut S,
+    pub stopped: bool,
+    pub buffer: Buffer,
+}
+
+/// Sends what waits, and then lets the bytes wait, or sends them too. It answers whether writing stopped.
+#[cold]
+#[inline(never)]
+#[tactic(auto, using(crate::proofs::Sending::both_taken, crate::proofs::Sending::second_faulted))]
+fn send<S: TextSink>(sink: &mut S, stopped: bool, buffer: &mut Buffer, bytes: &[u8]) -> bool
+    ensures { SendsBuffered S.taken S.fault_count sink.old stopped (waiting_bytes buffer.old) bytes.now sink.new result (waiting_bytes buffer.new) }
+{
+    if stopped {
+        return true;
+    }
+    if sink.faults() == u64::MAX {
+        return true;
+    }
+    if put_all(sink, buffer.waiting()).is_err() {
+        return true;
+    }
+    buffer.clear();
+    if buffer.add(bytes) {
+        return false;
+    }
+    if put_all(sink, bytes).is_err() {
+        return true;
+    }
+    false
+}
+
+/// Sends what still waits, at the end.
+pub(crate) fn finish<S: TextSink>(out: &mut ToSink<'_, S>)
+    ensures name { out.new.sink.ghost_name ≡ out.old.sink.ghost_name }
+    ensures sent { Sends S.taken S.fault_count out.old.sink.now out.old.stopped (waiting_bytes out.old.buffer) out.new.sink.now out.new.stopped }
+{
+    if out.stopped {
+        return;
+    }
+    if out.sink.faults() == u64::MAX {
+        out.stopped = true;
+        return;
+    }
+    if put_all(&mut *out.sink, out.buffer.waiting()).is_err() {
+        out.stopped = true;
+    }
+}
+
+impl<'a, S: TextSink> Target for ToSink<'a, S> {
+    ghost wrote = { λ a bytes b. (b.sink.ghost_name ≡ a.sink.ghost_name) × SendsBuffered S.taken S.fault_count a.sink.now a.stopped (waiting_bytes a.buffer) bytes b.sink.now b.stopped (waiting_bytes b.buffer) };
+
+    ghost stopped = { λ a. IsTrue a.stopped };
+
+    ghost nothing = { λ a. (refl, buffered_nothing S.taken S.fault_count a.sink.now a.stopped (waiting_bytes a.buffer)) };
+
+    ghost idle = { λ a bytes h. (refl, buffered_idle S.taken S.fault_count a.sink.now a.stopped (waiting_bytes a.buffer) bytes h) };
+
+    ghost more = { λ a b c x y h k. (k.0 ∙ h.0, buffered_more S.taken S.fault_count a.sink.now b.sink.now c.sink.now a.stopped b.stopped c.stopped (waiting_bytes a.buffer) (waiting_bytes b.buffer) (waiting_bytes c.buffer) x y h.1 k.1) };
+
+    fn text(&mut self, text: &str) {
+        if !self.buffer.add(text.as_bytes()) {
+            self.stopped = send(
+                &mut *self.sink,
+                self.stopped,
+                &mut self.buffer,
+                text.as_bytes(),
+            );
+        }
+    }
+
+    fn is_stopped(&self) -> bool {
+        self.stopped
+    }
+}
+
+/// A target that is a text in memory.
+#[derive(Drop)]
+pub(crate) struct ToText {
+    pub text: String,
+    pub failed: bool,
+}
+
+impl Target for ToText {
+    ghost wrote = { λ a bytes b. TextGrew (string_bytes a.text) a.failed bytes (string_bytes b.text) b.failed };
+
+    ghost stopped = { λ a. IsTrue a.failed };
+
+    ghost nothing = { λ a. grew_nothing (string_bytes a.text) a.failed };
+
+    ghost idle = { λ a bytes h. grew_idle (string_bytes a.text) a.failed bytes h };
+
+    ghost more = { λ a b c x y h k. grew_more (string_bytes a.text) (string_bytes b.text) (string_bytes c.text) a.failed b.failed c.failed x y h k };
+
+    // It may grow on after a failure: what stands in it then is never handed out.
+    fn text(&mut self, text: &str) {
+        if self.text.push_str(text).is_err() {
+            self.failed = true;
+        }
+    }
+
+    fn is_stopped(&self) -> bool {
+        self.failed
+    }
+}
+
+/// A target that is a formatter.
+#[derive(Drop)]
+pub(crate) struct ToFormatter<'a, W> {
+    pub formatter: &'a mut fmt::Formatter<W>,
+    pub failed: bool,
+}
+
+impl<'a, W: fmt::Write> Target for ToFormatter<'a, W> {
+    ghost wrote = { λ a bytes b. (b.formatter.ghost_name ≡ a.formatter.ghost_name) × FormatterTook W.write_str_gives a.formatter.now a.failed bytes b.formatter.now b.failed };
+
+    ghost stopped = { λ a. IsTrue a.failed };
+
+    ghost nothing = { λ a. (refl, formatted_nothing W.write_str_gives a.formatter.now a.failed) };
+
+    ghost idle = { λ a bytes h. (refl, formatted_idle W.write_str_gives a.formatter.now a.failed bytes h) };
+
+    ghost more = { λ a b c x y h k. (k.0 ∙ h.0, formatted_more W.write_str_gives a.formatter.now b.formatter.now c.formatter.now a.failed b.failed c.failed x y h.1 k.1) };
+
+    fn text(&mut self, text: &str) {
+        if !self.failed {
+            self.failed = self.formatter.write_str(text).is_err();
+        }
+    }
+
+    fn is_stopped(&self) -> bool {
+        self.failed
+    }
+}
+
+/// Writes a text that may be empty, of which no target is told.
+pub(crate) fn write_piece<O: Target>(out: &mut O, text: &str)
+    ensures { O.wrote out.old text.now out.new }
+{
+    if !text.is_empty() {
+        out.text(text);
+    }
+}

@@ -1,0 +1,97 @@
+//! What kinds of trees are written with. Each writer appends the text of some items, at a place.
+ghost use Rattle.std.specs.Prelude.{◌≡◌, ℕ, List, Option, Some, [], ◌∷◌, IsTrue, encode_utf8_all};
+ghost use Rattle.graphql_base.specs.Name.{name_text};
+ghost use Rattle.graphql_text.specs.Groups.{comma_lead};
+ghost use Rattle.graphql_text.specs.Layout.{Item, Word, Soft, Tight, last_comma, is_broken, first_indent};
+ghost use Rattle.graphql_text.specs.Literals.{is_int, is_float};
+ghost use Rattle.graphql_text.specs.Place.{mode_of};
+ghost use Rattle.graphql_text.specs.Tokens.{Name as NameToken, IntValue, FloatValue};
+ghost use Rattle.graphql_text.specs.Writing.{WritesItems, fixed_text};
+
+use crate::breaks::{indent, line_break};
+use crate::place::Place;
+use crate::target::Target;
+use graphql_base::name::Name;
+
+/// Writes keywords, punctuators, spaces and commas, which stand alike at every place.
+pub fn write_words<O: Target>(out: &mut O, text: &str)
+    ensures { (mode : Option (List ℕ)) (level : ℕ) (items : List Item) → fixed_text items ≡ Some text.now → WritesItems O.wrote out.old out.new mode level items }
+{
+    out.text(text);
+}
+
+/// Writes a name.
+pub fn write_name<O: Target>(out: &mut O, name: &Name)
+    ensures { (mode : Option (List ℕ)) (level : ℕ) → WritesItems O.wrote out.old out.new mode level (Word (NameToken (name_text name.now)) ∷ []) }
+{
+    out.text(name.as_str());
+}
+
+/// Writes an int.
+pub fn write_int<O: Target>(out: &mut O, text: &str)
+    requires { IsTrue (is_int text.now) }
+    ensures { (mode : Option (List ℕ)) (level : ℕ) → WritesItems O.wrote out.old out.new mode level (Word (IntValue text.now) ∷ []) }
+{
+    out.text(text);
+}
+
+/// Writes a float.
+pub fn write_float<O: Target>(out: &mut O, text: &str)
+    requires { IsTrue (is_float text.now) }
+    ensures { (mode : Option (List ℕ)) (level : ℕ) → WritesItems O.wrote out.old out.new mode level (Word (FloatValue text.now) ∷ []) }
+{
+    out.text(text);
+}
+
+/// Writes a break under a prefix, else a space.
+pub fn write_soft<O: Target>(out: &mut O, place: &Place<'_>)
+    ensures { WritesItems O.wrote out.old out.new (mode_of place.now.prefix) place.now.level (Soft ∷ []) }
+{
+    match place.prefix {
+        Some(prefix) => line_break(out, prefix, place.level),
+        None => out.text(" "),
+    }
+}
+
+/// Writes a break under a prefix, else nothing.
+pub fn write_tight<O: Target>(out: &mut O, place: &Place<'_>)
+    ensures { WritesItems O.wrote out.old out.new (mode_of place.now.prefix) place.now.level (Tight ∷ []) }
+{
+    match place.prefix {
+        Some(prefix) => line_break(out, prefix, place.level),
+        None => {}
+    }
+}
+
+/// Writes what stands before an item of a comma group: a break under a prefix, after a comma unless it is the first item; on
+/// one line a comma and a space, and nothing before the first item.
+pub fn write_comma_lead<O: Target>(out: &mut O, place: &Place<'_>, is_first: bool)
+    ensures { WritesItems O.wrote out.old out.new (mode_of place.now.prefix) place.now.level (comma_lead is_first) }
+{
+    if is_first {
+        write_tight(out, place);
+    } else {
+        write_words(out, ",");
+        write_soft(out, place);
+    }
+}
+
+/// Writes the comma after the last item of a comma group, which only stands under a prefix.
+pub fn write_last_comma<O: Target>(out: &mut O, place: &Place<'_>)
+    ensures { WritesItems O.wrote out.old out.new (mode_of place.now.prefix) place.now.level (last_comma (is_broken (mode_of place.now.prefix))) }
+{
+    match place.prefix {
+        Some(_) => write_words(out, ","),
+        None => {}
+    }
+}
+
+/// Writes the indentation of the first line.
+pub fn write_first_indent<O: Target>(out: &mut O, place: &Place<'_>)
+    ensures { O.wrote out.old (encode_utf8_all (first_indent (mode_of place.now.prefix) place.now.level)) out.new }
+{
+    match place.prefix {
+        Some(prefix) => indent(out, prefix, place.level),
+        None => {}
+    }
+}

@@ -1,0 +1,9 @@
+pub mod Clones
+pub mod Equality
+pub mod Numerals
+pub mod Outcomes
+pub mod Places
+pub mod Readings
+pub mod Trees
+pub mod ValueShapes
+pub mod ValueStack

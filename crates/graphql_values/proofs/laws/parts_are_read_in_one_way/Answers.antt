@@ -1,0 +1,17 @@
+use Rattle.graphql_values.specs.laws.OneWay.{values_one_way, arguments_one_way, directives_one_way, directive_lists_one_way, types_one_way}
+use Rattle.graphql_values.proofs.laws.parts_are_read_in_one_way.Goals as goal
+
+pub returns-clause-values : goal.returns-clause-values
+returns-clause-values c = values_one_way
+
+pub returns-clause-arguments : goal.returns-clause-arguments
+returns-clause-arguments c = arguments_one_way
+
+pub returns-clause-directives : goal.returns-clause-directives
+returns-clause-directives c = directives_one_way
+
+pub returns-clause-directive_lists : goal.returns-clause-directive_lists
+returns-clause-directive_lists c = directive_lists_one_way
+
+pub returns-clause-types : goal.returns-clause-types
+returns-clause-types c = types_one_way

@@ -1,0 +1,28 @@
+-- Lemmas, no definitions: each part is read in one way.
+use Rattle.std.proofs.Common.{[], ◌∷◌}
+use Rattle.graphql_text.specs.Tokens.{bang, lparen, at}
+use Rattle.graphql_text.specs.Forms.{a_mark}
+use Rattle.graphql_text.proofs.Parsing.{one_reading}
+use Rattle.graphql_values.specs.Values.{Constness, value_form}
+use Rattle.graphql_values.specs.Arguments.{argument_form}
+use Rattle.graphql_values.specs.Directives.{directive_form, directives_form}
+use Rattle.graphql_values.specs.TypeReferences.{type_form}
+use Rattle.graphql_values.specs.Lookahead.{IsReadOneWay}
+use Rattle.graphql_values.specs.laws.ValueReading.{value_is_read}
+use Rattle.graphql_values.specs.laws.DirectiveReading.{argument_is_read, directive_is_read, directives_are_read}
+use Rattle.graphql_values.specs.laws.TypeReading.{type_is_read}
+
+pub values_one_way : (c : Constness) → IsReadOneWay (value_form c) []
+values_one_way c a b tokens r s d e stop stop' = one_reading (value_is_read c a) (value_is_read c b) d e stop stop'
+
+pub arguments_one_way : (c : Constness) → IsReadOneWay (argument_form c) []
+arguments_one_way c a b tokens r s d e stop stop' = one_reading (argument_is_read c a) (argument_is_read c b) d e stop stop'
+
+pub directives_one_way : (c : Constness) → IsReadOneWay (directive_form c) (a_mark lparen ∷ [])
+directives_one_way c a b tokens r s d e stop stop' = one_reading (directive_is_read c a) (directive_is_read c b) d e stop stop'
+
+pub directive_lists_one_way : (c : Constness) → IsReadOneWay (directives_form c) (a_mark at ∷ a_mark lparen ∷ [])
+directive_lists_one_way c a b tokens r s d e stop stop' = one_reading (directives_are_read c a) (directives_are_read c b) d e stop stop'
+
+pub types_one_way : IsReadOneWay type_form (a_mark bang ∷ [])
+types_one_way a b tokens r s d e stop stop' = one_reading (type_is_read a) (type_is_read b) d e stop stop'

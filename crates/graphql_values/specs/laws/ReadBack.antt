@@ -1,0 +1,128 @@
+-- Lemmas, no definitions: the printed tokens of a tree that obeys the side conditions derive it, and a tree that is derived obeys them.
+use Rattle.std.proofs.Common.{◌≡◌, refl, List, [], ◌∷◌, Bool, true, false, not, ◌&&◌, IsTrue}
+use Rattle.std.specs.List.{list_all}
+use Rattle.graphql_text.specs.Tokens.{lparen, rparen, Token}
+use Rattle.graphql_text.specs.Forms.{token, no_tokens, ◌⨟◌, name_except, only_if}
+use Rattle.graphql_text.specs.PrintedTokens.{Every}
+use Rattle.graphql_text.proofs.Written.{each_written, group_written, each_obeys, group_obeys}
+use Rattle.graphql_values.specs.Values.{Constness, ValueTree, ValueTrees, ObjectFieldTrees, null_value, enum_value, variable, string_value, float_value, int_value, boolean_value, list_value, object_value, no_values, more_values, no_fields, more_fields, value_form, values_form, object_fields_form, value_tokens, values_tokens, object_fields_tokens, value_obeys, values_obey, object_fields_obey}
+use Rattle.graphql_values.specs.TypeReferences.{TypeTree, named_type, non_null_named_type, list_type, non_null_list_type, type_form, type_tokens}
+use Rattle.graphql_values.specs.Arguments.{ArgumentTree, argument_form, arguments_form, argument_tokens, arguments_tokens, argument_obeys, arguments_obey}
+use Rattle.graphql_values.specs.Directives.{DirectiveTree, directive_form, directives_form, directive_tokens, directives_tokens, directive_obeys, directives_obey}
+
+-- BOTH CONDITIONS, AND THOSE OF EACH PART
+
+first_holds : (a b : Bool) → IsTrue (a && b) → IsTrue a
+first_holds true b holds = refl
+first_holds false b holds = holds
+
+second_holds : (a b : Bool) → IsTrue (a && b) → IsTrue b
+second_holds true b holds = holds
+second_holds false b holds = cc
+
+both_hold : (a b : Bool) → IsTrue a → IsTrue b → IsTrue (a && b)
+both_hold true b first second = second
+both_hold false b first second = first
+
+not_holds : (a : Bool) → IsTrue (not a) → a ≡ false
+not_holds true holds = cc
+not_holds false holds = refl
+
+holds_not : (a : Bool) → a ≡ false → IsTrue (not a)
+holds_not true fails = cc
+holds_not false fails = refl
+
+pub every_of : {A : Type 0} (obeys : A → Bool) (more : List A) → IsTrue (list_all obeys more) → Every (λ a. IsTrue (obeys a)) more
+every_of obeys [] holds = tt
+every_of obeys (a ∷ more) holds = (first_holds (obeys a) (list_all obeys more) holds, every_of obeys more (second_holds (obeys a) (list_all obeys more) holds))
+
+pub all_of : {A : Type 0} (obeys : A → Bool) (more : List A) → Every (λ a. IsTrue (obeys a)) more → IsTrue (list_all obeys more)
+all_of obeys [] every = refl
+all_of obeys (a ∷ more) every = both_hold (obeys a) (list_all obeys more) every.0 (all_of obeys more every.1)
+
+-- WHAT IS PRINTED DERIVES THE TREE
+
+mutual
+  unfolding value_form value_tokens token name_except only_if ◌⨟◌ no_tokens
+
+  pub value_written : (c : Constness) (v : ValueTree) → IsTrue (value_obeys c v) → (r : List Token) → value_form c v (value_tokens v r) r
+  value_written c null_value o r = refl
+  value_written c (enum_value s) o r = (not_holds _ o, refl)
+  value_written c (variable s) o r = (o, (_, refl, (refl, refl)))
+  value_written c (string_value s) o r = refl
+  value_written c (float_value s) o r = refl
+  value_written c (int_value s) o r = refl
+  value_written c (boolean_value true) o r = refl
+  value_written c (boolean_value false) o r = refl
+  value_written c (list_value vs) o r = (_, refl, (_, values_written c vs o _, refl))
+  value_written c (object_value fs) o r = (_, refl, (_, object_fields_written c fs o _, refl))
+
+  values_written : (c : Constness) (vs : ValueTrees) → IsTrue (values_obey c vs) → (r : List Token) → values_form c vs (values_tokens vs r) r
+  values_written c no_values o r = refl
+  values_written c (more_values v vs) o r =
+      (_, value_written c v (first_holds (value_obeys c v) (values_obey c vs) o) _, values_written c vs (second_holds (value_obeys c v) (values_obey c vs) o) r)
+
+  object_fields_written : (c : Constness) (fs : ObjectFieldTrees) → IsTrue (object_fields_obey c fs) → (r : List Token) → object_fields_form c fs (object_fields_tokens fs r) r
+  object_fields_written c no_fields o r = refl
+  object_fields_written c (more_fields s v fs) o r =
+      (_, (_, (refl, refl), (_, refl, value_written c v (first_holds (value_obeys c v) (object_fields_obey c fs) o) _)), object_fields_written c fs (second_holds (value_obeys c v) (object_fields_obey c fs) o) r)
+
+pub argument_written : (c : Constness) (a : ArgumentTree) → IsTrue (argument_obeys c a) → (r : List Token) → argument_form c a (argument_tokens a r) r
+unfolding token name_except ◌⨟◌
+argument_written c a o r = (_, (refl, refl), (_, refl, value_written c a.value o r))
+
+pub arguments_written : (c : Constness) (more : List ArgumentTree) → IsTrue (arguments_obey c more) → (r : List Token) → arguments_form c more (arguments_tokens more r) r
+arguments_written c more o = group_written (λ a. IsTrue (argument_obeys c a)) lparen rparen (argument_form c) argument_tokens (argument_written c) more (every_of (argument_obeys c) more o)
+
+pub directive_written : (c : Constness) (d : DirectiveTree) → IsTrue (directive_obeys c d) → (r : List Token) → directive_form c d (directive_tokens d r) r
+unfolding directive_form directive_tokens token name_except ◌⨟◌
+directive_written c d o r = (_, refl, (_, (refl, refl), arguments_written c d.arguments o r))
+
+pub directives_written : (c : Constness) (ds : List DirectiveTree) → IsTrue (directives_obey c ds) → (r : List Token) → directives_form c ds (directives_tokens ds r) r
+directives_written c ds o = each_written (λ d. IsTrue (directive_obeys c d)) (directive_form c) directive_tokens (directive_written c) ds (every_of (directive_obeys c) ds o)
+
+pub type_written : (t : TypeTree) (r : List Token) → type_form t (type_tokens t r) r
+unfolding type_form type_tokens token name_except ◌⨟◌
+type_written (named_type s) r = (refl, refl)
+type_written (non_null_named_type s) r = (_, (refl, refl), refl)
+type_written (list_type t) r = (_, refl, (_, type_written t _, refl))
+type_written (non_null_list_type t) r = (_, refl, (_, type_written t _, (_, refl, refl)))
+
+-- WHAT IS DERIVED OBEYS THE SIDE CONDITIONS
+
+mutual
+  unfolding value_form name_except only_if ◌⨟◌
+
+  pub value_obeyed : (c : Constness) (v : ValueTree) (ts r : List Token) → value_form c v ts r → IsTrue (value_obeys c v)
+  value_obeyed c null_value ts r d = refl
+  value_obeyed c (enum_value s) ts r d = holds_not _ d.0
+  value_obeyed c (variable s) ts r d = d.0
+  value_obeyed c (string_value s) ts r d = refl
+  value_obeyed c (float_value s) ts r d = refl
+  value_obeyed c (int_value s) ts r d = refl
+  value_obeyed c (boolean_value b) ts r d = refl
+  value_obeyed c (list_value vs) ts r d = values_obeyed c vs _ _ d.2.1
+  value_obeyed c (object_value fs) ts r d = object_fields_obeyed c fs _ _ d.2.1
+
+  values_obeyed : (c : Constness) (vs : ValueTrees) (ts r : List Token) → values_form c vs ts r → IsTrue (values_obey c vs)
+  values_obeyed c no_values ts r d = refl
+  values_obeyed c (more_values v vs) ts r d = both_hold (value_obeys c v) (values_obey c vs) (value_obeyed c v _ _ d.1) (values_obeyed c vs _ _ d.2)
+
+  object_fields_obeyed : (c : Constness) (fs : ObjectFieldTrees) (ts r : List Token) → object_fields_form c fs ts r → IsTrue (object_fields_obey c fs)
+  object_fields_obeyed c no_fields ts r d = refl
+  object_fields_obeyed c (more_fields s v fs) ts r d =
+      both_hold (value_obeys c v) (object_fields_obey c fs) (value_obeyed c v _ _ d.1.2.2) (object_fields_obeyed c fs _ _ d.2)
+
+pub argument_obeyed : (c : Constness) (a : ArgumentTree) (ts r : List Token) → argument_form c a ts r → IsTrue (argument_obeys c a)
+unfolding ◌⨟◌
+argument_obeyed c a ts r d = value_obeyed c a.value _ _ d.2.2
+
+pub arguments_obeyed : (c : Constness) (more : List ArgumentTree) (ts r : List Token) → arguments_form c more ts r → IsTrue (arguments_obey c more)
+arguments_obeyed c more ts r d = all_of (argument_obeys c) more (group_obeys (λ a. IsTrue (argument_obeys c a)) lparen rparen (argument_form c) (argument_obeyed c) more ts r d)
+
+pub directive_obeyed : (c : Constness) (d : DirectiveTree) (ts r : List Token) → directive_form c d ts r → IsTrue (directive_obeys c d)
+unfolding directive_form ◌⨟◌
+directive_obeyed c d ts r x = arguments_obeyed c d.arguments _ _ x.2.2
+
+pub directives_obeyed : (c : Constness) (ds : List DirectiveTree) (ts r : List Token) → directives_form c ds ts r → IsTrue (directives_obey c ds)
+directives_obeyed c ds ts r x = all_of (directive_obeys c) ds (each_obeys (λ d. IsTrue (directive_obeys c d)) (directive_form c) (directive_obeyed c) ds ts r x)

@@ -1,0 +1,146 @@
+-- Lemmas, no definitions of the product: a reader of values over tokens, and that it finds each value.
+use Rattle.std.proofs.Common.{ℕ, zero, suc, ◌≤◌, refl, List, [], ◌∷◌, true, false, Option, None, arith, le_refl, codes}
+use Rattle.graphql_text.specs.Literals.{NameText, IntText, FloatText, StringText}
+use Rattle.graphql_text.specs.Tokens.{dollar, colon, lbracket, rbracket, lbrace, rbrace, Token, Punctuation, IntValue, FloatValue, StringValue}
+use Rattle.graphql_text.specs.Forms.{token, ◌⨟◌, name_except, only_if, TokenClass, a_mark, a_word, a_name, an_int, a_float, a_text}
+use Rattle.graphql_text.proofs.Such.{such, such_found}
+use Rattle.graphql_text.proofs.Parsing.{Parser, ◌>>=◌, pure, fail, leaf, alt, Reads, seq, seq_in, last, leaf_reads, alt_0, alt_1, wider, lower, many, many_none, many_more, at_zero, accept, mark_reads, word_reads, parse_name, name_reads, bounded, bounded_reads}
+use Rattle.graphql_values.specs.Values.{Constness, Const, NonConst, ValueTree, ValueTrees, ObjectFieldTrees, null_value, enum_value, variable, string_value, float_value, int_value, boolean_value, list_value, object_value, no_values, more_values, no_fields, more_fields, not_enum_values, value_form, values_form, object_fields_form}
+
+abbrev pub value_heads : List TokenClass
+value_heads = a_mark dollar ∷ an_int ∷ a_float ∷ a_text ∷ a_name [] ∷ a_mark lbracket ∷ a_mark lbrace ∷ []
+
+abbrev pub object_field_heads : List TokenClass
+object_field_heads = a_name [] ∷ []
+
+unfoldable pub got_int : Token → Option IntText
+got_int (IntValue s) = such s
+got_int _ = None
+
+unfoldable pub got_float : Token → Option FloatText
+got_float (FloatValue s) = such s
+got_float _ = None
+
+unfoldable pub got_text : Token → Option StringText
+got_text (StringValue s) = such s
+got_text _ = None
+
+-- refused at a constant place
+unfoldable pub unless_const : {A : Type 0} → Constness → Parser A → Parser A
+unless_const Const p = fail
+unless_const NonConst p = p
+
+unfoldable pub variable_reader : Constness → Parser ValueTree
+variable_reader c = unless_const c (accept (a_mark dollar) >>= λ t. parse_name [] >>= λ s. pure (variable s))
+
+unfoldable pub object_field_reader : Parser ValueTree → Parser (NameText × ValueTree)
+object_field_reader p = parse_name [] >>= λ s. accept (a_mark colon) >>= λ t. p >>= λ v. pure (s, v)
+
+unfoldable pub with_field : NameText × ValueTree → ObjectFieldTrees → ObjectFieldTrees
+with_field e es = more_fields e.0 e.1 es
+
+-- one value, with parsers for what stands between its brackets
+unfoldable pub value_step : Constness → Parser ValueTrees → Parser ObjectFieldTrees → Parser ValueTree
+value_step c pv pe =
+    alt (a_mark dollar ∷ []) (variable_reader c)
+    (alt (an_int ∷ []) (leaf got_int >>= λ s. pure (int_value s))
+    (alt (a_float ∷ []) (leaf got_float >>= λ s. pure (float_value s))
+    (alt (a_text ∷ []) (leaf got_text >>= λ s. pure (string_value s))
+    (alt (a_word (codes "null") ∷ []) (accept (a_word (codes "null")) >>= λ t. pure null_value)
+    (alt (a_word (codes "true") ∷ []) (accept (a_word (codes "true")) >>= λ t. pure (boolean_value true))
+    (alt (a_word (codes "false") ∷ []) (accept (a_word (codes "false")) >>= λ t. pure (boolean_value false))
+    (alt (a_name not_enum_values ∷ []) (parse_name not_enum_values >>= λ s. pure (enum_value s))
+    (alt (a_mark lbracket ∷ []) (accept (a_mark lbracket) >>= λ t. pv >>= λ vs. accept (a_mark rbracket) >>= λ u. pure (list_value vs))
+    (alt (a_mark lbrace ∷ []) (accept (a_mark lbrace) >>= λ t. pe >>= λ es. accept (a_mark rbrace) >>= λ u. pure (object_value es))
+    fail)))))))))
+
+unfoldable pub values_reader : ℕ → Parser ValueTree → Parser ValueTrees
+values_reader k p = many no_values more_values value_heads k p
+
+unfoldable pub object_fields_reader : ℕ → Parser ValueTree → Parser ObjectFieldTrees
+object_fields_reader k p = many no_fields with_field object_field_heads k (object_field_reader p)
+
+-- the parsers of what stands between the brackets of a value of at most that many tokens
+abbrev pub part_readers : ℕ → Constness → Parser ValueTrees × Parser ObjectFieldTrees
+part_readers zero c = (fail, fail)
+part_readers (suc k) c = let p = value_step c (part_readers k c).0 (part_readers k c).1 in (values_reader k p, object_fields_reader k p)
+
+abbrev pub value_reader_of : ℕ → Constness → Parser ValueTree
+value_reader_of k c = value_step c (part_readers k c).0 (part_readers k c).1
+
+int_reads : {k : ℕ} (s : IntText) → Reads k (leaf got_int) s (token (IntValue s.text)) [] (an_int ∷ []) false
+unfolding got_int
+int_reads s = leaf_reads _ (IntValue s.text) an_int (such_found s) refl
+
+float_reads : {k : ℕ} (s : FloatText) → Reads k (leaf got_float) s (token (FloatValue s.text)) [] (a_float ∷ []) false
+unfolding got_float
+float_reads s = leaf_reads _ (FloatValue s.text) a_float (such_found s) refl
+
+pub text_reads : {k : ℕ} (s : StringText) → Reads k (leaf got_text) s (token (StringValue s.text)) [] (a_text ∷ []) false
+unfolding got_text
+text_reads s = leaf_reads _ (StringValue s.text) a_text (such_found s) refl
+
+variable_reads : {k : ℕ} (c : Constness) (s : NameText) → Reads k (variable_reader c) (variable s) (value_form c (variable s)) [] (a_mark dollar ∷ []) false
+unfolding variable_reader value_form only_if unless_const
+variable_reads NonConst s =
+    let x = seq _ (mark_reads dollar) (last (λ s. variable s) (name_reads [] s)) refl in
+    record { finds = λ ts r d le stop. x.finds ts r d.1 le stop; opens = λ ts r d. x.opens ts r d.1 }
+variable_reads Const s = record {
+  finds = λ ts r d le stop. cc (d.0);
+  opens = λ ts r d. cc (d.0);
+}
+
+object_field_reads : {k : ℕ} {p : Parser ValueTree} (c : Constness) {v : ValueTree} (s : NameText) → Reads k p v (value_form c v) [] value_heads false →
+    Reads k (object_field_reader p) (s, v) (name_except [] s ⨟ token (Punctuation colon) ⨟ value_form c v) [] object_field_heads false
+unfolding object_field_reader
+object_field_reads c s x = seq _ (name_reads [] s) (seq _ (mark_reads colon) (last _ x) refl) refl
+
+-- each value is found on as many tokens as there are, whatever follows it
+mutual
+  unfolding value_step value_form values_reader object_fields_reader object_field_reader with_field
+
+  pub value_reads : (k : ℕ) (c : Constness) (v : ValueTree) → Reads k (value_reader_of k c) v (value_form c v) [] value_heads false
+  value_reads k c (variable s) = wider (alt_0 _ _ (variable_reads c s) refl) refl refl (λ z. z)
+  value_reads k c (int_value s) = wider (alt_1 _ _ (alt_0 _ _ (last _ (int_reads s)) refl) refl) refl refl (λ z. z)
+  value_reads k c (float_value s) = wider (alt_1 _ _ (alt_1 _ _ (alt_0 _ _ (last _ (float_reads s)) refl) refl) refl) refl refl (λ z. z)
+  value_reads k c (string_value s) = wider (alt_1 _ _ (alt_1 _ _ (alt_1 _ _ (alt_0 _ _ (last _ (text_reads s)) refl) refl) refl) refl) refl refl (λ z. z)
+  value_reads k c null_value =
+      wider (alt_1 _ _ (alt_1 _ _ (alt_1 _ _ (alt_1 _ _ (alt_0 _ _ (last _ (word_reads (codes "null"))) refl) refl) refl) refl) refl) refl refl (λ z. z)
+  value_reads k c (boolean_value true) =
+      wider (alt_1 _ _ (alt_1 _ _ (alt_1 _ _ (alt_1 _ _ (alt_1 _ _ (alt_0 _ _ (last _ (word_reads (codes "true"))) refl) refl) refl) refl) refl) refl) refl refl (λ z. z)
+  value_reads k c (boolean_value false) =
+      wider (alt_1 _ _ (alt_1 _ _ (alt_1 _ _ (alt_1 _ _ (alt_1 _ _ (alt_1 _ _ (alt_0 _ _ (last _ (word_reads (codes "false"))) refl) refl) refl) refl) refl) refl) refl) refl refl (λ z. z)
+  value_reads k c (enum_value s) =
+      wider (alt_1 _ _ (alt_1 _ _ (alt_1 _ _ (alt_1 _ _ (alt_1 _ _ (alt_1 _ _ (alt_1 _ _ (alt_0 _ _ (last _ (name_reads not_enum_values s)) refl) refl) refl) refl) refl) refl) refl) refl) refl refl (λ z. z)
+  value_reads zero c (list_value vs) =
+      wider (at_zero (mark_reads lbracket) (seq (λ vs. accept (a_mark rbracket) >>= λ t. pure (list_value vs)) (values_read 0 0 (le_refl 0) c vs) (last _ (mark_reads rbracket)) refl)) refl refl (λ z. z)
+  value_reads zero c (object_value es) =
+      wider (at_zero (mark_reads lbrace) (seq (λ es. accept (a_mark rbrace) >>= λ t. pure (object_value es)) (object_fields_read 0 0 (le_refl 0) c es) (last _ (mark_reads rbrace)) refl)) refl refl (λ z. z)
+  value_reads (suc k) c (list_value vs) =
+      wider (alt_1 _ _ (alt_1 _ _ (alt_1 _ _ (alt_1 _ _ (alt_1 _ _ (alt_1 _ _ (alt_1 _ _ (alt_1 _ _ (alt_0 _ _
+      (seq_in _ (mark_reads lbracket) (seq _ (values_read k k (le_refl k) c vs) (last _ (mark_reads rbracket)) refl) refl)
+      refl) refl) refl) refl) refl) refl) refl) refl) refl) refl refl (λ z. z)
+  value_reads (suc k) c (object_value es) =
+      wider (alt_1 _ _ (alt_1 _ _ (alt_1 _ _ (alt_1 _ _ (alt_1 _ _ (alt_1 _ _ (alt_1 _ _ (alt_1 _ _ (alt_1 _ _ (alt_0 _ _
+      (seq_in _ (mark_reads lbrace) (seq _ (object_fields_read k k (le_refl k) c es) (last _ (mark_reads rbrace)) refl) refl)
+      refl) refl) refl) refl) refl) refl) refl) refl) refl) refl) refl refl (λ z. z)
+
+  values_read : (k j : ℕ) → j ≤ k → (c : Constness) (vs : ValueTrees) → Reads j (values_reader j (value_reader_of k c)) vs (values_form c vs) value_heads value_heads true
+  values_read k j le c no_values = wider (many_none _ _ value_heads j _) refl refl (λ z. z)
+  values_read k zero le c (more_values v vs) = wider (at_zero (lower le (value_reads k c v)) (values_read k zero le c vs)) refl refl (λ z. refl)
+  values_read k (suc j) le c (more_values v vs) =
+      wider (many_more _ _ value_heads _ (lower le (value_reads k c v)) (values_read k j (omega (arith, le)) c vs) refl refl) refl refl (λ z. refl)
+
+  object_fields_read : (k j : ℕ) → j ≤ k → (c : Constness) (es : ObjectFieldTrees) → Reads j (object_fields_reader j (value_reader_of k c)) es (object_fields_form c es) object_field_heads object_field_heads true
+  object_fields_read k j le c no_fields = wider (many_none _ _ object_field_heads j _) refl refl (λ z. z)
+  object_fields_read k zero le c (more_fields s v es) =
+      wider (at_zero (object_field_reads c s (lower le (value_reads k c v))) (object_fields_read k zero le c es)) refl refl (λ z. refl)
+  object_fields_read k (suc j) le c (more_fields s v es) =
+      wider (many_more _ _ object_field_heads _ (object_field_reads c s (lower le (value_reads k c v))) (object_fields_read k j (omega (arith, le)) c es) refl refl) refl refl (λ z. refl)
+
+unfoldable pub value_reader : Constness → Parser ValueTree
+value_reader c = bounded (λ k. value_reader_of k c)
+
+pub value_is_read : {k : ℕ} (c : Constness) (v : ValueTree) → Reads k (value_reader c) v (value_form c v) [] value_heads false
+unfolding value_reader
+value_is_read c v = bounded_reads _ (λ j le. value_reads j c v)

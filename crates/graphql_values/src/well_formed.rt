@@ -1,0 +1,71 @@
+//! Which values may be printed and read back.
+ghost use Rattle.std.specs.Prelude.{◌≡◌};
+ghost use Rattle.graphql_values.specs.ValueTrees.{constness_of, object_field_trees, value_tree, value_trees};
+ghost use Rattle.graphql_values.specs.Values.{admits_variables, is_enum_name, object_fields_obey, value_obeys, values_obey};
+
+use crate::value::Value;
+use graphql_base::name::Name;
+use graphql_base::node::Node;
+
+/// Whether a place is constant (`Value[Const]`), which admits no variable at any depth.
+#[derive(Clone, Copy, Debug, PartialEq, Eq)]
+pub enum Constness {
+    Const,
+    NonConst,
+}
+
+impl Constness {
+    fn admits_variables(self) -> bool
+        ensures { result ≡ admits_variables (constness_of self) }
+    {
+        match self {
+            Constness::Const => false,
+            Constness::NonConst => true,
+        }
+    }
+}
+
+fn is_enum_name(name: &str) -> bool
+    ensures { result ≡ is_enum_name name.now }
+{
+    name != "true" && name != "false" && name != "null"
+}
+
+/// Whether no enum value in the value is `true`, `false` or `null`, and no variable stands in it where the place is constant.
+#[cycle(value_is_well_formed)]
+pub fn is_well_formed_at(value: &Value, constness: Constness) -> bool
+    ensures { result ≡ value_obeys (constness_of constness) (value_tree value.now) }
+{
+    match value {
+        Value::Enum(name) => is_enum_name(name.as_str()),
+        Value::Variable(_) => constness.admits_variables(),
+        Value::List(items) => are_well_formed_at(items, constness),
+        Value::Object(fields) => are_fields_well_formed_at(fields, constness),
+        Value::Null | Value::String(_) | Value::Float(_) | Value::Int(_) | Value::Boolean(_) =>
+            true,
+    }
+}
+
+#[cycle(value_is_well_formed)]
+fn are_well_formed_at(items: &[Node<Value>], constness: Constness) -> bool
+    ensures { result ≡ values_obey (constness_of constness) (value_trees items.now) }
+{
+    for item in items {
+        if !is_well_formed_at(item, constness) {
+            return false;
+        }
+    }
+    true
+}
+
+#[cycle(value_is_well_formed)]
+fn are_fields_well_formed_at(fields: &[(Name, Node<Value>)], constness: Constness) -> bool
+    ensures { result ≡ object_fields_obey (constness_of constness) (object_field_trees fields.now) }
+{
+    for field in fields {
+        if !is_well_formed_at(&field.1, constness) {
+            return false;
+        }
+    }
+    true
+}

@@ -1,6 +1,6 @@
 //! Laws of the definitions in `specs/`. The functions have empty bodies: each stands for what its contract says.
 
-ghost use Rattle.std.specs.Prelude.{◌≡◌, ℕ, Bool, true, false, List, [], ◌∷◌, ◌++◌, Option, codes, encode_utf8_all};
+ghost use Rattle.std.specs.Prelude.{◌≡◌, ℕ, Bool, true, false, List, [], ◌∷◌, ◌++◌, Option, MatchOption, codes, encode_utf8_all};
 ghost use Rattle.std.specs.List.{list_all};
 ghost use Rattle.graphql_base.specs.Names.{begins_in, is_name, is_name_continue};
 ghost use Rattle.graphql_text.specs.BlockForm.{block_text, can_be_block};
@@ -9,10 +9,14 @@ ghost use Rattle.graphql_text.specs.Characters.{IsSourceText, is_ignored, follow
 ghost use Rattle.graphql_text.specs.Layout.{IsBlankMode, Item, StringRole, layout, string_text};
 ghost use Rattle.graphql_text.specs.Lines.{LinesAreIndented};
 ghost use Rattle.graphql_text.specs.Literals.{is_float, is_int};
+ghost use Rattle.graphql_text.specs.Printing.{ReadsAlone, print_mode, print_tree};
 ghost use Rattle.graphql_text.specs.QuotedForm.{quoted_form};
 ghost use Rattle.graphql_text.specs.Spelling.{AreApart, tokens_of_items};
 ghost use Rattle.graphql_text.specs.Strings.{IsBlock, IsQuoted};
 ghost use Rattle.graphql_text.specs.Tokens.{FloatValue, IntValue, Lexes, LexesBefore, Name, Punctuation, Punctuator, StringValue, Token, lbracket, punctuator_text, rbracket};
+
+use crate::engine::{Serialize, Syntax};
+use std::fmt::Display;
 
 /// A text has one list of tokens at most, whoever wrote it. So have bytes: two texts with the same UTF-8 form have the
 /// same tokens.
@@ -124,4 +128,12 @@ pub fn outdented_texts()
     ensures first { LinesAreIndented (codes "  ") 1 (codes "{ a }") → ⊥ }
     ensures block { LinesAreIndented (codes "  ") 0 (codes "[\n  \"\"\"\n)\n  \"\"\",\n]") → ⊥ }
     ensures block_end { LinesAreIndented (codes "  ") 0 (codes "[\n  \"\"\"\n  a\n \"\"\",\n]") → ⊥ }
+{}
+
+/// What is displayed of a well-formed tree, on one line or under a prefix of spaces and tabs, is read as that tree, and as
+/// no other.
+pub fn displayed_trees_are_read<'a, T: Syntax>(_printed: &Serialize<'a, T>)
+    ensures { T.obeys (T.tree (print_tree _printed.now)) → IsBlankMode (print_mode _printed.now) →
+        MatchOption (⟦<Serialize<'a, T> as Display>⟧.output _printed.now) ⊥
+            (λ bytes. ReadsAlone T.derives bytes (T.tree (print_tree _printed.now))) }
 {}

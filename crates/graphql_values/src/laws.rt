@@ -1,8 +1,9 @@
 //! What holds of values, types, arguments and directives as they are printed and read.
 //!
 //! Each function does nothing: its contract is the law.
-ghost use Rattle.std.specs.Prelude.{◌≡◌, ◌↔◌, IsTrue, List, [], ◌∷◌, codes, true, refl};
+ghost use Rattle.std.specs.Prelude.{◌≡◌, ◌↔◌, IsTrue, MatchOption, List, [], ◌∷◌, codes, true, refl};
 ghost use Rattle.graphql_text.specs.Forms.{a_mark};
+ghost use Rattle.graphql_text.specs.Printing.{ReadsAlone};
 ghost use Rattle.graphql_text.specs.Reading.{Laws, ReadsAs};
 ghost use Rattle.graphql_text.specs.Tokens.{at, bang, lparen};
 ghost use Rattle.graphql_values.specs.Lookahead.{IsReadOneWay};
@@ -13,12 +14,21 @@ ghost use Rattle.graphql_values.specs.Values.{Const, Constness, NonConst, ValueT
 ghost use Rattle.graphql_values.specs.ValueTrees.{IsCloneOf, value_tree};
 
 use crate::value::Value;
+use std::fmt::Display;
 use std::hash::Hash;
 
 /// A value that obeys the side conditions, printed under a prefix of spaces and tabs or on one line, is read as that value and as no other.
 pub fn values_are_read_back()
     ensures laws { Laws {Tree = ValueTree} (λ broken front. value_shape broken) value_nesting (λ value. IsTrue (value_obeys NonConst value)) (value_form NonConst) }
 {}
+
+/// What is displayed of a value that obeys the side conditions is read as that value and as no other.
+pub fn displayed_values_are_read(value: &Value)
+    ensures { IsTrue (value_obeys NonConst (value_tree value.now)) →
+        MatchOption (⟦<Value as Display>⟧.output value.now) ⊥ (λ bytes. ReadsAlone (value_form NonConst) bytes (value_tree value.now)) }
+{
+    let _value = value;
+}
 
 /// The text of a type is read as that type and as no other.
 pub fn types_are_read_back()

@@ -102,3 +102,6 @@ impl fmt::Display for Value {
         self.serialize().fmt(f)
     }
 }
+
+#[cfg(test)]
+mod tests;

@@ -1,0 +1,48 @@
+use crate::value::Value;
+use graphql_base::name;
+use graphql_base::node::Node;
+use graphql_text::sink::{TextSink, VecSink};
+use std::alloc::{AllocError, Global};
+use std::test::Fail;
+
+/// The list of an enum value and an empty list.
+fn list(alloc: Global) -> Result<Value, AllocError> {
+    let mut items = Vec::new(alloc);
+    items.push(Node::new(alloc, Value::Enum(name!(EXAMPLE)))?)?;
+    items.push(Node::new(alloc, Value::List(Vec::new(alloc)))?)?;
+    Ok(Value::List(items))
+}
+
+#[test]
+fn prints_over_several_lines(rt: HostRuntime) -> Result<(), Fail> {
+    let value = list(rt.alloc())?;
+    let text = value.serialize().to_text(rt.alloc())?;
+    assert_eq!(rt; text.as_str(), "[\n  EXAMPLE,\n  [],\n]");
+    Ok(())
+}
+
+#[test]
+fn prints_on_one_line(rt: HostRuntime) -> Result<(), Fail> {
+    let value = list(rt.alloc())?;
+    let text = value.serialize().no_indent().to_text(rt.alloc())?;
+    assert_eq!(rt; text.as_str(), "[EXAMPLE, []]");
+    Ok(())
+}
+
+#[test]
+fn prints_into_a_sink(rt: HostRuntime) -> Result<(), Fail> {
+    let value = list(rt.alloc())?;
+    let mut sink = VecSink::new(rt.alloc());
+    value.serialize().no_indent().print_to(&mut sink)?;
+    assert!(rt; sink.bytes() == "[EXAMPLE, []]".as_bytes());
+    assert_eq!(rt; sink.faults(), 0);
+    Ok(())
+}
+
+#[test]
+fn width_and_precision_do_not_reach_the_tree(rt: HostRuntime) -> Result<(), Fail> {
+    let value = Value::from_i32(rt.alloc(), 47)?;
+    let text = format!(in rt.alloc(); "{value:>9.1}")?;
+    assert_eq!(rt; text.as_str(), "47");
+    Ok(())
+}

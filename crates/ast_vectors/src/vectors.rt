@@ -98,7 +98,12 @@ fn push_small_fields(
     alloc: Global,
 ) -> Result<(), AllocError> {
     push_field(fields, alloc, name!(null_field), Value::Null)?;
-    push_field(fields, alloc, name!(enum_field), Value::Enum(name!(EXAMPLE)))?;
+    push_field(
+        fields,
+        alloc,
+        name!(enum_field),
+        Value::Enum(name!(EXAMPLE)),
+    )?;
     push_field(fields, alloc, name!(var_field), Value::Variable(name!(var)))
 }
 
@@ -108,7 +113,12 @@ fn push_text_fields(
     alloc: Global,
 ) -> Result<(), AllocError> {
     let float = FloatValue::new_parsed(alloc, "1.5")?;
-    push_field(fields, alloc, name!(string_field), string(alloc, "example")?)?;
+    push_field(
+        fields,
+        alloc,
+        name!(string_field),
+        string(alloc, "example")?,
+    )?;
     push_field(fields, alloc, name!(float_field), Value::Float(float))?;
     push_field(fields, alloc, name!(int_field), int(alloc, 47)?)
 }
@@ -233,3 +243,6 @@ pub fn run_vectors<W: Write, E: Write>(
         }
     }
 }
+
+#[cfg(test)]
+mod tests;

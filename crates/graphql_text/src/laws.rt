@@ -135,5 +135,5 @@ pub fn outdented_texts()
 pub fn displayed_trees_are_read<'a, T: Syntax>(_printed: &Serialize<'a, T>)
     ensures { T.obeys (T.tree (print_tree _printed.now)) → IsBlankMode (print_mode _printed.now) →
         MatchOption (⟦<Serialize<'a, T> as Display>⟧.output _printed.now) ⊥
-            (λ bytes. ReadsAlone T.derives bytes (T.tree (print_tree _printed.now))) }
+        (λ bytes. ReadsAlone T.derives bytes (T.tree (print_tree _printed.now))) }
 {}

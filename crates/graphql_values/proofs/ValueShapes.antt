@@ -133,6 +133,7 @@ module _ (broken : Bool) where
 -- what is written of a value raises the level as often as it lowers it
 mutual
   unfolding raises lowers each_after
+
   pub value_balanced : (broken : Bool) (value : ValueTree) → raises (value_shape broken value) ≡ lowers (value_shape broken value)
   value_balanced broken null_value = refl
   value_balanced broken (enum_value name) = refl

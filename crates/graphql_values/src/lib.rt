@@ -7,5 +7,6 @@ mod number_syntax;
 mod owned_text;
 pub mod value;
 mod value_syntax;
-pub mod value_writer;
+mod value_writer;
 pub mod well_formed;
+pub mod writers;

@@ -9,8 +9,8 @@ ghost use Rattle.graphql_values.specs.ValueTrees.{value_tree};
 ghost use Rattle.graphql_values.specs.laws.KindLaws.{value_laws};
 
 use crate::value::Value;
-use crate::well_formed::{Constness, is_well_formed_at};
 use crate::value_writer::{ValuePart, find_value_nesting, write_value};
+use crate::well_formed::{Constness, is_well_formed_at};
 use graphql_text::engine::{Serialize, Syntax};
 use graphql_text::place::Place;
 use graphql_text::stack::Stack;

@@ -31,7 +31,7 @@ pub enum ValuePart<'a> {
 /// What is written next: an item of a list, or a field of an object, with whether it is the first one there, up to what is in
 /// it; or the end of a list or an object.
 #[derive(Clone, Copy)]
-pub enum Step<'a> {
+pub(crate) enum Step<'a> {
     Item(bool, &'a Value),
     Field(bool, &'a Name, &'a Value),
     EndOfList,
@@ -41,7 +41,7 @@ pub enum Step<'a> {
 /// How many lists and objects that aren't empty stand in one another. `None` if that does not fit.
 #[cycle(nesting)]
 #[tactic(auto, using(crate::proofs::ValueShapes::value_nesting_list, crate::proofs::ValueShapes::value_nesting_object))]
-pub(crate) fn find_value_nesting(value: &Value) -> Option<usize>
+pub fn find_value_nesting(value: &Value) -> Option<usize>
     ensures { MatchOption result (2 ^ 64 ≤ value_nesting (value_tree value.now)) (λ n. n ≡ value_nesting (value_tree value.now)) }
 {
     match value {

@@ -1,0 +1,227 @@
+//! Worked runs of the program, with writers in memory.
+ghost use Rattle.std.specs.Prelude.{◌<◌, length};
+
+use super::{VectorError, report, run_vectors};
+use graphql_text::engine::PrintError;
+use graphql_text::sink::SinkFault;
+use std::alloc::{AllocError, Global};
+use std::io;
+use std::io::{ErrorKind, Write};
+use std::process::Abort;
+use std::test::Fail;
+
+/// How a writer refuses a call.
+#[derive(Clone, Copy, Debug)]
+enum Refusal {
+    Fails,
+    IsInterrupted,
+    TakesNothing,
+}
+
+const REFUSALS: [Refusal; 3] = [
+    Refusal::Fails,
+    Refusal::IsInterrupted,
+    Refusal::TakesNothing,
+];
+
+/// A writer in memory that takes one byte a call. Once it has taken a number of them it refuses one call, and takes more after it.
+#[derive(Drop)]
+struct Memory {
+    taken: Vec<u8>,
+    refuses_at: Option<usize>,
+    refusal: Refusal,
+}
+
+impl Memory {
+    fn new(alloc: Global) -> Memory {
+        Memory {
+            taken: Vec::new(alloc),
+            refuses_at: None,
+            refusal: Refusal::Fails,
+        }
+    }
+
+    fn refusing_at(alloc: Global, place: usize, refusal: Refusal) -> Memory {
+        Memory {
+            taken: Vec::new(alloc),
+            refuses_at: Some(place),
+            refusal,
+        }
+    }
+}
+
+impl Write for Memory {
+    fn write(&mut self, bytes: &[u8]) -> io::Result<usize> {
+        if self.refuses_at == Some(self.taken.len()) {
+            self.refuses_at = None;
+            return match self.refusal {
+                Refusal::Fails => Err(io::Error::from(ErrorKind::BrokenPipe)),
+                Refusal::IsInterrupted => Err(io::Error::from(ErrorKind::Interrupted)),
+                Refusal::TakesNothing => Ok(0),
+            };
+        }
+        let count = bytes.len().min(1);
+        self.taken.extend_from_slice(&bytes[..count])?;
+        Ok(count)
+    }
+
+    fn flush(&mut self) -> io::Result<()> {
+        Ok(())
+    }
+}
+
+fn words_of(alloc: Global, texts: &[&str]) -> Result<Vec<String>, AllocError> {
+    let mut words = Vec::new(alloc);
+    for text in texts {
+        words.push(String::from_str(alloc, text)?)?;
+    }
+    Ok(words)
+}
+
+/// Runs the program on these words, and asserts the status and what both writers have taken.
+fn check_run(
+    rt: &impl Abort,
+    alloc: Global,
+    words: &[&str],
+    wanted: (u8, &str, &str),
+) -> Result<(), Fail> {
+    let words = words_of(alloc, words)?;
+    let (status, out, err) = run_vectors(alloc, &words, Memory::new(alloc), Memory::new(alloc));
+    assert_eq!(rt; status, wanted.0);
+    assert_eq!(rt; str::from_utf8(&out.taken), Ok(wanted.1));
+    assert_eq!(rt; str::from_utf8(&err.taken), Ok(wanted.2));
+    Ok(())
+}
+
+const KNOWN: [(&str, &str); 8] = [
+    ("1", "[1, EXAMPLE, true, null]\n"),
+    (
+        "2",
+        "{\n  null_field: null,\n  enum_field: EXAMPLE,\n  var_field: $var,\n  string_field: \"example\",\n  float_field: 1.5,\n  int_field: 47,\n  list_field: [\n    1,\n    2,\n    3,\n  ],\n}\n",
+    ),
+    ("3", "\"\\u0001\t\u{7F}\"\n"),
+    ("4", "\"\"\"\na\nb\n\"\"\"\n"),
+    ("5", "\"a\\nb\"\n"),
+    ("6", "[\n  \"\"\"\n  a\n\n   b\n  \"\"\",\n]\n"),
+    ("15", "null\n"),
+    ("20", ">[\n>>1,\n>]\n"),
+];
+
+#[test]
+fn known_vectors_are_printed(rt: HostRuntime) -> Result<(), Fail> {
+    for (number, text) in KNOWN {
+        check_run(&rt, rt.alloc(), &[number], (0, text, ""))?;
+    }
+    Ok(())
+}
+
+const UNKNOWN: (u8, &str, &str) = (2, "", "unknown vector\n");
+
+#[test]
+fn other_words_are_unknown(rt: HostRuntime) -> Result<(), Fail> {
+    for word in [
+        "", "01", "+1", "-1", " 1", "1 ", "1\n", "0", "7", "21", "١", "one",
+    ] {
+        check_run(&rt, rt.alloc(), &[word], UNKNOWN)?;
+    }
+    Ok(())
+}
+
+#[test]
+fn a_long_word_is_unknown(rt: HostRuntime) -> Result<(), Fail> {
+    let digits = "1".repeat(rt.alloc(), 10_000)?;
+    check_run(&rt, rt.alloc(), &[digits.as_str()], UNKNOWN)
+}
+
+#[test]
+fn no_word_and_two_words_are_unknown(rt: HostRuntime) -> Result<(), Fail> {
+    check_run(&rt, rt.alloc(), &[], UNKNOWN)?;
+    check_run(&rt, rt.alloc(), &["1", "1"], UNKNOWN)
+}
+
+const PRINTED: &[u8] = b"[1, EXAMPLE, true, null]\n";
+
+/// Runs the program on a writer that refuses one call, and asserts that nothing is written after it.
+fn check_refusal(rt: &impl Abort, alloc: Global, refusal: Refusal, place: usize) -> Result<(), Fail>
+    requires { place < length PRINTED.now }
+{
+    let words = words_of(alloc, &["1"])?;
+    let out = Memory::refusing_at(alloc, place, refusal);
+    let (status, out, err) = run_vectors(alloc, &words, out, Memory::new(alloc));
+    assert_eq!(rt; status, 1, "{refusal:?} at {place}");
+    assert_eq!(rt;
+        out.taken.as_slice(),
+        &PRINTED[..place],
+        "{refusal:?} at {place}"
+    );
+    assert_eq!(rt; str::from_utf8(&err.taken), Ok("the writer failed\n"));
+    Ok(())
+}
+
+#[test]
+fn nothing_follows_a_refused_write(rt: HostRuntime) -> Result<(), Fail> {
+    for refusal in REFUSALS {
+        for place in 0..PRINTED.len() {
+            check_refusal(&rt, rt.alloc(), refusal, place)?;
+        }
+    }
+    Ok(())
+}
+
+#[test]
+fn a_refused_report_changes_no_status(rt: HostRuntime) -> Result<(), Fail> {
+    let alloc = rt.alloc();
+    let words = words_of(alloc, &["01"])?;
+    for place in [0, 3, 14] {
+        let err = Memory::refusing_at(alloc, place, Refusal::Fails);
+        let (status, out, err) = run_vectors(alloc, &words, Memory::new(alloc), err);
+        assert_eq!(rt; status, 2);
+        assert_eq!(rt; out.taken.len(), 0);
+        assert_eq!(rt; err.taken.len(), place);
+    }
+    Ok(())
+}
+
+#[test]
+fn both_writers_refuse(rt: HostRuntime) -> Result<(), Fail> {
+    let alloc = rt.alloc();
+    let words = words_of(alloc, &["1"])?;
+    let out = Memory::refusing_at(alloc, 1, Refusal::Fails);
+    let err = Memory::refusing_at(alloc, 0, Refusal::Fails);
+    let (status, out, err) = run_vectors(alloc, &words, out, err);
+    assert_eq!(rt; status, 1);
+    assert_eq!(rt; str::from_utf8(&out.taken), Ok("["));
+    assert_eq!(rt; err.taken.len(), 0);
+    Ok(())
+}
+
+/// Asserts the status and the line of an error.
+fn check_report(rt: &impl Abort, alloc: Global, error: VectorError, wanted: (u8, &str)) {
+    let (status, err) = report(error, Memory::new(alloc));
+    assert_eq!(rt; status, wanted.0);
+    assert_eq!(rt; str::from_utf8(&err.taken), Ok(wanted.1));
+}
+
+#[test]
+fn errors_have_texts(rt: HostRuntime) {
+    let alloc = rt.alloc();
+    for (error, wanted) in [
+        (VectorError::Unknown, (2, "unknown vector\n")),
+        (VectorError::Memory, (1, "out of memory\n")),
+        (
+            VectorError::Print(PrintError::LevelOverflow),
+            (1, "indentation level overflow\n"),
+        ),
+        (
+            VectorError::Print(PrintError::Memory),
+            (1, "out of memory\n"),
+        ),
+        (
+            VectorError::Print(PrintError::Sink),
+            (1, "the writer failed\n"),
+        ),
+        (VectorError::Line(SinkFault), (1, "the writer failed\n")),
+    ] {
+        check_report(&rt, alloc, error, wanted);
+    }
+}

@@ -265,3 +265,6 @@ impl<'a, T: Syntax> fmt::Display for Serialize<'a, T> {
         if out.failed { Err(fmt::Error) } else { Ok(()) }
     }
 }
+
+#[cfg(test)]
+mod tests;

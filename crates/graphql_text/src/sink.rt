@@ -149,3 +149,6 @@ impl<W: Write> TextSink for StreamSink<W> {
         self.faults
     }
 }
+
+#[cfg(test)]
+mod tests;

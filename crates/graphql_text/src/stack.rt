@@ -65,3 +65,6 @@ impl<T: Drop> Stack<T> {
         }
     }
 }
+
+#[cfg(test)]
+mod tests;

@@ -180,3 +180,6 @@ pub(crate) fn write_piece<O: Target>(out: &mut O, text: &str)
         out.text(text);
     }
 }
+
+#[cfg(test)]
+mod tests;

@@ -95,3 +95,6 @@ pub fn write_first_indent<O: Target>(out: &mut O, place: &Place<'_>)
         None => {}
     }
 }
+
+#[cfg(test)]
+mod tests;

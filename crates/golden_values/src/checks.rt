@@ -1,0 +1,94 @@
+//! What is compared with a case.
+use crate::case::Case;
+use crate::sink::ByteSink;
+use graphql_text::engine::{PrintError, Serialize};
+use graphql_text::sink::{TextSink, VecSink};
+use graphql_values::value::Value;
+use std::alloc::Global;
+use std::fmt;
+use std::fmt::{Display, Formatter, Write};
+
+/// What is asked of a value: whether it is well formed, or its text, in one of the ways in which it can be printed.
+#[derive(Clone, Copy, Debug, PartialEq, Eq)]
+pub enum Check {
+    WellFormed,
+    ToText,
+    Display,
+    VecSink,
+    ByteSink,
+}
+
+pub const CHECKS: [Check; 5] = [
+    Check::WellFormed,
+    Check::ToText,
+    Check::Display,
+    Check::VecSink,
+    Check::ByteSink,
+];
+
+impl Check {
+    /// Whether the answer is the one that the case wants.
+    pub fn passes(self, alloc: Global, case: &Case, value: &Value) -> bool {
+        let print = print_of(case, value);
+        match self {
+            Check::WellFormed => value.is_well_formed() == case.well_formed,
+            Check::ToText => match print.to_text(alloc) {
+                Ok(text) => is_wanted(case, Ok(()), text.as_bytes()),
+                Err(error) => is_wanted(case, Err(error), b""),
+            },
+            Check::Display => is_displayed(alloc, case, &print),
+            Check::VecSink => is_put_into_vec(alloc, case, &print),
+            Check::ByteSink => is_put_bytewise(alloc, case, &print),
+        }
+    }
+}
+
+impl Display for Check {
+    fn fmt<W: Write>(&self, f: &mut Formatter<W>) -> fmt::Result {
+        f.write_str(match self {
+            Check::WellFormed => "is_well_formed",
+            Check::ToText => "to_text",
+            Check::Display => "Display",
+            Check::VecSink => "print_to a VecSink",
+            Check::ByteSink => "print_to a sink that takes one byte a call",
+        })
+    }
+}
+
+/// The value, in the layout of the case.
+fn print_of<'a>(case: &'a Case, value: &'a Value) -> Serialize<'a, Value> {
+    let print = value.serialize().initial_indent_level(case.level);
+    match &case.prefix {
+        Some(prefix) => print.indent_prefix(prefix.as_str()),
+        None => print.no_indent(),
+    }
+}
+
+/// Whether a print ended as the case wants, with these bytes written.
+fn is_wanted(case: &Case, printed: Result<(), PrintError>, bytes: &[u8]) -> bool {
+    match &case.text {
+        Some(text) => printed == Ok(()) && bytes == text.as_bytes(),
+        None => printed == Err(PrintError::LevelOverflow) && bytes.is_empty(),
+    }
+}
+
+fn is_displayed(alloc: Global, case: &Case, print: &Serialize<'_, Value>) -> bool {
+    let mut shown = String::new(alloc);
+    let is_ok = write!(shown, "{print}").is_ok();
+    match &case.text {
+        Some(text) => is_ok && shown.as_str() == text.as_str(),
+        None => !is_ok && shown.is_empty(),
+    }
+}
+
+fn is_put_into_vec(alloc: Global, case: &Case, print: &Serialize<'_, Value>) -> bool {
+    let mut sink = VecSink::new(alloc);
+    let printed = print.print_to(&mut sink);
+    is_wanted(case, printed, sink.bytes()) && sink.faults() == 0
+}
+
+fn is_put_bytewise(alloc: Global, case: &Case, print: &Serialize<'_, Value>) -> bool {
+    let mut sink = ByteSink::new(alloc, usize::MAX);
+    let printed = print.print_to(&mut sink);
+    is_wanted(case, printed, sink.bytes()) && sink.faults() == 0
+}

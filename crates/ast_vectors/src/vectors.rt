@@ -1,6 +1,10 @@
 //! The stored vectors: trees, each with the layout that it is printed in.
-ghost use Rattle.std.specs.Prelude.{◌≡◌, ◌≤◌, ◌≢◌, ◌<◌, ◌^◌, ◌-◌, OnErr, OnOk, length};
+ghost use Rattle.std.specs.Prelude.{◌≡◌, ◌≤◌, ◌≢◌, ◌↔◌, false, IfOk, IsErrOf, IsSome, IsTrue, OnErr, OnOk};
+ghost use Rattle.std.specs.Io.KnownBytes.{Appends};
+ghost use Rattle.graphql_text.specs.Place.{mode_of};
 ghost use Rattle.graphql_text.specs.Sinks.{CanFault};
+ghost use Rattle.graphql_values.specs.ValueTrees.{value_tree};
+ghost use Rattle.ast_vectors.specs.Runs.{GrowsByLine, is_vector_number, line_of, name_a_vector};
 
 use graphql_base::name;
 use graphql_base::name::Name;
@@ -33,8 +37,8 @@ pub enum VectorError {
 impl VectorError {
     /// The exit status of a run that ends so.
     fn status(&self) -> u8
-        ensures bound { result ≤ 2 }
         ensures unknown { self.now ≡ VectorError.Unknown → result ≡ 2 }
+        ensures failed { self.now ≢ VectorError.Unknown → result ≡ 1 }
     {
         match self {
             VectorError::Unknown => 2,
@@ -160,6 +164,8 @@ impl Vector {
     /// Prints the tree, and a line feed.
     fn print<W: Write>(&self, sink: &mut StreamSink<W>) -> Result<(), VectorError>
         requires { CanFault (⟦<StreamSink<W> as TextSink>⟧.fault_count sink.old) }
+        ensures printed { OnOk result (Appends (⟦<StreamSink<W> as TextSink>⟧.taken sink.old) (⟦<StreamSink<W> as TextSink>⟧.taken sink.new) (line_of (mode_of self.now.prefix) self.now.level (value_tree self.now.tree))) }
+        ensures known { ¬ IsErrOf result VectorError.Unknown }
     {
         let flat = self
             .tree
@@ -177,7 +183,10 @@ impl Vector {
 }
 
 /// The vector of a number, if there is one.
-fn find_vector(alloc: Global, number: &str) -> Result<Option<Vector>, AllocError> {
+fn find_vector(alloc: Global, number: &str) -> Result<Option<Vector>, AllocError>
+    ensures ok { IfOk result (λ vector. IsSome vector ↔ IsTrue (is_vector_number number.now)) }
+    ensures err { OnErr result (IsTrue (is_vector_number number.now)) }
+{
     Ok(Some(match number {
         "1" => Vector::of(four_values(alloc)?, None),
         "2" => Vector::of(object_of_all_kinds(alloc)?, Some("  ")),
@@ -198,6 +207,9 @@ fn print_vector<W: Write>(
     sink: &mut StreamSink<W>,
 ) -> Result<(), VectorError>
     requires { CanFault (⟦<StreamSink<W> as TextSink>⟧.fault_count sink.old) }
+    ensures printed { OnOk result (GrowsByLine (⟦<StreamSink<W> as TextSink>⟧.taken sink.old) (⟦<StreamSink<W> as TextSink>⟧.taken sink.new)) }
+    ensures unknown { IsErrOf result VectorError.Unknown ↔ (is_vector_number number.now ≡ false) }
+    ensures untouched { IsErrOf result VectorError.Unknown → sink.new ≡ sink.old }
 {
     match find_vector(alloc, number) {
         Ok(Some(vector)) => vector.print(sink),
@@ -208,8 +220,8 @@ fn print_vector<W: Write>(
 
 /// Reports an error on a line of its own, and answers the status of a run that ends so. A refused write changes no status.
 pub fn report<E: Write>(error: VectorError, mut err: E) -> (u8, E)
-    ensures bound { result.0 ≤ 2 }
     ensures unknown { error ≡ VectorError.Unknown → result.0 ≡ 2 }
+    ensures failed { error ≢ VectorError.Unknown → result.0 ≡ 1 }
 {
     let _ = writeln!(err, "{error}");
     (error.status(), err)
@@ -226,7 +238,14 @@ pub fn run_vectors<W: Write, E: Write>(
     err: E,
 ) -> (u8, W, E)
     ensures status { result.0 ≤ 2 }
-    ensures words { length words.now ≢ 1 → result.0 ≡ 2 }
+
+    // Other words than a vector's number, and only they: nothing is written on `out`.
+    ensures unknown { (result.0 ≡ 2) ↔ (name_a_vector words.now ≡ false) }
+    ensures untouched { result.0 ≡ 2 → W.contents result.1 ≡ W.contents out }
+
+    // A whole print: a value's layout and a line feed are written on `out`, and nothing on `err`.
+    ensures printed { result.0 ≡ 0 → GrowsByLine (W.contents out) (W.contents result.1) }
+    ensures silent { result.0 ≡ 0 → result.2 ≡ err }
 {
     let [word] = words else {
         let (status, err) = report(VectorError::Unknown, err);

@@ -1,3 +1,4 @@
+pub mod Forever
 pub mod formers
 pub mod Name
 pub mod NameErrors

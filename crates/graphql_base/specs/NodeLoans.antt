@@ -11,7 +11,9 @@ abbrev pub LendsValue : (R : RattleType) → MutBor (Node R.Denot) → Option (M
 LendsValue R node loan = LendsIf (the_row R) R node loan (with_node_value node.now) node.now
 
 -- the same; without a loan the node has its location, and its value or a clone of it
-abbrev pub LendsValueOrClone : (R : RattleType) → (R.Denot → R.Denot → Type 0) → MutBor (Node R.Denot) → {E : Type 0} → Result (MutBor R.Denot) E → Fml
+abbrev pub LendsValueOrClone : (R : RattleType) → (R.Denot → R.Denot → Type 0) → MutBor (Node R.Denot) → {E : Type 0}
+    → Result (MutBor R.Denot) E → Fml
 LendsValueOrClone R is_clone node loan =
     LendsSoOk (the_row R) R node loan (λ end value. end ≡ with_node_value node.now value)
-    (λ end. (node_location end ≡ node_location node.now) × ((node_value end ≡ node_value node.now) ⊎ is_clone (node_value node.now) (node_value end)))
+    (λ end. (node_location end ≡ node_location node.now)
+    × ((node_value end ≡ node_value node.now) ⊎ is_clone (node_value node.now) (node_value end)))

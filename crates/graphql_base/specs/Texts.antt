@@ -10,5 +10,5 @@ pub record StoredText : Type 0 where
   pub is_static : Bool
 
 abbrev pub stored : Form → StoredText
-stored (Static text) = record { bytes = text.now; is_static = true }
+stored (Static text) = record { bytes = text; is_static = true }
 stored (Shared text) = record { bytes = rc_str_bytes text; is_static = false }

@@ -22,7 +22,8 @@ pub fn file_ids_compare_by_number(a: FileId, b: FileId)
 /// Two spans are equal exactly if their files, starts and ends are.
 pub fn spans_compare_by_numbers(a: SourceSpan, b: SourceSpan)
     ensures { IsTrue (⟦<SourceSpan as PartialEq>⟧.eq a b)
-        ↔ ((file_number (span_file a) ≡ file_number (span_file b)) × (span_start a ≡ span_start b) × (span_end a ≡ span_end b)) }
+        ↔ ((file_number (span_file a) ≡ file_number (span_file b))
+        × (span_start a ≡ span_start b) × (span_end a ≡ span_end b)) }
 {}
 
 /// The text of each name is in name syntax.
@@ -30,7 +31,8 @@ pub fn names_are_valid(name: &Name)
     ensures { IsTrue (is_name (name_text name.now)) }
 {}
 
-/// Two names are equal exactly if their texts are, wherever they stand and whether their texts are static or shared.
+/// Two names are equal exactly if their texts are, wherever they stand, and whether their texts are static
+/// or shared.
 pub fn names_compare_by_text(a: &Name, b: &Name)
     ensures { IsTrue (⟦<Name as PartialEq>⟧.eq a.now b.now) ↔ (name_text a.now ≡ name_text b.now) }
 {}
@@ -47,7 +49,8 @@ pub fn name_order_agrees_with_equality(a: &Name, b: &Name)
 
 /// Equal names hash alike.
 pub fn equal_names_hash_alike(a: &Name, b: &Name)
-    ensures { IsTrue (⟦<Name as PartialEq>⟧.eq a.now b.now) → ⟦<Name as Hash>⟧.hash_input a.now ≡ ⟦<Name as Hash>⟧.hash_input b.now }
+    ensures { IsTrue (⟦<Name as PartialEq>⟧.eq a.now b.now)
+        → ⟦<Name as Hash>⟧.hash_input a.now ≡ ⟦<Name as Hash>⟧.hash_input b.now }
 {}
 
 /// Two nodes are equal exactly if their values are, wherever they stand.
@@ -62,7 +65,8 @@ pub fn nodes_hash_by_value<T: Hash>(node: &Node<T>)
 
 /// Equal nodes hash alike where their values do.
 pub fn equal_nodes_hash_alike<T: Hash>(a: &Node<T>, b: &Node<T>)
-    ensures { IsTrue (⟦<Node<T> as PartialEq>⟧.eq a.now b.now) → ⟦<Node<T> as Hash>⟧.hash_input a.now ≡ ⟦<Node<T> as Hash>⟧.hash_input b.now }
+    ensures { IsTrue (⟦<Node<T> as PartialEq>⟧.eq a.now b.now)
+        → ⟦<Node<T> as Hash>⟧.hash_input a.now ≡ ⟦<Node<T> as Hash>⟧.hash_input b.now }
 {}
 
 /// Two shared texts are equal exactly if their texts are, wherever they stand.
@@ -72,7 +76,8 @@ pub fn node_strs_compare_by_text(a: &NodeStr, b: &NodeStr)
 
 /// Equal shared texts hash alike.
 pub fn equal_node_strs_hash_alike(a: &NodeStr, b: &NodeStr)
-    ensures { IsTrue (⟦<NodeStr as PartialEq>⟧.eq a.now b.now) → ⟦<NodeStr as Hash>⟧.hash_input a.now ≡ ⟦<NodeStr as Hash>⟧.hash_input b.now }
+    ensures { IsTrue (⟦<NodeStr as PartialEq>⟧.eq a.now b.now)
+        → ⟦<NodeStr as Hash>⟧.hash_input a.now ≡ ⟦<NodeStr as Hash>⟧.hash_input b.now }
 {}
 
 /// Two errors about a text that is no name are equal exactly if the texts and the locations are.

@@ -16,4 +16,5 @@ mod refusals;
 mod shared;
 mod shared_text;
 pub mod span;
+mod static_text;
 mod text;

@@ -1,5 +1,5 @@
 //! Names, with their syntax.
-ghost use Rattle.std.specs.Prelude.{◌≡◌, ◌↔◌, IfOk, IfErr, IfSome, IsTrue, IsSome, IsOk, Some, None, length, true, false, string_bytes};
+ghost use Rattle.std.specs.Prelude.{◌≡◌, ◌↔◌, IfOk, IfErr, IfSome, IsTrue, IsSome, IsOk, Some, None, length, true, false};
 ghost use Rattle.std.specs.List.{list_all};
 ghost use Rattle.std.specs.Rc.{rc_str_bytes};
 ghost use Rattle.graphql_base.specs.Names.{is_name, is_name_start, is_name_continue, begins_in};
@@ -106,7 +106,8 @@ impl Name {
     ghost use Rattle.graphql_base.specs.NameErrors.{IsRefusalOf};
     ghost use Rattle.graphql_base.specs.Span.{span_len};
 
-    /// Whether the text is in name syntax: the test of the condition that the constructors without a test have.
+    /// Whether the text is in name syntax: the test of the condition that the constructors without a
+    /// test have.
     pub fn is_valid_syntax(text: &str) -> bool
         ensures { result ≡ is_name text.now }
     {
@@ -163,7 +164,8 @@ impl Name {
         Ok(Name::new_static_unchecked(text))
     }
 
-    /// A name over a copy of a text that is in name syntax, without a test. `AllocError` where memory is refused.
+    /// A name over a copy of a text that is in name syntax, without a test. `AllocError` where memory is
+    /// refused.
     pub fn new_unchecked(alloc: Global, text: &str) -> Result<Name, AllocError>
         requires { IsTrue (is_name text.now) }
         ensures { IfOk result (IsNewName text.now false) }
@@ -182,7 +184,8 @@ impl Name {
         }
     }
 
-    /// A name over a static text that is in name syntax, without a test. It takes no memory; `name!` calls it.
+    /// A name over a static text that is in name syntax, without a test. It takes no memory; `name!`
+    /// calls it.
     pub fn new_static_unchecked(text: &'static str) -> Name
         requires { IsTrue (is_name text.now) }
         ensures { IsNewName text.now true result }

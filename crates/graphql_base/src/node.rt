@@ -41,7 +41,8 @@ pub struct Node<T> {
 impl<T: Drop> Node<T> {
     ghost use Rattle.graphql_base.specs.Node.{node_at};
 
-    /// A node of this value, with no location. `AllocError` where memory is refused; the value is given up then.
+    /// A node of this value, with no location. `AllocError` where memory is refused; the value is given up
+    /// then.
     pub fn new(alloc: Global, value: T) -> Result<Node<T>, AllocError>
         ensures { IfOk result (λ node. node ≡ node_at None value) }
     {
@@ -123,7 +124,8 @@ impl<T> Node<T> {
     where
         T: Clone,
         ensures* writes_back { sem 𝓛 (LendsValueOrClone T.row T.is_clone self.entry result) }
-        ensures value { IfOk result (λ value. (value.now ≡ node_value self.old) ⊎ T.is_clone (node_value self.old) value.now) }
+        ensures value { IfOk result (λ value.
+            (value.now ≡ node_value self.old) ⊎ T.is_clone (node_value self.old) value.now) }
     {
         self.value.make_mut()
     }

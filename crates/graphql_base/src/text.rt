@@ -8,6 +8,7 @@ ghost use Rattle.std.specs.Hash as fed;
 ghost use Rattle.std.specs.Rc.{rc_str_bytes};
 ghost use Rattle.std.proofs.Common.{rules};
 
+use crate::static_text::StaticText;
 use std::alloc::{AllocError, Global};
 use std::cmp::Ordering;
 use std::fmt::{self, Debug, Formatter, Write};
@@ -17,7 +18,7 @@ use std::rc::RcStr;
 
 #[derive(Drop)]
 enum Form {
-    Static(&'static str),
+    Static(StaticText),
     Shared(RcStr),
 }
 
@@ -40,7 +41,7 @@ impl Text {
         ensures { result ≡ record { bytes = text.now; is_static = true } }
     {
         Text {
-            form: Form::Static(text),
+            form: Form::Static(StaticText::new(text)),
         }
     }
 
@@ -56,7 +57,7 @@ impl Text {
         ensures { result.now ≡ self.now.bytes }
     {
         match &self.form {
-            Form::Static(text) => text,
+            Form::Static(text) => text.as_str(),
             Form::Shared(text) => text.as_str(),
         }
     }
@@ -66,7 +67,7 @@ impl Text {
         ensures value { IfSome result (λ text. text.now ≡ self.now.bytes) }
     {
         match &self.form {
-            Form::Static(text) => Some(*text),
+            Form::Static(text) => Some(text.as_str()),
             Form::Shared(_) => None,
         }
     }
@@ -88,7 +89,7 @@ impl Text {
     {
         let Text { form } = self;
         match form {
-            Form::Static(text) => RcStr::from_str(alloc, text),
+            Form::Static(text) => RcStr::from_str(alloc, text.as_str()),
             Form::Shared(text) => Ok(text),
         }
     }
@@ -99,7 +100,7 @@ impl Clone for Text {
 
     fn clone(&self) -> Result<Text, AllocError> {
         match &self.form {
-            Form::Static(text) => Ok(Text::from_static(*text)),
+            Form::Static(text) => Ok(Text::from_static(text.as_str())),
             Form::Shared(text) => Ok(Text::from_shared(text.clone()?)),
         }
     }

@@ -1,5 +1,5 @@
 //! Worked runs of the program, with writers in memory.
-ghost use Rattle.std.specs.Prelude.{◌<◌, length};
+ghost use Rattle.std.specs.Prelude.{◌≤◌, IfSome, length};
 
 use super::{VectorError, report, run_vectors};
 use graphql_text::engine::PrintError;
@@ -24,35 +24,53 @@ const REFUSALS: [Refusal; 3] = [
     Refusal::TakesNothing,
 ];
 
-/// A writer in memory that takes one byte a call. Once it has taken a number of them it refuses one call, and takes more after it.
+/// A writer in memory that takes one byte a call, and asks for no memory. Once it has taken a number of them it refuses one call,
+/// and takes more after it.
 #[derive(Drop)]
-struct Memory {
-    taken: Vec<u8>,
+struct Page {
+    bytes: [u8; 256],
+    len: usize,
     refuses_at: Option<usize>,
     refusal: Refusal,
 }
 
-impl Memory {
-    fn new(alloc: Global) -> Memory {
-        Memory {
-            taken: Vec::new(alloc),
+impl Page {
+    fn new() -> Page {
+        Page {
+            bytes: [0; 256],
+            len: 0,
             refuses_at: None,
             refusal: Refusal::Fails,
         }
     }
 
-    fn refusing_at(alloc: Global, place: usize, refusal: Refusal) -> Memory {
-        Memory {
-            taken: Vec::new(alloc),
+    fn refusing_at(place: usize, refusal: Refusal) -> Page {
+        Page {
+            bytes: [0; 256],
+            len: 0,
             refuses_at: Some(place),
             refusal,
         }
     }
+
+    /// What it has taken, if that is text.
+    fn text(&self) -> Option<&str> {
+        str::from_utf8(self.bytes.get(..self.len)?).ok()
+    }
+
+    /// Takes the first of the bytes, if there is one and room for it.
+    fn take(&mut self, bytes: &[u8]) -> Option<usize>
+        ensures { IfSome result (λ count. count ≤ length bytes.now) }
+    {
+        *self.bytes.get_mut(self.len)? = *bytes.first()?;
+        self.len = self.len.checked_add(1)?;
+        Some(1)
+    }
 }
 
-impl Write for Memory {
+impl Write for Page {
     fn write(&mut self, bytes: &[u8]) -> io::Result<usize> {
-        if self.refuses_at == Some(self.taken.len()) {
+        if self.refuses_at == Some(self.len) {
             self.refuses_at = None;
             return match self.refusal {
                 Refusal::Fails => Err(io::Error::from(ErrorKind::BrokenPipe)),
@@ -60,9 +78,7 @@ impl Write for Memory {
                 Refusal::TakesNothing => Ok(0),
             };
         }
-        let count = bytes.len().min(1);
-        self.taken.extend_from_slice(&bytes[..count])?;
-        Ok(count)
+        Ok(self.take(bytes).unwrap_or(0))
     }
 
     fn flush(&mut self) -> io::Result<()> {
@@ -86,10 +102,10 @@ fn check_run(
     wanted: (u8, &str, &str),
 ) -> Result<(), Fail> {
     let words = words_of(alloc, words)?;
-    let (status, out, err) = run_vectors(alloc, &words, Memory::new(alloc), Memory::new(alloc));
+    let (status, out, err) = run_vectors(alloc, &words, Page::new(), Page::new());
     assert_eq!(rt; status, wanted.0);
-    assert_eq!(rt; str::from_utf8(&out.taken), Ok(wanted.1));
-    assert_eq!(rt; str::from_utf8(&err.taken), Ok(wanted.2));
+    assert_eq!(rt; out.text(), Some(wanted.1));
+    assert_eq!(rt; err.text(), Some(wanted.2));
     Ok(())
 }
 
@@ -139,22 +155,21 @@ fn no_word_and_two_words_are_unknown(rt: HostRuntime) -> Result<(), Fail> {
     check_run(&rt, rt.alloc(), &["1", "1"], UNKNOWN)
 }
 
-const PRINTED: &[u8] = b"[1, EXAMPLE, true, null]\n";
+const PRINTED: &str = "[1, EXAMPLE, true, null]\n";
 
 /// Runs the program on a writer that refuses one call, and asserts that nothing is written after it.
-fn check_refusal(rt: &impl Abort, alloc: Global, refusal: Refusal, place: usize) -> Result<(), Fail>
-    requires { place < length PRINTED.now }
-{
+fn check_refusal(
+    rt: &impl Abort,
+    alloc: Global,
+    refusal: Refusal,
+    place: usize,
+) -> Result<(), Fail> {
     let words = words_of(alloc, &["1"])?;
-    let out = Memory::refusing_at(alloc, place, refusal);
-    let (status, out, err) = run_vectors(alloc, &words, out, Memory::new(alloc));
+    let out = Page::refusing_at(place, refusal);
+    let (status, out, err) = run_vectors(alloc, &words, out, Page::new());
     assert_eq!(rt; status, 1, "{refusal:?} at {place}");
-    assert_eq!(rt;
-        out.taken.as_slice(),
-        &PRINTED[..place],
-        "{refusal:?} at {place}"
-    );
-    assert_eq!(rt; str::from_utf8(&err.taken), Ok("the writer failed\n"));
+    assert_eq!(rt; out.text(), PRINTED.get(..place), "{refusal:?} at {place}");
+    assert_eq!(rt; err.text(), Some("the writer failed\n"));
     Ok(())
 }
 
@@ -173,11 +188,11 @@ fn a_refused_report_changes_no_status(rt: HostRuntime) -> Result<(), Fail> {
     let alloc = rt.alloc();
     let words = words_of(alloc, &["01"])?;
     for place in [0, 3, 14] {
-        let err = Memory::refusing_at(alloc, place, Refusal::Fails);
-        let (status, out, err) = run_vectors(alloc, &words, Memory::new(alloc), err);
+        let err = Page::refusing_at(place, Refusal::Fails);
+        let (status, out, err) = run_vectors(alloc, &words, Page::new(), err);
         assert_eq!(rt; status, 2);
-        assert_eq!(rt; out.taken.len(), 0);
-        assert_eq!(rt; err.taken.len(), place);
+        assert_eq!(rt; out.len, 0);
+        assert_eq!(rt; err.len, place);
     }
     Ok(())
 }
@@ -186,20 +201,35 @@ fn a_refused_report_changes_no_status(rt: HostRuntime) -> Result<(), Fail> {
 fn both_writers_refuse(rt: HostRuntime) -> Result<(), Fail> {
     let alloc = rt.alloc();
     let words = words_of(alloc, &["1"])?;
-    let out = Memory::refusing_at(alloc, 1, Refusal::Fails);
-    let err = Memory::refusing_at(alloc, 0, Refusal::Fails);
+    let out = Page::refusing_at(1, Refusal::Fails);
+    let err = Page::refusing_at(0, Refusal::Fails);
     let (status, out, err) = run_vectors(alloc, &words, out, err);
     assert_eq!(rt; status, 1);
-    assert_eq!(rt; str::from_utf8(&out.taken), Ok("["));
-    assert_eq!(rt; err.taken.len(), 0);
+    assert_eq!(rt; out.text(), Some("["));
+    assert_eq!(rt; err.len, 0);
     Ok(())
+}
+
+/// Where memory is refused, nothing is printed; else all is. `rt try --test --fail-alloc N` refuses the Nth growth.
+#[test]
+fn refused_memory_is_reported(rt: HostRuntime) {
+    let alloc = rt.alloc();
+    for (number, text) in KNOWN {
+        let Ok(words) = words_of(alloc, &[number]) else {
+            return;
+        };
+        let (status, out, err) = run_vectors(alloc, &words, Page::new(), Page::new());
+        let whole = status == 0 && out.text() == Some(text) && err.len == 0;
+        let refused = status == 1 && out.len == 0 && err.text() == Some("out of memory\n");
+        assert!(rt; whole || refused, "{number}");
+    }
 }
 
 /// Asserts the status and the line of an error.
 fn check_report(rt: &impl Abort, alloc: Global, error: VectorError, wanted: (u8, &str)) {
-    let (status, err) = report(error, Memory::new(alloc));
+    let (status, err) = report(error, Page::new());
     assert_eq!(rt; status, wanted.0);
-    assert_eq!(rt; str::from_utf8(&err.taken), Ok(wanted.1));
+    assert_eq!(rt; err.text(), Some(wanted.1));
 }
 
 #[test]

@@ -1,0 +1,32 @@
+-- The words that a run of the program is given, and what it prints.
+use Rattle.std.specs.Prelude.{ℕ, List, [], ◌∷◌, ◌++◌, Bool, false, Option, String, codes, encode_utf8_all, string_bytes}
+use Rattle.std.specs.declared.alloc.Global.{Global}
+use Rattle.std.specs.Io.KnownBytes.{Appends}
+use Rattle.graphql_text.specs.Forms.{is_one_of}
+use Rattle.graphql_text.specs.Reading.{layout_of}
+use Rattle.graphql_values.specs.Values.{ValueTree, value_shape}
+
+-- the numbers of the vectors
+abbrev pub vector_numbers : List (List ℕ)
+vector_numbers =
+    codes "1" ∷ codes "2" ∷ codes "3" ∷ codes "4" ∷ codes "5" ∷ codes "6" ∷ codes "15" ∷ codes "20" ∷ []
+
+-- whether a word is the number of a vector
+abbrev pub is_vector_number : List ℕ → Bool
+is_vector_number word = is_one_of vector_numbers word
+
+-- whether the words are one, and it is the number of a vector
+abbrev pub name_a_vector : List (String Global) → Bool
+name_a_vector (word ∷ []) = is_vector_number (string_bytes word)
+name_a_vector words = false
+
+-- the line of a value: its layout with this prefix, or none on one line, from this level on, and a line feed
+abbrev pub line_of : Option (List ℕ) → ℕ → ValueTree → List ℕ
+line_of mode level tree = encode_utf8_all (layout_of (λ broken is_front. value_shape broken) mode level tree) ++ codes "\n"
+
+-- known bytes grow by the line of some value
+pub record GrowsByLine (old new : Option (List ℕ)) : Type 0 where
+  pub mode : Option (List ℕ)
+  pub level : ℕ
+  pub tree : ValueTree
+  pub appended : Appends old new (line_of mode level tree)

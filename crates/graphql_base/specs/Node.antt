@@ -1,5 +1,5 @@
 -- What contracts see of a node: its value or text, and its location.
-use Rattle.std.specs.Prelude.{ℕ, List, Option}
+use Rattle.std.specs.Prelude.{◌≡◌, ℕ, List, Option}
 use Rattle.graphql_base.specs.declared.span.SourceSpan.{SourceSpan}
 use Rattle.graphql_base.specs.declared.node.Node.{Node}
 use Rattle.graphql_base.specs.declared.node_str.NodeStr.{NodeStr}
@@ -25,6 +25,6 @@ node_str_text node = node.text
 abbrev pub node_str_location : NodeStr → Option SourceSpan
 node_str_location node = node.location
 
--- the text at this location
-abbrev pub node_str_at : Option SourceSpan → List ℕ → NodeStr
-node_str_at location text = record { text = text; location = location }
+-- a node of this text at this location
+abbrev pub IsNodeStrAt : Option SourceSpan → List ℕ → NodeStr → Type 0
+IsNodeStrAt location text node = (node_str_text node ≡ text) × (node_str_location node ≡ location)

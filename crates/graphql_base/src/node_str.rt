@@ -1,5 +1,5 @@
 //! Texts that may be shared, with the place where they stand in a source text.
-ghost use Rattle.std.specs.Prelude.{◌≡◌, ◌↔◌, IfOk, IsTrue, None, Some, string_bytes};
+ghost use Rattle.std.specs.Prelude.{◌≡◌, ◌↔◌, IfOk, IsTrue, IsUtf8, None, Some, string_bytes};
 ghost use Rattle.graphql_base.specs.Span.{IsBuiltIn};
 
 use crate::node::{Node, is_built_in};
@@ -18,14 +18,15 @@ pub struct NodeStr {
     text: SharedText,
     #[derive_where(skip)]
     location: Option<SourceSpan>,
+    pub ghost valid: { ∥ IsUtf8 text ∥₁ },
 }
 
 impl NodeStr {
-    ghost use Rattle.graphql_base.specs.Node.{node_at, node_str_at, node_str_text, node_str_location};
+    ghost use Rattle.graphql_base.specs.Node.{node_at, node_str_text, node_str_location, IsNodeStrAt};
 
     /// A copy of the text, with no location. `AllocError` where memory is refused.
     pub fn new_str(alloc: Global, text: &str) -> Result<NodeStr, AllocError>
-        ensures { IfOk result (λ node. node ≡ node_str_at None text.now) }
+        ensures { IfOk result (IsNodeStrAt None text.now) }
     {
         NodeStr::at(alloc, text, None)
     }
@@ -36,13 +37,13 @@ impl NodeStr {
         text: &str,
         span: SourceSpan,
     ) -> Result<NodeStr, AllocError>
-        ensures { IfOk result (λ node. node ≡ node_str_at (Some span) text.now) }
+        ensures { IfOk result (IsNodeStrAt (Some span) text.now) }
     {
         NodeStr::at(alloc, text, Some(span))
     }
 
     fn at(alloc: Global, text: &str, location: Option<SourceSpan>) -> Result<NodeStr, AllocError>
-        ensures { IfOk result (λ node. node ≡ node_str_at location text.now) }
+        ensures { IfOk result (IsNodeStrAt location text.now) }
     {
         Ok(NodeStr {
             text: SharedText::new(alloc, text)?,

@@ -6,6 +6,7 @@ pub mod Skips
 pub mod Numbers
 pub mod Quotes
 pub mod Complete
+pub mod CommaLeads
 pub mod Compose
 pub mod Quoted
 pub mod Sides
@@ -43,3 +44,6 @@ pub mod Headline
 pub mod Sending
 pub mod TwoSpaces
 pub mod Utf8
+pub mod FlatGroups
+pub mod StackLaws
+pub mod Slices

@@ -1,8 +1,10 @@
 -- Which form the text of a string has.
-use Rattle.std.proofs.Common.{◌≡◌, ℕ, Bool, true, false, ◌&&◌, cond, List, Some, refl}
+use Rattle.std.proofs.Common.{◌≡◌, ◌==◌, ℕ, Bool, true, false, ◌&&◌, ◌||◌, cond, length, nat_lt, List, [], ◌∷◌, Option, None, Some, refl, arith}
+use Rattle.std.specs.List.{list_any}
+use Rattle.std.proofs.lemmas.Bool.Decides.{nat_tests}
 use Rattle.graphql_text.specs.BlockForm.{can_be_block, block_text}
-use Rattle.graphql_text.specs.QuotedForm.{quoted_form}
-use Rattle.graphql_text.specs.Layout.{StringRole, wants_block, string_text}
+use Rattle.graphql_text.specs.QuotedForm.{quoted_character, quoted_form}
+use Rattle.graphql_text.specs.Layout.{StringRole, AsValue, wants_block, string_text}
 
 pub block_here : (prefix : List ℕ) (level : ℕ) (value : List ℕ) (role : StringRole) → wants_block role value ≡ true → can_be_block value ≡ true → string_text (Some prefix) level value role ≡ block_text prefix level value
 block_here prefix level value role wants can = rw (wants, can) refl
@@ -16,3 +18,28 @@ impossible_here prefix level value role can = rw can (go (wants_block role value
     go : (b : Bool) → cond (b && false) (block_text prefix level value) (quoted_form value) ≡ quoted_form value
     go true = refl
     go false = refl
+
+-- what one test refuses of every character, another that passes less often refuses too
+any_less : (p q : ℕ → Bool) → ((c : ℕ) → q c ≡ false → p c ≡ false) → (text : List ℕ) → list_any q text ≡ false → list_any p text ≡ false
+any_less p q less [] none = refl
+any_less p q less (c ∷ text) none = go (q c) refl (any_less p q less text) none
+  where
+    go : (b : Bool) → q c ≡ b → (list_any q text ≡ false → list_any p text ≡ false) → b || list_any q text ≡ false → p c || list_any p text ≡ false
+    go true e rest h = cc
+    go false e rest h = rw (less c e) (rest h)
+
+line_feeds_are_escaped : (c : ℕ) → nat_lt 1 (length (quoted_character c)) ≡ false → (c == 0xA) ≡ false
+line_feeds_are_escaped c = go (c == 0xA) refl
+  where
+    go : (b : Bool) → (c == 0xA) ≡ b → nat_lt 1 (length (quoted_character c)) ≡ false → (c == 0xA) ≡ false
+    go false e h = e
+    go true e h = let ten : c ≡ 0xA = grind (arith, nat_tests) in let plain = rw ten at h in cc
+
+-- a text of which nothing is escaped holds no line feed
+pub no_line_feed : (text : List ℕ) → list_any (λ c. nat_lt 1 (length (quoted_character c))) text ≡ false → list_any (λ c. c == 0xA) text ≡ false
+no_line_feed text none = any_less (λ c. c == 0xA) (λ c. nat_lt 1 (length (quoted_character c))) line_feeds_are_escaped text none
+
+-- a value without line feed is quoted
+pub quoted_here : (mode : Option (List ℕ)) (level : ℕ) (value : List ℕ) → list_any (λ c. c == 0xA) value ≡ false → string_text mode level value AsValue ≡ quoted_form value
+quoted_here None level value none = refl
+quoted_here (Some prefix) level value none = unwanted_here prefix level value AsValue none

@@ -72,6 +72,14 @@ module _ {O : Type 0} {wrote : O → List ℕ → O → Type 0} where
     written = levels_then more f.written w;
   }
 
+  -- what comes later waits as before
+  pub front_within : {a b : O} {mode : Option (List ℕ)} {v v' : ℕ} {all rest : List Item} (later : List Item) → WritesFront wrote a b mode v all v' rest → WritesFront wrote a b mode v (all ++ later) v' (rest ++ later)
+  front_within {rest = rest} later f = record { done = f.done; parted = ap (λ t. t ++ later) f.parted ∙ append_assoc f.done rest later; written = f.written }
+
+  -- one front after another
+  pub front_then : (more : (a b c : O) (x y : List ℕ) → wrote a x b → wrote b y c → wrote a (x ++ y) c) {a b c : O} {mode : Option (List ℕ)} {v v' v'' : ℕ} {all rest left left' : List Item} → WritesFront wrote a b mode v all v' rest → rest ≡ left → WritesFront wrote b c mode v' left v'' left' → WritesFront wrote a c mode v all v'' left'
+  front_then more f e g = front_next more f (e ∙ g.parted) g.written
+
   -- nothing is left
   pub front_all : {a b : O} {mode : Option (List ℕ)} {v v' : ℕ} {all rest : List Item} → WritesFront wrote a b mode v all v' rest → rest ≡ [] → v' ≡ v → WritesItems wrote a b mode v all
   front_all {a} {b} {mode} {v} {v'} {all} {rest} f e l =

@@ -1,8 +1,9 @@
 -- What a writer does with the items of a layout. `wrote a bytes b` says what a target does with bytes, from a to b.
-use Rattle.std.specs.Prelude.{◌≡◌, ℕ, ◌+◌, List, [], ◌∷◌, ◌++◌, codes, cond, Option, None, Some, option_map, encode_utf8_all}
+use Rattle.std.specs.Prelude.{◌≡◌, ℕ, ◌+◌, List, [], ◌∷◌, ◌++◌, codes, cond, Option, None, Some, option_map, encode_utf8_all, ⊤}
+use Rattle.std.specs.Borrow.{Bor}
 use Rattle.graphql_base.specs.Names.{is_name}
 use Rattle.graphql_text.specs.Tokens.{Punctuation, Name, punctuator_text}
-use Rattle.graphql_text.specs.Layout.{Item, Word, Space, Comma, raises, lowers, text_of_items}
+use Rattle.graphql_text.specs.Layout.{Item, Word, Space, Comma, Soft, item_text, raises, lowers, text_of_items}
 
 -- From a to b the text of the items was written, in UTF-8, at a level. They raise it as often as they lower it.
 pub record WritesItems {O : Type 0} (wrote : O → List ℕ → O → Type 0) (a b : O) (mode : Option (List ℕ)) (level : ℕ) (items : List Item) : Type 0 where
@@ -36,3 +37,8 @@ after_text (Some text) rest = option_map (λ more. text ++ more) rest
 abbrev pub fixed_text : List Item → Option (List ℕ)
 fixed_text [] = Some []
 fixed_text (item ∷ items) = after_text (fixed_item_text item) (fixed_text items)
+
+-- What leads to a further item of a comma group at a place, or nothing is said.
+abbrev pub IsCommaLead : Option (List ℕ) → ℕ → Option (Bor (List ℕ)) → Type 0
+IsCommaLead mode level None = ⊤
+IsCommaLead mode level (Some text) = text.now ≡ encode_utf8_all (44 ∷ item_text mode level Soft)

@@ -1,13 +1,13 @@
 //! Line breaks, and the prefix that lines begin with.
 
-ghost use Rattle.std.specs.Prelude.{◌≡◌, ◌≤◌, [], ◌∷◌, IsTrue, chars, encode_utf8_all};
+ghost use Rattle.std.specs.Prelude.{◌≡◌, ◌≤◌, [], ◌∷◌, IsTrue, MatchOption, ⊤, chars, encode_utf8_all};
 ghost use Rattle.std.specs.List.{repeat};
 ghost use Rattle.graphql_text.specs.Layout.{break_text};
 
 use crate::target::Target;
 
-/// A line feed and 62 spaces.
-const SPACES: &str = "\n                                                              ";
+/// A comma, a line feed and 62 spaces.
+const COMMA_AND_SPACES: &str = ",\n                                                              ";
 
 fn is_two_spaces(prefix: &str) -> bool
     ensures { IsTrue result → prefix.now ≡ 32 ∷ 32 ∷ [] }
@@ -20,10 +20,19 @@ fn two_space_break(level: usize) -> &'static str
     requires { level ≤ 30 }
     ensures { result.now ≡ break_text (32 ∷ 32 ∷ []) level }
 {
-    &SPACES[..2 * level + 1]
+    &COMMA_AND_SPACES[1..2 * level + 2]
+}
+
+/// A comma and a break under a prefix of two spaces.
+fn two_space_comma_break(level: usize) -> &'static str
+    requires { level ≤ 30 }
+    ensures { result.now ≡ 44 ∷ break_text (32 ∷ 32 ∷ []) level }
+{
+    &COMMA_AND_SPACES[..2 * level + 2]
 }
 
 /// Writes the prefix as often as the level.
+#[inline(never)]
 pub(crate) fn indent<O: Target>(out: &mut O, prefix: &str, level: usize)
     ensures { O.wrote out.old (encode_utf8_all (repeat level (chars prefix.now))) out.new }
 {
@@ -38,13 +47,59 @@ pub(crate) fn indent<O: Target>(out: &mut O, prefix: &str, level: usize)
     }
 }
 
+/// A line feed, and the prefix as often as the level, where that is a text at hand.
+#[inline(always)]
+fn ready_break(prefix: &str, level: usize) -> Option<&'static str>
+    ensures { MatchOption result ⊤ (λ text. text.now ≡ encode_utf8_all (break_text (chars prefix.now) level)) }
+{
+    if is_two_spaces(prefix) && level <= 30 {
+        Some(two_space_break(level))
+    } else {
+        None
+    }
+}
+
+/// A comma, a line feed, and the prefix as often as the level, where that is a text at hand.
+pub(crate) fn ready_comma_break(prefix: &str, level: usize) -> Option<&'static str>
+    ensures { MatchOption result ⊤ (λ text. text.now ≡ 44 ∷ encode_utf8_all (break_text (chars prefix.now) level)) }
+{
+    if is_two_spaces(prefix) && level <= 30 {
+        Some(two_space_comma_break(level))
+    } else {
+        None
+    }
+}
+
+/// Writes a line feed, and the prefix as often as the level, one by one.
+#[inline(never)]
+fn write_break<O: Target>(out: &mut O, prefix: &str, level: usize)
+    ensures { O.wrote out.old (encode_utf8_all (break_text (chars prefix.now) level)) out.new }
+{
+    out.text("\n");
+    indent(out, prefix, level);
+}
+
 /// Writes a line feed, and the prefix as often as the level.
+#[inline(always)]
 pub(crate) fn line_break<O: Target>(out: &mut O, prefix: &str, level: usize)
     ensures { O.wrote out.old (encode_utf8_all (break_text (chars prefix.now) level)) out.new }
 {
-    if is_two_spaces(prefix) && level <= 30 {
-        return out.text(two_space_break(level));
+    match ready_break(prefix, level) {
+        Some(text) => out.text(text),
+        None => write_break(out, prefix, level),
     }
-    out.text("\n");
-    indent(out, prefix, level);
+}
+
+/// Writes a comma, a line feed, and the prefix as often as the level.
+#[inline(never)]
+pub(crate) fn comma_break<O: Target>(out: &mut O, prefix: &str, level: usize)
+    ensures { O.wrote out.old (44 ∷ encode_utf8_all (break_text (chars prefix.now) level)) out.new }
+{
+    match ready_comma_break(prefix, level) {
+        Some(text) => out.text(text),
+        None => {
+            out.text(",");
+            write_break(out, prefix, level);
+        }
+    }
 }

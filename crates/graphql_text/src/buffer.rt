@@ -1,12 +1,13 @@
-//! A buffer of bytes on its owner's frame.
-ghost use Rattle.std.specs.Prelude.{◌≡◌, ◌≤◌, ◌++◌, [], IsTrue, false};
+//! A buffer of text on its owner's frame.
+ghost use Rattle.std.specs.Prelude.{◌≡◌, ◌≤◌, ◌++◌, [], IsTrue, IsUtf8, false, take};
 
-/// Bytes that wait to be sent. It takes no memory.
+/// Text that waits to be sent. It takes no memory.
 #[derive(Drop)]
 pub(crate) struct Buffer {
     used: usize,
     bytes: [u8; 1024],
     ghost fits: { used ≤ 1024 },
+    ghost utf8: { ∥ IsUtf8 (take used bytes) ∥₁ },
 }
 
 impl Buffer {
@@ -27,21 +28,27 @@ impl Buffer {
         &self.bytes[..self.used]
     }
 
+    pub(crate) fn waiting_text(&self) -> &str
+        ensures { result.now ≡ waiting_bytes self.now }
+    {
+        unsafe { str::from_utf8_unchecked(self.waiting()) }
+    }
+
     pub(crate) fn clear(&mut self)
         ensures { waiting_bytes self.new ≡ [] }
     {
         self.used = 0;
     }
 
-    /// Adds the bytes, if there is room for all of them.
-    pub(crate) fn add(&mut self, bytes: &[u8]) -> bool
-        ensures added { IsTrue result → waiting_bytes self.new ≡ waiting_bytes self.old ++ bytes.now }
+    /// Adds the text, if there is room for all of it.
+    pub(crate) fn add(&mut self, text: &str) -> bool
+        ensures added { IsTrue result → waiting_bytes self.new ≡ waiting_bytes self.old ++ text.now }
         ensures full { result ≡ false → self.new ≡ self.old }
     {
         let used = self.used;
-        if bytes.len() <= 1024 - used {
-            let end = used + bytes.len();
-            self.bytes[used..end].copy_from_slice(bytes);
+        if text.len() <= 1024 - used {
+            let end = used + text.len();
+            self.bytes[used..end].copy_from_slice(text.as_bytes());
             self.used = end;
             true
         } else {

@@ -11,7 +11,7 @@ ghost use Rattle.graphql_text.specs.Sinks.{CanFault, SinkTook, SinkFaulted};
 use crate::buffer::Buffer;
 use crate::place::Place;
 use crate::sink::TextSink;
-use crate::target::{Target, ToFormatter, ToSink, ToText, finish};
+use crate::target::{Target, ToFormatter, ToSink, ToText, finish, into_text};
 use std::alloc::{AllocError, Global};
 use std::fmt;
 use thiserror::Error;
@@ -51,11 +51,18 @@ pub trait Syntax {
     fn find_nesting(&self) -> Option<usize>
         ensures { MatchOption result (Overflows 0 (nesting (tree self.now))) (λ n. n ≡ nesting (tree self.now)) };
 
-    /// Writes the whole layout of the tree from a place on. Memory for its stacks is asked for before the first byte.
-    fn write<O: Target>(&self, out: &mut O, place: &Place<'_>) -> Result<(), AllocError>
+    /// Writes the whole layout of the tree from a place on. How deep its groups stand in one another is handed over, since
+    /// it was found before. Memory for its stacks is asked for before the first byte.
+    fn write<O: Target>(
+        &self,
+        out: &mut O,
+        place: &Place<'_>,
+        depth: usize,
+    ) -> Result<(), AllocError>
     where
         Self: Sized,
-        requires { Fits place.now.level (nesting (tree self.now)) }
+        requires fits { Fits place.now.level depth }
+        requires depth { depth ≡ nesting (tree self.now) }
         ensures ok { OnOk result (O.wrote out.old (encode_utf8_all (layout_of shape (mode_of place.now.prefix) place.now.level (tree self.now))) out.new) }
         ensures err { OnErr result (out.new ≡ out.old) }
         ensures free { parts (tree self.now) ≡ 0 → IsOk result };
@@ -138,8 +145,10 @@ fn send_layout<T: Syntax, S: TextSink>(
     tree: &T,
     out: &mut ToSink<'_, S>,
     place: &Place<'_>,
+    depth: usize,
 ) -> Result<(), AllocError>
-    requires level { Fits place.now.level (T.nesting (T.tree tree.now)) }
+    requires level { Fits place.now.level depth }
+    requires depth { depth ≡ T.nesting (T.tree tree.now) }
     requires faults { CanFault (S.fault_count out.old.sink.now) }
     requires fresh { out.old.stopped ≡ false }
     requires empty { waiting_bytes out.old.buffer ≡ [] }
@@ -149,7 +158,7 @@ fn send_layout<T: Syntax, S: TextSink>(
     ensures stopped { OnOk result (out.new.stopped ≡ true → SinkFaulted S.taken S.fault_count out.old.sink.now (encode_utf8_all (layout_of T.shape (mode_of place.now.prefix) place.now.level (T.tree tree.now))) out.new.sink.now) }
     ensures printed { OnOk result (out.new.stopped ≡ false → SinkTook S.taken S.fault_count out.old.sink.now (encode_utf8_all (layout_of T.shape (mode_of place.now.prefix) place.now.level (T.tree tree.now))) out.new.sink.now) }
 {
-    tree.write(out, place)?;
+    tree.write(out, place, depth)?;
     finish(out);
     Ok(())
 }
@@ -157,13 +166,14 @@ fn send_layout<T: Syntax, S: TextSink>(
 impl<'a, T: Syntax> Serialize<'a, T> {
     ghost use Rattle.graphql_text.specs.Printing.{ReadsAlone, print_tree, print_mode, print_level, print_bytes};
 
-    /// Whether the level and the nesting of the tree fit together.
-    fn fits(&self) -> bool
-        ensures { IsTrue result ↔ Fits (print_level self.now) (T.nesting (T.tree (print_tree self.now))) }
+    /// How deep the groups of the tree stand in one another, where that and the level fit together.
+    fn depth(&self) -> Option<usize>
+        ensures { MatchOption result (Overflows (print_level self.now) (T.nesting (T.tree (print_tree self.now))))
+            (λ depth. (depth ≡ T.nesting (T.tree (print_tree self.now))) × Fits (print_level self.now) depth) }
     {
         match self.tree.find_nesting() {
-            Some(nesting) => nesting <= usize::MAX - self.level,
-            None => false,
+            Some(depth) if depth <= usize::MAX - self.level => Some(depth),
+            _ => None,
         }
     }
 
@@ -197,15 +207,15 @@ impl<'a, T: Syntax> Serialize<'a, T> {
         ensures read { OnOk result (T.obeys (T.tree (print_tree self.now)) → IsBlankMode (print_mode self.now) →
             ReadsAlone T.derives (print_bytes T.shape T.tree self.now) (T.tree (print_tree self.now))) }
     {
-        if !self.fits() {
+        let Some(depth) = self.depth() else {
             return Err(PrintError::LevelOverflow);
-        }
+        };
         let mut out = ToSink {
             sink,
             stopped: false,
             buffer: Buffer::new(),
         };
-        if send_layout(self.tree, &mut out, &self.start()).is_err() {
+        if send_layout(self.tree, &mut out, &self.start(), depth).is_err() {
             return Err(PrintError::Memory);
         }
         if out.stopped {
@@ -227,22 +237,18 @@ impl<'a, T: Syntax> Serialize<'a, T> {
         ensures read { IfOk result (λ text. T.obeys (T.tree (print_tree self.now)) → IsBlankMode (print_mode self.now) →
             ReadsAlone T.derives (string_bytes text) (T.tree (print_tree self.now))) }
     {
-        if !self.fits() {
+        let Some(depth) = self.depth() else {
             return Err(PrintError::LevelOverflow);
-        }
+        };
         let mut out = ToText {
             text: String::new(alloc),
             failed: false,
+            buffer: Buffer::new(),
         };
-        if self.tree.write(&mut out, &self.start()).is_err() {
+        if self.tree.write(&mut out, &self.start(), depth).is_err() {
             return Err(PrintError::Memory);
         }
-        let ToText { text, failed } = out;
-        if failed {
-            Err(PrintError::Memory)
-        } else {
-            Ok(text)
-        }
+        into_text(out).ok_or(PrintError::Memory)
     }
 }
 
@@ -252,14 +258,14 @@ impl<'a, T: Syntax> fmt::Display for Serialize<'a, T> {
     ghost output = { λ s. Some (print_bytes T.shape T.tree s) };
 
     fn fmt<W: fmt::Write>(&self, f: &mut fmt::Formatter<W>) -> fmt::Result {
-        if !self.fits() {
+        let Some(depth) = self.depth() else {
             return Err(fmt::Error);
-        }
+        };
         let mut out = ToFormatter {
             formatter: f,
             failed: false,
         };
-        if self.tree.write(&mut out, &self.start()).is_err() {
+        if self.tree.write(&mut out, &self.start(), depth).is_err() {
             return Err(fmt::Error);
         }
         if out.failed { Err(fmt::Error) } else { Ok(()) }

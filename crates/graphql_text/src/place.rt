@@ -10,6 +10,7 @@ pub struct Place<'p> {
 
 impl<'p> Place<'p> {
     /// The same at the next level.
+    #[inline(always)]
     pub fn inner(self) -> Place<'p>
         requires { self.level < 2 ^ 64 - 1 }
         ensures prefix { result.prefix ≡ self.entry.prefix }
@@ -22,6 +23,7 @@ impl<'p> Place<'p> {
     }
 
     /// The same at the level before.
+    #[inline(always)]
     pub fn outer(self) -> Place<'p>
         requires { 0 < self.level }
         ensures prefix { result.prefix ≡ self.entry.prefix }
@@ -34,6 +36,7 @@ impl<'p> Place<'p> {
     }
 
     /// The same on one line.
+    #[inline(always)]
     pub fn flat(self) -> Place<'p>
         ensures prefix { result.prefix ≡ None }
         ensures level { result.level ≡ self.entry.level }

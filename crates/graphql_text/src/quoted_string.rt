@@ -1,6 +1,6 @@
 //! Quoted strings.
 
-ghost use Rattle.std.specs.Prelude.{◌≡◌, ◌<◌, ℕ, nat_lt, MatchOption, length, ◌∷◌, [], flat_map, chars, encode_utf8_all};
+ghost use Rattle.std.specs.Prelude.{◌≡◌, ◌<◌, ℕ, false, nat_lt, MatchOption, length, ◌∷◌, [], flat_map, chars, encode_utf8_all};
 ghost use Rattle.std.specs.List.{list_any};
 ghost use Rattle.graphql_text.specs.QuotedForm.{quoted_character, quoted_form};
 
@@ -14,7 +14,7 @@ fn is_escaped(byte: u8) -> bool
 }
 
 /// Whether some byte is escaped. There is no early exit, so the compiler makes it a loop over vectors.
-fn has_escaped(text: &str) -> bool
+pub(crate) fn has_escaped(text: &str) -> bool
     ensures { result ≡ list_any (λ byte. nat_lt 1 (length (quoted_character byte))) text.now }
 {
     let mut found = false;
@@ -81,22 +81,24 @@ fn write_runs<O: Target>(out: &mut O, text: &str)
     write_piece(out, &text[from..]);
 }
 
-/// Writes the string characters of a text.
-fn write_characters<O: Target>(out: &mut O, text: &str)
-    ensures { O.wrote out.old (flat_map quoted_character text.now) out.new }
+/// Writes the quoted form of a value of which nothing is escaped.
+pub(crate) fn write_plain<O: Target>(out: &mut O, value: &str)
+    requires { list_any (λ byte. nat_lt 1 (length (quoted_character byte))) value.now ≡ false }
+    ensures { O.wrote out.old (encode_utf8_all (quoted_form (chars value.now))) out.new }
 {
-    if has_escaped(text) {
-        write_runs(out, text);
-    } else {
-        write_piece(out, text);
-    }
+    out.text("\"");
+    write_piece(out, value);
+    out.text("\"");
 }
 
 /// Writes the quoted form of a value.
 pub(crate) fn write_quoted<O: Target>(out: &mut O, value: &str)
     ensures { O.wrote out.old (encode_utf8_all (quoted_form (chars value.now))) out.new }
 {
+    if !has_escaped(value) {
+        return write_plain(out, value);
+    }
     out.text("\"");
-    write_characters(out, value);
+    write_runs(out, value);
     out.text("\"");
 }

@@ -34,6 +34,7 @@ impl<T: Drop> Stack<T> {
     }
 
     /// Puts a part on the stack, which has room to spare.
+    #[inline(always)]
     pub fn push(&mut self, part: T)
         requires { length (stack_parts self.old) < stack_room self.old }
         ensures parts { stack_parts self.new ≡ stack_parts self.old ++ part ∷ [] }
@@ -45,6 +46,7 @@ impl<T: Drop> Stack<T> {
     }
 
     /// Takes the last part off the stack.
+    #[inline(always)]
     pub fn pop(&mut self) -> Option<T>
         ensures parts { MatchOption result ((stack_parts self.old ≡ []) × (stack_parts self.new ≡ [])) (λ part. stack_parts self.old ≡ stack_parts self.new ++ part ∷ []) }
         ensures room { stack_room self.old ≤ stack_room self.new }

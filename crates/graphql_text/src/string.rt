@@ -7,8 +7,21 @@ ghost use Rattle.graphql_text.specs.Writing.{WritesItems};
 
 use crate::block_string::{can_be_block, holds, write_block};
 use crate::place::Place;
-use crate::quoted_string::write_quoted;
+use crate::quoted_string::{has_escaped, write_plain, write_quoted};
 use crate::target::Target;
+
+/// Writes a string value that may hold characters to escape.
+#[inline(never)]
+fn write_with_escapes<O: Target>(out: &mut O, place: &Place<'_>, value: &str)
+    ensures { WritesItems O.wrote out.old out.new (mode_of place.now.prefix) place.now.level (StringItem (chars value.now) AsValue ∷ []) }
+{
+    match place.prefix {
+        Some(prefix) if holds(value, b'\n') && can_be_block(value) => {
+            write_block(out, prefix, place.level, value)
+        }
+        _ => write_quoted(out, value),
+    }
+}
 
 /// Writes a string value: as a block string under a prefix, if the value holds a line feed and can be a block string, else quoted.
 ///
@@ -17,11 +30,10 @@ use crate::target::Target;
 pub fn write_string_value<O: Target>(out: &mut O, place: &Place<'_>, value: &str)
     ensures { WritesItems O.wrote out.old out.new (mode_of place.now.prefix) place.now.level (StringItem (chars value.now) AsValue ∷ []) }
 {
-    match place.prefix {
-        Some(prefix) if holds(value, b'\n') && can_be_block(value) => {
-            write_block(out, prefix, place.level, value)
-        }
-        _ => write_quoted(out, value),
+    if has_escaped(value) {
+        write_with_escapes(out, place, value);
+    } else {
+        write_plain(out, value);
     }
 }
 

@@ -1,5 +1,5 @@
 //! What a printer writes to: a sink, a text, a formatter.
-ghost use Rattle.std.specs.Prelude.{◌≡◌, ◌++◌, ℕ, [], List, IsTrue, string_bytes};
+ghost use Rattle.std.specs.Prelude.{◌≡◌, ◌++◌, ℕ, [], List, IfSome, IsTrue, false, string_bytes};
 ghost use Rattle.std.proofs.Common.{refl, ◌∙◌};
 ghost use Rattle.graphql_text.specs.Buffer.{waiting_bytes};
 ghost use Rattle.graphql_text.specs.Sinks.{Sends, SendsBuffered};
@@ -43,12 +43,12 @@ pub(crate) struct ToSink<'a, S> {
     pub buffer: Buffer,
 }
 
-/// Sends what waits, and then lets the bytes wait, or sends them too. It answers whether writing stopped.
+/// Sends what waits, and then lets the text wait, or sends it too. It answers whether writing stopped.
 #[cold]
 #[inline(never)]
 #[tactic(auto, using(crate::proofs::Sending::both_taken, crate::proofs::Sending::second_faulted))]
-fn send<S: TextSink>(sink: &mut S, stopped: bool, buffer: &mut Buffer, bytes: &[u8]) -> bool
-    ensures { SendsBuffered S.taken S.fault_count sink.old stopped (waiting_bytes buffer.old) bytes.now sink.new result (waiting_bytes buffer.new) }
+fn send<S: TextSink>(sink: &mut S, stopped: bool, buffer: &mut Buffer, text: &str) -> bool
+    ensures { SendsBuffered S.taken S.fault_count sink.old stopped (waiting_bytes buffer.old) text.now sink.new result (waiting_bytes buffer.new) }
 {
     if stopped {
         return true;
@@ -60,10 +60,10 @@ fn send<S: TextSink>(sink: &mut S, stopped: bool, buffer: &mut Buffer, bytes: &[
         return true;
     }
     buffer.clear();
-    if buffer.add(bytes) {
+    if buffer.add(text) {
         return false;
     }
-    if put_all(sink, bytes).is_err() {
+    if put_all(sink, text.as_bytes()).is_err() {
         return true;
     }
     false
@@ -98,13 +98,8 @@ impl<'a, S: TextSink> Target for ToSink<'a, S> {
     ghost more = { λ a b c x y h k. (k.0 ∙ h.0, buffered_more S.taken S.fault_count a.sink.now b.sink.now c.sink.now a.stopped b.stopped c.stopped (waiting_bytes a.buffer) (waiting_bytes b.buffer) (waiting_bytes c.buffer) x y h.1 k.1) };
 
     fn text(&mut self, text: &str) {
-        if !self.buffer.add(text.as_bytes()) {
-            self.stopped = send(
-                &mut *self.sink,
-                self.stopped,
-                &mut self.buffer,
-                text.as_bytes(),
-            );
+        if !self.buffer.add(text) {
+            self.stopped = send(&mut *self.sink, self.stopped, &mut self.buffer, text);
         }
     }
 
@@ -113,28 +108,63 @@ impl<'a, S: TextSink> Target for ToSink<'a, S> {
     }
 }
 
-/// A target that is a text in memory.
+/// A target that is a text in memory, with a buffer before it.
 #[derive(Drop)]
 pub(crate) struct ToText {
     pub text: String,
     pub failed: bool,
+    pub buffer: Buffer,
+}
+
+/// Appends what waits to a text, and then lets more wait, or appends that too. It answers whether memory was refused.
+#[cold]
+#[inline(never)]
+fn append(text: &mut String, failed: bool, buffer: &mut Buffer, more: &str) -> bool
+    ensures { TextGrew (string_bytes text.old ++ waiting_bytes buffer.old) failed more.now (string_bytes text.new ++ waiting_bytes buffer.new) result }
+{
+    if failed {
+        return true;
+    }
+    if text.push_str(buffer.waiting_text()).is_err() {
+        return true;
+    }
+    buffer.clear();
+    if buffer.add(more) {
+        return false;
+    }
+    text.push_str(more).is_err()
+}
+
+/// The whole text, unless memory was refused.
+pub(crate) fn into_text(out: ToText) -> Option<String>
+    ensures { IfSome result (λ text. (out.failed ≡ false) × (string_bytes text ≡ string_bytes out.text ++ waiting_bytes out.buffer)) }
+{
+    let ToText {
+        mut text,
+        failed,
+        buffer,
+    } = out;
+    if failed || text.push_str(buffer.waiting_text()).is_err() {
+        return None;
+    }
+    Some(text)
 }
 
 impl Target for ToText {
-    ghost wrote = { λ a bytes b. TextGrew (string_bytes a.text) a.failed bytes (string_bytes b.text) b.failed };
+    ghost wrote = { λ a bytes b. TextGrew (string_bytes a.text ++ waiting_bytes a.buffer) a.failed bytes (string_bytes b.text ++ waiting_bytes b.buffer) b.failed };
 
     ghost stopped = { λ a. IsTrue a.failed };
 
-    ghost nothing = { λ a. grew_nothing (string_bytes a.text) a.failed };
+    ghost nothing = { λ a. grew_nothing (string_bytes a.text ++ waiting_bytes a.buffer) a.failed };
 
-    ghost idle = { λ a bytes h. grew_idle (string_bytes a.text) a.failed bytes h };
+    ghost idle = { λ a bytes h. grew_idle (string_bytes a.text ++ waiting_bytes a.buffer) a.failed bytes h };
 
-    ghost more = { λ a b c x y h k. grew_more (string_bytes a.text) (string_bytes b.text) (string_bytes c.text) a.failed b.failed c.failed x y h k };
+    ghost more = { λ a b c x y h k. grew_more (string_bytes a.text ++ waiting_bytes a.buffer) (string_bytes b.text ++ waiting_bytes b.buffer) (string_bytes c.text ++ waiting_bytes c.buffer) a.failed b.failed c.failed x y h k };
 
-    // It may grow on after a failure: what stands in it then is never handed out.
+    // It may go on after a failure: what stands in it then is never handed out.
     fn text(&mut self, text: &str) {
-        if self.text.push_str(text).is_err() {
-            self.failed = true;
+        if !self.buffer.add(text) {
+            self.failed = append(&mut self.text, self.failed, &mut self.buffer, text);
         }
     }
 

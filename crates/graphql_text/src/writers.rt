@@ -6,9 +6,9 @@ ghost use Rattle.graphql_text.specs.Layout.{Item, Word, Soft, Tight, last_comma,
 ghost use Rattle.graphql_text.specs.Literals.{is_int, is_float};
 ghost use Rattle.graphql_text.specs.Place.{mode_of};
 ghost use Rattle.graphql_text.specs.Tokens.{Name as NameToken, IntValue, FloatValue};
-ghost use Rattle.graphql_text.specs.Writing.{WritesItems, fixed_text};
+ghost use Rattle.graphql_text.specs.Writing.{IsCommaLead, WritesItems, fixed_text};
 
-use crate::breaks::{indent, line_break};
+use crate::breaks::{comma_break, indent, line_break, ready_comma_break};
 use crate::place::Place;
 use crate::target::Target;
 use graphql_base::name::Name;
@@ -54,6 +54,7 @@ pub fn write_soft<O: Target>(out: &mut O, place: &Place<'_>)
 }
 
 /// Writes a break under a prefix, else nothing.
+#[inline(always)]
 pub fn write_tight<O: Target>(out: &mut O, place: &Place<'_>)
     ensures { WritesItems O.wrote out.old out.new (mode_of place.now.prefix) place.now.level (Tight ∷ []) }
 {
@@ -63,16 +64,40 @@ pub fn write_tight<O: Target>(out: &mut O, place: &Place<'_>)
     }
 }
 
+/// What stands before an item of a comma group that isn't the first, where that is a text at hand: under a prefix of two
+/// spaces up to level 30. A writer of many items asks once.
+#[inline(always)]
+pub fn ready_comma_lead(place: &Place<'_>) -> Option<&'static str>
+    ensures { IsCommaLead (mode_of place.now.prefix) place.now.level result }
+{
+    match place.prefix {
+        Some(prefix) => ready_comma_break(prefix, place.level),
+        None => None,
+    }
+}
+
 /// Writes what stands before an item of a comma group: a break under a prefix, after a comma unless it is the first item; on
-/// one line a comma and a space, and nothing before the first item.
-pub fn write_comma_lead<O: Target>(out: &mut O, place: &Place<'_>, is_first: bool)
+/// one line a comma and a space, and nothing before the first item. The text that `ready_comma_lead` answers may be handed
+/// over, or none.
+#[inline(always)]
+pub fn write_comma_lead<O: Target>(
+    out: &mut O,
+    place: &Place<'_>,
+    ready: Option<&'static str>,
+    is_first: bool,
+)
+    requires { IsCommaLead (mode_of place.now.prefix) place.now.level ready }
     ensures { WritesItems O.wrote out.old out.new (mode_of place.now.prefix) place.now.level (comma_lead is_first) }
 {
     if is_first {
-        write_tight(out, place);
-    } else {
-        write_words(out, ",");
-        write_soft(out, place);
+        return write_tight(out, place);
+    }
+    match place.prefix {
+        Some(prefix) => match ready {
+            Some(text) => out.text(text),
+            None => comma_break(out, prefix, place.level),
+        },
+        None => out.text(", "),
     }
 }
 

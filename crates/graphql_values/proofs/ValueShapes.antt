@@ -1,5 +1,5 @@
 -- The layout and the nesting of a list and of an object, over the slice of its items or fields.
-use Rattle.std.proofs.Common.{◌≡◌, ◌+◌, ◌<◌, max, Bool, true, false, List, [], ◌∷◌, ◌++◌, length, refl, ap, sym, ◌∙◌, arith}
+use Rattle.std.proofs.Common.{◌≡◌, ◌<◌, ◌≤◌, Bool, true, false, List, [], ◌∷◌, ◌++◌, length, refl, ap, sym, ◌∙◌, arith, Some, codes}
 use Rattle.std.specs.declared.alloc.Global.{Global}
 use Rattle.std.specs.declared.vec.Vec.{Vec}
 use Rattle.graphql_base.specs.Name.{name_text}
@@ -10,10 +10,11 @@ use Rattle.graphql_values.specs.declared.value.Value.TheOpen as layer
 use Rattle.graphql_values.specs.declared.value.Value.TheVariants as variant
 use Rattle.graphql_values.specs.declared.value.Value.TheFolds.{fold-roll-Value}
 use Rattle.graphql_text.specs.Tokens.{lbracket, rbracket, lbrace, rbrace, colon, Punctuation, Name as NameToken}
-use Rattle.graphql_text.specs.Layout.{Item, Word, Space, Raise, raises, lowers, each_after}
+use Rattle.graphql_text.specs.Layout.{Word, Space, Raise, raises, lowers, each_after}
 use Rattle.graphql_text.specs.Groups.{comma_rest}
+use Rattle.graphql_text.specs.Writing.{fixed_text}
 use Rattle.graphql_text.proofs.GroupLaws.{comma_group_opened, AllBalanced, comma_balanced}
-use Rattle.graphql_values.specs.ValueSteps.{opening, opened_level}
+use Rattle.graphql_values.specs.ValueWalk.{opening, opening_word, opened_level}
 use Rattle.graphql_values.specs.Values.{ValueTree, ValueTrees, more_values, ObjectFieldTrees, more_fields, null_value, enum_value, variable, float_value, int_value, string_value, boolean_value, no_values, no_fields, value_shape, values_shapes, object_fields_shapes, list_value, object_value, value_nesting, values_nesting, object_fields_nesting}
 use Rattle.std.specs.Prelude.{String}
 use Rattle.graphql_values.specs.declared.literal.IntValue.{IntValue}
@@ -115,20 +116,90 @@ empty_object v h = value_tree_object v ∙ go v.items h
     go [] k = refl
     go (f ∷ fs) k = absurd (omega arith)
 
-module _ (broken : Bool) where
-  pub list_opening : (v : Vec (Node Value) Global) → 0 < length v.items → opening broken (value_tree (variant.List v)) ≡ Word (Punctuation lbracket) ∷ Raise ∷ []
-  list_opening v h = rw (value_tree_list v) (go v.items h)
-    where
-      go : (ns : List (Node Value)) → 0 < length ns → opening broken (list_value (value_trees ns)) ≡ Word (Punctuation lbracket) ∷ Raise ∷ []
-      go [] k = absurd (omega arith)
-      go (n ∷ ns) k = refl
+-- a list and an object that hold nothing
+pub leaf_list : (v : Vec (Node Value) Global) → opened_level (value_tree (variant.List v)) ≡ 0 → value_tree (variant.List v) ≡ list_value no_values
+leaf_list v h = value_tree_list v ∙ go v.items (sym (ap opened_level (value_tree_list v)) ∙ h)
+  where
+    go : (ns : List (Node Value)) → opened_level (list_value (value_trees ns)) ≡ 0 → list_value (value_trees ns) ≡ list_value no_values
+    go [] k = refl
+    go (n ∷ ns) k = absurd (omega arith)
 
-  pub object_opening : (v : Vec (Name × Node Value) Global) → 0 < length v.items → opening broken (value_tree (variant.Object v)) ≡ Word (Punctuation lbrace) ∷ Raise ∷ []
-  object_opening v h = rw (value_tree_object v) (go v.items h)
-    where
-      go : (fs : List (Name × Node Value)) → 0 < length fs → opening broken (object_value (object_field_trees fs)) ≡ Word (Punctuation lbrace) ∷ Raise ∷ []
-      go [] k = absurd (omega arith)
-      go (f ∷ fs) k = refl
+pub leaf_object : (v : Vec (Name × Node Value) Global) → opened_level (value_tree (variant.Object v)) ≡ 0 → value_tree (variant.Object v) ≡ object_value no_fields
+leaf_object v h = value_tree_object v ∙ go v.items (sym (ap opened_level (value_tree_object v)) ∙ h)
+  where
+    go : (fs : List (Name × Node Value)) → opened_level (object_value (object_field_trees fs)) ≡ 0 → object_value (object_field_trees fs) ≡ object_value no_fields
+    go [] k = refl
+    go (f ∷ fs) k = absurd (omega arith)
+
+-- the bracket of a list and of an object that holds something
+pub list_bracket : (v : Vec (Node Value) Global) → 0 < length v.items → fixed_text (opening_word (value_tree (variant.List v))) ≡ Some (codes "[")
+list_bracket v h = rw (value_tree_list v) (go v.items h)
+  where
+    go : (ns : List (Node Value)) → 0 < length ns → fixed_text (opening_word (list_value (value_trees ns))) ≡ Some (codes "[")
+    go [] k = absurd (omega arith)
+    go (n ∷ ns) k = refl
+
+pub object_bracket : (v : Vec (Name × Node Value) Global) → 0 < length v.items → fixed_text (opening_word (value_tree (variant.Object v))) ≡ Some (codes "{")
+object_bracket v h = rw (value_tree_object v) (go v.items h)
+  where
+    go : (fs : List (Name × Node Value)) → 0 < length fs → fixed_text (opening_word (object_value (object_field_trees fs))) ≡ Some (codes "{")
+    go [] k = absurd (omega arith)
+    go (f ∷ fs) k = refl
+
+-- what opens a value that holds something, and one that doesn't
+pub group_opening : (broken : Bool) (value : ValueTree) → opened_level value ≡ 1 → opening broken value ≡ opening_word value ++ (Raise ∷ [])
+group_opening broken (list_value (more_values value more)) e = refl
+group_opening broken (object_value (more_fields name value more)) e = refl
+group_opening broken (list_value no_values) e = absurd (omega arith)
+group_opening broken (object_value no_fields) e = absurd (omega arith)
+group_opening broken null_value e = absurd (omega arith)
+group_opening broken (enum_value name) e = absurd (omega arith)
+group_opening broken (variable name) e = absurd (omega arith)
+group_opening broken (string_value string) e = absurd (omega arith)
+group_opening broken (float_value float) e = absurd (omega arith)
+group_opening broken (int_value int) e = absurd (omega arith)
+group_opening broken (boolean_value boolean) e = absurd (omega arith)
+
+pub leaf_opening : (broken : Bool) (value : ValueTree) → opened_level value ≡ 0 → opening broken value ≡ value_shape broken value
+leaf_opening broken (list_value (more_values value more)) e = absurd (omega arith)
+leaf_opening broken (object_value (more_fields name value more)) e = absurd (omega arith)
+leaf_opening broken (list_value no_values) e = refl
+leaf_opening broken (object_value no_fields) e = refl
+leaf_opening broken null_value e = refl
+leaf_opening broken (enum_value name) e = refl
+leaf_opening broken (variable name) e = refl
+leaf_opening broken (string_value string) e = refl
+leaf_opening broken (float_value float) e = refl
+leaf_opening broken (int_value int) e = refl
+leaf_opening broken (boolean_value boolean) e = refl
+
+-- a value that holds nothing nests nothing
+pub leaf_nesting : (value : ValueTree) → opened_level value ≡ 0 → value_nesting value ≡ 0
+leaf_nesting (list_value (more_values value more)) e = absurd (omega arith)
+leaf_nesting (object_value (more_fields name value more)) e = absurd (omega arith)
+leaf_nesting (list_value no_values) e = refl
+leaf_nesting (object_value no_fields) e = refl
+leaf_nesting null_value e = refl
+leaf_nesting (enum_value name) e = refl
+leaf_nesting (variable name) e = refl
+leaf_nesting (string_value string) e = refl
+leaf_nesting (float_value float) e = refl
+leaf_nesting (int_value int) e = refl
+leaf_nesting (boolean_value boolean) e = refl
+
+-- a value that holds something nests at least one deep
+pub group_nests : (value : ValueTree) → opened_level value ≤ value_nesting value
+group_nests (list_value (more_values value more)) = omega arith
+group_nests (object_value (more_fields name value more)) = omega arith
+group_nests (list_value no_values) = omega arith
+group_nests (object_value no_fields) = omega arith
+group_nests null_value = omega arith
+group_nests (enum_value name) = omega arith
+group_nests (variable name) = omega arith
+group_nests (string_value string) = omega arith
+group_nests (float_value float) = omega arith
+group_nests (int_value int) = omega arith
+group_nests (boolean_value boolean) = omega arith
 
 -- what is written of a value raises the level as often as it lowers it
 mutual

@@ -1,11 +1,33 @@
--- Values, type references, arguments and directives: trees, grammar, layout and side conditions.
+-- Values, type references, arguments, directives, input value definitions and directive definitions: trees, grammar, layout and side conditions.
 pub mod Values
 pub mod Literals
 pub mod ValueTrees
 pub mod ValueParts
 pub mod TypeReferences
+pub mod Wrappings
+pub mod TypeTrees
+pub mod TypeEnds
 pub mod Arguments
 pub mod Directives
+pub mod DirectiveTrees
+pub mod Named
+pub mod GetAll
+pub mod DirectiveLoans
+pub mod FirstChanged
+pub mod ArgumentLoans
+pub mod OperationTypes
+pub mod DirectiveLocations
+pub mod LocationTrees
+pub mod Descriptions
+pub mod DefaultValues
+pub mod InputValues
+pub mod JoinedNames
+pub mod DirectiveDefinitions
+pub mod DefinitionTrees
+pub mod NamedDefinitions
+pub mod InputValueQueries
+pub mod DefinitionLoans
+pub mod ArgumentValues
 pub mod Lookahead
-pub mod ValueSteps
+pub mod ValueWalk
 pub mod laws

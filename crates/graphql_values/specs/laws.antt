@@ -2,6 +2,7 @@
 pub mod ValueReading
 pub mod DirectiveReading
 pub mod TypeReading
+pub mod DefinitionReading
 pub mod ReadBack
 pub mod Told
 pub mod KindLaws

@@ -1,18 +1,43 @@
-//! What holds of values, types, arguments and directives as they are printed and read.
+//! What holds of values, types, arguments, directives, input value definitions and directive definitions as they are printed and read.
 //!
 //! Each function does nothing: its contract is the law.
-ghost use Rattle.std.specs.Prelude.{◌≡◌, ◌↔◌, IsTrue, MatchOption, List, [], ◌∷◌, codes, true, refl};
+ghost use Rattle.std.specs.Prelude.{◌≡◌, ◌<◌, ◌↔◌, Bool, IsTrue, length, MatchOption, List, [], ◌∷◌, codes, Some, None, true, false, refl};
 ghost use Rattle.graphql_text.specs.Forms.{a_mark};
 ghost use Rattle.graphql_text.specs.Printing.{ReadsAlone};
 ghost use Rattle.graphql_text.specs.Reading.{Laws, ReadsAs};
-ghost use Rattle.graphql_text.specs.Tokens.{at, bang, lparen};
+ghost use Rattle.graphql_text.specs.Tokens.{at, bang, bar, equals, lparen};
 ghost use Rattle.graphql_values.specs.Lookahead.{IsReadOneWay};
 ghost use Rattle.graphql_values.specs.Arguments.{ArgumentTree, argument_form, argument_obeys, argument_shape};
 ghost use Rattle.graphql_values.specs.Directives.{DirectiveTree, directive_form, directive_obeys, directive_shape, directives_form, directives_obey, directives_shape, directive_nesting, directives_nesting};
-ghost use Rattle.graphql_values.specs.TypeReferences.{TypeTree, type_form, type_shape};
+ghost use Rattle.graphql_values.specs.DirectiveTrees.{directive_tree, directive_trees};
+ghost use Rattle.graphql_values.specs.DirectiveDefinitions.{DirectiveDefinitionTree, directive_definition_form, directive_definition_nesting, directive_definition_obeys, directive_definition_shape};
+ghost use Rattle.graphql_values.specs.DirectiveLocations as location;
+ghost use Rattle.graphql_values.specs.InputValues.{InputValueTree, arguments_definition_form, input_value_form, input_value_nesting, input_value_obeys, input_value_shape};
+ghost use Rattle.graphql_values.specs.TypeReferences.{TypeTree, list_type, named_type, non_null_named_type, type_form, type_shape};
+ghost use Rattle.graphql_values.specs.TypeTrees.{type_tree, type_wrapping};
+ghost use Rattle.graphql_values.specs.Wrappings.{IsAssignable, is_non_null, renamed, tree_nullability, tree_wrapping, with_nullability};
+ghost use Rattle.graphql_values.specs.Literals.{name_tree};
 ghost use Rattle.graphql_values.specs.Values.{Const, Constness, NonConst, ValueTree, boolean_value, int_value, list_value, more_fields, more_values, no_fields, no_values, object_value, string_value, value_form, value_nesting, value_obeys, value_shape};
 ghost use Rattle.graphql_values.specs.ValueTrees.{IsCloneOf, value_tree};
 
+mod definitions;
+mod directives;
+
+use crate::directive::{Directive, DirectiveList};
+pub use crate::laws::definitions::{
+    clones_are_the_same_directive_definition, clones_are_the_same_input_value_definition,
+    directive_definitions_compare_by_tree, directive_locations_compare_by_tree,
+    equal_directive_definitions_hash_alike, equal_input_value_definitions_hash_alike,
+    input_value_definitions_compare_by_tree, operation_types_compare_by_tree,
+};
+pub use crate::laws::directives::{
+    argument_by_name_errors_compare_by_variant, arguments_compare_by_tree,
+    clones_are_the_same_argument, clones_are_the_same_directive,
+    clones_are_the_same_directive_list, directive_lists_compare_by_tree, directive_look_ups_agree,
+    directives_compare_by_tree, equal_arguments_hash_alike, equal_directive_lists_hash_alike,
+    equal_directives_hash_alike, get_all_ends, specified_argument_errors_compare_by_variant,
+};
+use crate::types::Type;
 use crate::value::Value;
 use std::fmt::Display;
 use std::hash::Hash;
@@ -50,14 +75,44 @@ pub fn directive_lists_are_read_back()
     ensures laws { Laws {Tree = List DirectiveTree} (λ broken front. directives_shape) directives_nesting (λ directives. IsTrue (directives_obey NonConst directives)) (directives_form NonConst) }
 {}
 
+/// What is displayed of a directive that obeys the side conditions is read as that directive and as no other.
+pub fn displayed_directives_are_read(directive: &Directive)
+    ensures { IsTrue (directive_obeys NonConst (directive_tree directive.now)) →
+        MatchOption (⟦<Directive as Display>⟧.output directive.now) ⊥ (λ bytes. ReadsAlone (directive_form NonConst) bytes (directive_tree directive.now)) }
+{
+    let _directive = directive;
+}
+
+/// What is displayed of a list of directives that obey the side conditions is read as that list and as no other.
+pub fn displayed_directive_lists_are_read(list: &DirectiveList)
+    ensures { IsTrue (directives_obey NonConst (directive_trees list.now)) →
+        MatchOption (⟦<DirectiveList as Display>⟧.output list.now) ⊥ (λ bytes. ReadsAlone (directives_form NonConst) bytes (directive_trees list.now)) }
+{
+    let _list = list;
+}
+
+/// An input value definition that obeys the side conditions is read as that definition and as no other.
+pub fn input_value_definitions_are_read_back()
+    ensures laws { Laws {Tree = InputValueTree} (λ broken front. input_value_shape broken) input_value_nesting (λ input. IsTrue (input_value_obeys input)) input_value_form }
+{}
+
+/// A directive definition that obeys the side conditions is read as that definition and as no other.
+pub fn directive_definitions_are_read_back()
+    ensures laws { Laws {Tree = DirectiveDefinitionTree} (λ broken front. directive_definition_shape broken) directive_definition_nesting (λ definition. IsTrue (directive_definition_obeys definition)) directive_definition_form }
+{}
+
 /// Each part is read in one way, at a constant place or not: a value and an argument whatever follows it; a directive before anything but `(`,
-/// a list of directives before anything but `@` and `(`, a type before anything but `!`.
+/// a list of directives before anything but `@` and `(`, a type before anything but `!`; an input value definition before anything but `!`, `=`, `@`
+/// and `(`, an arguments definition, which may be left out, before anything but `(`, a directive definition before anything but `|`.
 pub fn parts_are_read_in_one_way()
     ensures values { (c : Constness) → IsReadOneWay (value_form c) [] }
     ensures arguments { (c : Constness) → IsReadOneWay (argument_form c) [] }
     ensures directives { (c : Constness) → IsReadOneWay (directive_form c) (a_mark lparen ∷ []) }
     ensures directive_lists { (c : Constness) → IsReadOneWay (directives_form c) (a_mark at ∷ a_mark lparen ∷ []) }
     ensures types { IsReadOneWay type_form (a_mark bang ∷ []) }
+    ensures input_values { IsReadOneWay input_value_form (a_mark bang ∷ a_mark equals ∷ a_mark at ∷ a_mark lparen ∷ []) }
+    ensures arguments_definitions { IsReadOneWay arguments_definition_form (a_mark lparen ∷ []) }
+    ensures directive_definitions { IsReadOneWay directive_definition_form (a_mark bar ∷ []) }
 {}
 
 /// Two values are equal exactly if their trees are the same: wherever they and their parts stand in a source text.
@@ -76,6 +131,51 @@ pub fn clones_are_the_same_value(value: &Value, copy: &Value)
     ensures tree { ⟦<Value as Clone>⟧.is_clone value.now copy.now → value_tree copy.now ≡ value_tree value.now }
 {}
 
+/// Two types are equal exactly if their trees are the same: wherever their names stand in a source text.
+pub fn types_compare_by_tree(a: &Type, b: &Type)
+    ensures { IsTrue (⟦<Type as PartialEq>⟧.eq a.now b.now) ↔ (type_tree a.now ≡ type_tree b.now) }
+{}
+
+/// Equal types hash alike.
+pub fn equal_types_hash_alike(a: &Type, b: &Type)
+    ensures { IsTrue (⟦<Type as PartialEq>⟧.eq a.now b.now) → ⟦<Type as Hash>⟧.hash_input a.now ≡ ⟦<Type as Hash>⟧.hash_input b.now }
+{}
+
+/// A clone is the same type around the very name, at the same location.
+pub fn clones_are_the_same_type(ty: &Type, copy: &Type)
+    ensures wrapping { ⟦<Type as Clone>⟧.is_clone ty.now copy.now → type_wrapping copy.now ≡ type_wrapping ty.now }
+    ensures tree { ⟦<Type as Clone>⟧.is_clone ty.now copy.now → type_tree copy.now ≡ type_tree ty.now }
+{}
+
+/// A type is a base name and a list of at least one nullability, the outermost first: these are the whole tree.
+pub fn types_are_wrapped_names(ty: &Type)
+    ensures name { tree_wrapping (type_tree ty.now) ≡ renamed name_tree (type_wrapping ty.now) }
+    ensures some { (tree : TypeTree) → 0 < length (tree_nullability tree) }
+    ensures whole { (tree other : TypeTree) → tree_wrapping tree ≡ tree_wrapping other → tree ≡ other }
+{}
+
+/// What `non_null` makes is non-null, and what `nullable` makes is not, whatever the type was before. Made again, it stays the same.
+pub fn nullability_is_set(ty: &Type, made: &Type)
+    ensures set { (non_null : Bool) → type_wrapping made.now ≡ with_nullability non_null (type_wrapping ty.now) → is_non_null (type_tree made.now) ≡ non_null }
+    ensures idempotent { (non_null : Bool) → type_wrapping made.now ≡ with_nullability non_null (type_wrapping ty.now) →
+        with_nullability non_null (type_wrapping made.now) ≡ type_wrapping made.now }
+{}
+
+/// Assignability is an order of types: each is assignable to itself, a first to a third that a second between them joins, and two to each other only if
+/// they are the same.
+pub fn assignability_is_an_order()
+    ensures reflexive { (ty : TypeTree) → IsAssignable ty ty }
+    ensures transitive { (a b c : TypeTree) → IsAssignable a b → IsAssignable b c → IsAssignable a c }
+    ensures antisymmetric { (a b : TypeTree) → IsAssignable a b → IsAssignable b a → a ≡ b }
+{}
+
+/// What is displayed of a type is read as that type and as no other.
+pub fn displayed_types_are_read(ty: &Type)
+    ensures { MatchOption (⟦<Type as Display>⟧.output ty.now) ⊥ (λ bytes. ReadsAlone type_form bytes (type_tree ty.now)) }
+{
+    let _ty = ty;
+}
+
 /// Texts that are read, and as what. Not all of them are printed of any tree.
 pub fn worked_readings()
     ensures list { ReadsAs (value_form NonConst) (codes "[1 2,,3 #c\n]")
@@ -87,13 +187,23 @@ pub fn worked_readings()
     ensures repeated_fields { ReadsAs (value_form NonConst) (codes "{a: 1, a: 2}")
         (object_value (more_fields (record { text = codes "a"; valid = refl }) (int_value (record { text = codes "1"; valid = refl })) (more_fields (record { text = codes "a"; valid = refl }) (int_value (record { text = codes "2"; valid = refl })) no_fields))) }
     ensures no_directives { ReadsAs (directives_form NonConst) [] [] }
+    ensures input_value_definition { ReadsAs input_value_form (codes "\"d\" a: [Int!] = [1] @x")
+        (record { description = Some (record { text = codes "d"; valid = refl }); name = (record { text = codes "a"; valid = refl }); type = list_type (non_null_named_type (record { text = codes "Int"; valid = refl })); default_value = Some (list_value (more_values (int_value (record { text = codes "1"; valid = refl })) no_values)); directives = (record { name = (record { text = codes "x"; valid = refl }); arguments = [] } ∷ []) }) }
+    ensures directive_definition { ReadsAs directive_definition_form (codes "directive @d(a: Int @x, b: Int) repeatable on | FIELD | QUERY")
+        (record { description = None; name = (record { text = codes "d"; valid = refl }); arguments = (record { description = None; name = (record { text = codes "a"; valid = refl }); type = named_type (record { text = codes "Int"; valid = refl }); default_value = None; directives = (record { name = (record { text = codes "x"; valid = refl }); arguments = [] } ∷ []) }) ∷ (record { description = None; name = (record { text = codes "b"; valid = refl }); type = named_type (record { text = codes "Int"; valid = refl }); default_value = None; directives = [] }) ∷ []; repeatable = true; locations = location.Field ∷ location.Query ∷ [] }) }
+    ensures directive_locations { ReadsAs directive_definition_form (codes "directive @d on QUERY | MUTATION | SUBSCRIPTION | FIELD | FRAGMENT_DEFINITION | FRAGMENT_SPREAD | INLINE_FRAGMENT | VARIABLE_DEFINITION | SCHEMA | SCALAR | OBJECT | FIELD_DEFINITION | ARGUMENT_DEFINITION | INTERFACE | UNION | ENUM | ENUM_VALUE | INPUT_OBJECT | INPUT_FIELD_DEFINITION")
+        (record { description = None; name = (record { text = codes "d"; valid = refl }); arguments = []; repeatable = false; locations = location.Query ∷ location.Mutation ∷ location.Subscription ∷ location.Field ∷ location.FragmentDefinition ∷ location.FragmentSpread ∷ location.InlineFragment ∷ location.VariableDefinition ∷ location.Schema ∷ location.Scalar ∷ location.Object ∷ location.FieldDefinition ∷ location.ArgumentDefinition ∷ location.Interface ∷ location.Union ∷ location.Enum ∷ location.EnumValue ∷ location.InputObject ∷ location.InputFieldDefinition ∷ [] }) }
 {}
 
-/// Texts that are read as no value: an exponent without digits, a leading zero, a string and a list that do not end, and a variable at a constant place.
+/// Texts that are read as no value: an exponent without digits, a leading zero, a string and a list that do not end, and a variable at a constant place;
+/// as no input value definition: one with a variable as its default value; as no directive definition: one without a location, and one with a word that is no location.
 pub fn refused_readings()
     ensures no_exponent { (value : ValueTree) → ReadsAs (value_form NonConst) (codes "1e") value → ⊥ }
     ensures leading_zero { (value : ValueTree) → ReadsAs (value_form NonConst) (codes "01") value → ⊥ }
     ensures unterminated { (value : ValueTree) → ReadsAs (value_form NonConst) (codes "\"a") value → ⊥ }
     ensures bracket_in_comment { (value : ValueTree) → ReadsAs (value_form NonConst) (codes "[1 #c]") value → ⊥ }
     ensures constant_variable { (value : ValueTree) → ReadsAs (value_form Const) (codes "$a") value → ⊥ }
+    ensures default_variable { (input : InputValueTree) → ReadsAs input_value_form (codes "a: Int = $x") input → ⊥ }
+    ensures no_location { (definition : DirectiveDefinitionTree) → ReadsAs directive_definition_form (codes "directive @d") definition → ⊥ }
+    ensures unknown_location { (definition : DirectiveDefinitionTree) → ReadsAs directive_definition_form (codes "directive @d on Field") definition → ⊥ }
 {}

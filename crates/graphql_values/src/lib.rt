@@ -1,10 +1,23 @@
 //! GraphQL's values, types, arguments and directives.
 #![tactic(auto)]
 
+pub mod arguments;
+pub mod definition;
+pub mod directive;
+pub mod directive_list;
+mod directive_list_syntax;
+mod directive_syntax;
+mod directive_writer;
 pub mod laws;
 pub mod literal;
+pub mod location;
 mod number_syntax;
+pub mod operation_type;
 mod owned_text;
+#[cfg(test)]
+mod refusals;
+mod type_writer;
+pub mod types;
 pub mod value;
 mod value_syntax;
 mod value_writer;

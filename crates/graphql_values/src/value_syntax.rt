@@ -52,14 +52,15 @@ fn write_layout<'a, O: Target>(
     value: &'a Value,
     out: &mut O,
     place: &Place<'_>,
+    depth: usize,
 ) -> Result<(), AllocError>
-    requires { Fits place.now.level (value_nesting (value_tree value.now)) }
+    requires fits { Fits place.now.level depth }
+    requires depth { depth ≡ value_nesting (value_tree value.now) }
     ensures ok { OnOk result (O.wrote out.old (encode_utf8_all (layout_of (λ broken is_front. value_shape broken) (mode_of place.now.prefix) place.now.level (value_tree value.now))) out.new) }
     ensures err { OnErr result (out.new ≡ out.old) }
     ensures free { value_nesting (value_tree value.now) ≡ 0 → IsOk result }
 {
-    let parts = find_value_nesting(value).ok_or(AllocError)?;
-    let mut stack: Stack<ValuePart<'a>> = Stack::reserve(value.allocator(), parts)?;
+    let mut stack: Stack<ValuePart<'a>> = Stack::reserve(value.allocator(), depth)?;
     write_first_indent(out, place);
     write_value(value, out, place, &mut stack);
     Ok(())
@@ -90,8 +91,13 @@ impl Syntax for Value {
         find_value_nesting(self)
     }
 
-    fn write<O: Target>(&self, out: &mut O, place: &Place<'_>) -> Result<(), AllocError> {
-        write_layout(self, out, place)
+    fn write<O: Target>(
+        &self,
+        out: &mut O,
+        place: &Place<'_>,
+        depth: usize,
+    ) -> Result<(), AllocError> {
+        write_layout(self, out, place, depth)
     }
 }
 

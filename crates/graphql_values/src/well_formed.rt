@@ -1,8 +1,12 @@
-//! Which values may be printed and read back.
+//! Which values, arguments and directives may be printed and read back.
 ghost use Rattle.std.specs.Prelude.{◌≡◌};
+ghost use Rattle.graphql_values.specs.Arguments.{arguments_obey};
+ghost use Rattle.graphql_values.specs.Directives.{directives_obey};
+ghost use Rattle.graphql_values.specs.DirectiveTrees.{argument_trees, directive_node_trees};
 ghost use Rattle.graphql_values.specs.ValueTrees.{constness_of, object_field_trees, value_tree, value_trees};
 ghost use Rattle.graphql_values.specs.Values.{admits_variables, is_enum_name, object_fields_obey, value_obeys, values_obey};
 
+use crate::directive::{Argument, Directive};
 use crate::value::Value;
 use graphql_base::name::Name;
 use graphql_base::node::Node;
@@ -64,6 +68,30 @@ fn are_fields_well_formed_at(fields: &[(Name, Node<Value>)], constness: Constnes
 {
     for field in fields {
         if !is_well_formed_at(&field.1, constness) {
+            return false;
+        }
+    }
+    true
+}
+
+/// Whether each argument's value is well formed at the place.
+pub fn are_arguments_well_formed(arguments: &[Node<Argument>], constness: Constness) -> bool
+    ensures { result ≡ arguments_obey (constness_of constness) (argument_trees arguments.now) }
+{
+    for argument in arguments {
+        if !is_well_formed_at(&argument.value, constness) {
+            return false;
+        }
+    }
+    true
+}
+
+/// Whether the arguments of each directive are well formed at the place.
+pub fn are_directives_well_formed(directives: &[Node<Directive>], constness: Constness) -> bool
+    ensures { result ≡ directives_obey (constness_of constness) (directive_node_trees directives.now) }
+{
+    for directive in directives {
+        if !are_arguments_well_formed(&directive.arguments, constness) {
             return false;
         }
     }

@@ -3,11 +3,12 @@
 ghost use Rattle.std.specs.Prelude.{◌<◌};
 
 use super::{
-    write_comma_lead, write_first_indent, write_float, write_int, write_last_comma, write_name,
-    write_soft, write_tight, write_words,
+    ready_comma_lead, write_comma_lead, write_first_indent, write_float, write_int,
+    write_last_comma, write_name, write_soft, write_tight, write_words,
 };
+use crate::buffer::Buffer;
 use crate::place::Place;
-use crate::target::{Target, ToText};
+use crate::target::{ToText, into_text};
 use graphql_base::name;
 use std::alloc::Global;
 use std::test::Fail;
@@ -18,13 +19,14 @@ fn text_at(alloc: Global, place: Place<'_>) -> ToText
     let mut out = ToText {
         text: String::new(alloc),
         failed: false,
+        buffer: Buffer::new(),
     };
     let inner = place.inner();
     write_first_indent(&mut out, &place);
     write_words(&mut out, "[");
-    write_comma_lead(&mut out, &inner, true);
+    write_comma_lead(&mut out, &inner, ready_comma_lead(&inner), true);
     write_int(&mut out, "1");
-    write_comma_lead(&mut out, &inner, false);
+    write_comma_lead(&mut out, &inner, ready_comma_lead(&inner), false);
     write_float(&mut out, "1.5");
     write_last_comma(&mut out, &inner);
     write_tight(&mut out, &inner.outer());
@@ -46,8 +48,10 @@ fn at_several_places(rt: HostRuntime) {
         (None, 0, "[1, 1.5] a b"),
         (None, 7, "[1, 1.5] a b"),
     ] {
-        let out = text_at(rt.alloc(), Place { prefix, level });
-        assert!(rt; !out.is_stopped());
-        assert_eq!(rt; out.text.as_str(), wanted);
+        let text = into_text(text_at(rt.alloc(), Place { prefix, level })).unwrap_or(String::new(
+            rt.alloc(),
+        ));
+
+        assert_eq!(rt; text.as_str(), wanted);
     }
 }

@@ -1,26 +1,33 @@
 -- Lemmas, no definitions: the printed tokens of a tree that obeys the side conditions derive it, and a tree that is derived obeys them.
-use Rattle.std.proofs.Common.{◌≡◌, refl, List, [], ◌∷◌, Bool, true, false, not, ◌&&◌, IsTrue}
+use Rattle.std.proofs.Common.{◌≡◌, refl, inl, List, [], ◌∷◌, length, Bool, true, false, not, ◌&&◌, ◌==◌, IsTrue, Option, Some, None}
 use Rattle.std.specs.List.{list_all}
-use Rattle.graphql_text.specs.Tokens.{lparen, rparen, Token}
-use Rattle.graphql_text.specs.Forms.{token, no_tokens, ◌⨟◌, name_except, only_if}
-use Rattle.graphql_text.specs.PrintedTokens.{Every}
+use Rattle.std.proofs.Math.Dec.{eqb-suc-zero}
+use Rattle.graphql_text.specs.Literals.{StringText}
+use Rattle.graphql_text.specs.Tokens.{lparen, rparen, bar, Token, Punctuation, Name}
+use Rattle.graphql_text.specs.Forms.{token, no_tokens, ◌⨟◌, optional_token, list_of, name_except, only_if, never}
+use Rattle.graphql_text.specs.PrintedTokens.{Every, list_tokens}
 use Rattle.graphql_text.proofs.Written.{each_written, group_written, each_obeys, group_obeys}
-use Rattle.graphql_values.specs.Values.{Constness, ValueTree, ValueTrees, ObjectFieldTrees, null_value, enum_value, variable, string_value, float_value, int_value, boolean_value, list_value, object_value, no_values, more_values, no_fields, more_fields, value_form, values_form, object_fields_form, value_tokens, values_tokens, object_fields_tokens, value_obeys, values_obey, object_fields_obey}
+use Rattle.graphql_values.specs.Values.{Constness, Const, ValueTree, ValueTrees, ObjectFieldTrees, null_value, enum_value, variable, string_value, float_value, int_value, boolean_value, list_value, object_value, no_values, more_values, no_fields, more_fields, value_form, values_form, object_fields_form, value_tokens, values_tokens, object_fields_tokens, value_obeys, values_obey, object_fields_obey}
 use Rattle.graphql_values.specs.TypeReferences.{TypeTree, named_type, non_null_named_type, list_type, non_null_list_type, type_form, type_tokens}
 use Rattle.graphql_values.specs.Arguments.{ArgumentTree, argument_form, arguments_form, argument_tokens, arguments_tokens, argument_obeys, arguments_obey}
 use Rattle.graphql_values.specs.Directives.{DirectiveTree, directive_form, directives_form, directive_tokens, directives_tokens, directive_obeys, directives_obey}
+use Rattle.graphql_values.specs.Descriptions.{description_form, description_tokens}
+use Rattle.graphql_values.specs.DefaultValues.{default_value_form, default_value_tokens, default_value_obeys}
+use Rattle.graphql_values.specs.InputValues.{InputValueTree, input_value_form, input_value_tokens, input_value_obeys, arguments_definition_form, arguments_definition_tokens, arguments_definition_obeys}
+use Rattle.graphql_values.specs.DirectiveLocations.{DirectiveLocationTree, location_name, location_form}
+use Rattle.graphql_values.specs.DirectiveDefinitions.{DirectiveDefinitionTree, repeatable_form, repeatable_tokens, directive_locations_form, directive_locations_tokens, directive_definition_body_form, directive_definition_form, directive_definition_tokens, directive_definition_obeys}
 
 -- BOTH CONDITIONS, AND THOSE OF EACH PART
 
-first_holds : (a b : Bool) → IsTrue (a && b) → IsTrue a
+pub first_holds : (a b : Bool) → IsTrue (a && b) → IsTrue a
 first_holds true b holds = refl
 first_holds false b holds = holds
 
-second_holds : (a b : Bool) → IsTrue (a && b) → IsTrue b
+pub second_holds : (a b : Bool) → IsTrue (a && b) → IsTrue b
 second_holds true b holds = holds
 second_holds false b holds = cc
 
-both_hold : (a b : Bool) → IsTrue a → IsTrue b → IsTrue (a && b)
+pub both_hold : (a b : Bool) → IsTrue a → IsTrue b → IsTrue (a && b)
 both_hold true b first second = second
 both_hold false b first second = first
 
@@ -88,6 +95,49 @@ type_written (non_null_named_type s) r = (_, (refl, refl), refl)
 type_written (list_type t) r = (_, refl, (_, type_written t _, refl))
 type_written (non_null_list_type t) r = (_, refl, (_, type_written t _, (_, refl, refl)))
 
+pub description_written : (d : Option StringText) (r : List Token) → description_form d (description_tokens d r) r
+unfolding token no_tokens
+description_written None r = refl
+description_written (Some s) r = refl
+
+pub default_value_written : (d : Option ValueTree) → IsTrue (default_value_obeys d) → (r : List Token) → default_value_form d (default_value_tokens d r) r
+unfolding token no_tokens ◌⨟◌
+default_value_written None o r = refl
+default_value_written (Some v) o r = (_, refl, value_written Const v o r)
+
+pub input_value_written : (v : InputValueTree) → IsTrue (input_value_obeys v) → (r : List Token) → input_value_form v (input_value_tokens v r) r
+unfolding input_value_form input_value_tokens token name_except ◌⨟◌
+input_value_written v o r =
+    let default_obeys = first_holds (default_value_obeys v.default_value) (directives_obey Const v.directives) o in
+    let directives_obeyed = second_holds (default_value_obeys v.default_value) (directives_obey Const v.directives) o in
+    (_, description_written v.description _, (_, (refl, refl), (_, refl, (_, type_written v.type _, (_, default_value_written v.default_value default_obeys _, directives_written Const v.directives directives_obeyed r)))))
+
+pub arguments_definition_written : (vs : List InputValueTree) → IsTrue (arguments_definition_obeys vs) → (r : List Token) → arguments_definition_form vs (arguments_definition_tokens vs r) r
+arguments_definition_written vs o = group_written (λ v. IsTrue (input_value_obeys v)) lparen rparen input_value_form input_value_tokens input_value_written vs (every_of input_value_obeys vs o)
+
+repeatable_written : (b : Bool) (r : List Token) → repeatable_form b (repeatable_tokens b r) r
+unfolding token no_tokens
+repeatable_written true r = refl
+repeatable_written false r = refl
+
+more_locations_written : (ls : List DirectiveLocationTree) (r : List Token) →
+    list_of (λ l. token (Punctuation bar) ⨟ location_form l) ls (list_tokens (λ l rest. Punctuation bar ∷ Name (location_name l) ∷ rest) ls r) r
+unfolding token no_tokens ◌⨟◌
+more_locations_written [] r = refl
+more_locations_written (l ∷ ls) r = (_, (_, refl, refl), more_locations_written ls r)
+
+directive_locations_written : (ls : List DirectiveLocationTree) → IsTrue (not (length ls == 0)) → (r : List Token) → directive_locations_form ls (directive_locations_tokens ls r) r
+unfolding token optional_token ◌⨟◌
+directive_locations_written [] o r = cc
+directive_locations_written (l ∷ ls) o r = (_, refl, (_, inl refl, (_, refl, more_locations_written ls r)))
+
+pub directive_definition_written : (d : DirectiveDefinitionTree) → IsTrue (directive_definition_obeys d) → (r : List Token) → directive_definition_form d (directive_definition_tokens d r) r
+unfolding directive_definition_form directive_definition_body_form directive_definition_tokens token name_except ◌⨟◌
+directive_definition_written d o r =
+    let has_location = first_holds (not (length d.locations == 0)) (arguments_definition_obeys d.arguments) o in
+    let arguments_obey = second_holds (not (length d.locations == 0)) (arguments_definition_obeys d.arguments) o in
+    (_, description_written d.description _, (_, refl, (_, refl, (_, (refl, refl), (_, arguments_definition_written d.arguments arguments_obey _, (_, repeatable_written d.repeatable _, directive_locations_written d.locations has_location r))))))
+
 -- WHAT IS DERIVED OBEYS THE SIDE CONDITIONS
 
 mutual
@@ -126,3 +176,26 @@ directive_obeyed c d ts r x = arguments_obeyed c d.arguments _ _ x.2.2
 
 pub directives_obeyed : (c : Constness) (ds : List DirectiveTree) (ts r : List Token) → directives_form c ds ts r → IsTrue (directives_obey c ds)
 directives_obeyed c ds ts r x = all_of (directive_obeys c) ds (each_obeys (λ d. IsTrue (directive_obeys c d)) (directive_form c) (directive_obeyed c) ds ts r x)
+
+pub default_value_obeyed : (d : Option ValueTree) (ts r : List Token) → default_value_form d ts r → IsTrue (default_value_obeys d)
+unfolding ◌⨟◌
+default_value_obeyed None ts r x = refl
+default_value_obeyed (Some v) ts r x = value_obeyed Const v _ _ x.2
+
+pub input_value_obeyed : (v : InputValueTree) (ts r : List Token) → input_value_form v ts r → IsTrue (input_value_obeys v)
+unfolding input_value_form ◌⨟◌
+input_value_obeyed v ts r x =
+    both_hold (default_value_obeys v.default_value) (directives_obey Const v.directives) (default_value_obeyed v.default_value _ _ x.2.2.2.2.1) (directives_obeyed Const v.directives _ _ x.2.2.2.2.2)
+
+pub arguments_definition_obeyed : (vs : List InputValueTree) (ts r : List Token) → arguments_definition_form vs ts r → IsTrue (arguments_definition_obeys vs)
+arguments_definition_obeyed vs ts r x = all_of input_value_obeys vs (group_obeys (λ v. IsTrue (input_value_obeys v)) lparen rparen input_value_form input_value_obeyed vs ts r x)
+
+directive_locations_obeyed : (ls : List DirectiveLocationTree) (ts r : List Token) → directive_locations_form ls ts r → IsTrue (not (length ls == 0))
+unfolding never
+directive_locations_obeyed [] ts r x = absurd x
+directive_locations_obeyed (l ∷ ls) ts r x = holds_not (length (l ∷ ls) == 0) (eqb-suc-zero (length ls))
+
+pub directive_definition_obeyed : (d : DirectiveDefinitionTree) (ts r : List Token) → directive_definition_form d ts r → IsTrue (directive_definition_obeys d)
+unfolding directive_definition_form directive_definition_body_form ◌⨟◌
+directive_definition_obeyed d ts r x =
+    both_hold (not (length d.locations == 0)) (arguments_definition_obeys d.arguments) (directive_locations_obeyed d.locations _ _ x.2.2.2.2.2.2) (arguments_definition_obeyed d.arguments _ _ x.2.2.2.2.1)

@@ -1,7 +1,11 @@
 use Rattle.std.proofs.Common.{[], ◌∷◌, codes, refl}
-use Rattle.graphql_text.specs.Tokens.{Punctuation, Name, IntValue, dollar, lbracket}
+use Rattle.graphql_text.specs.Tokens.{Punctuation, Name, IntValue, dollar, colon, equals, at, lbracket}
+use Rattle.graphql_text.proofs.Parsing.{not_read}
 use Rattle.graphql_values.specs.Values.{Const, NonConst}
-use Rattle.graphql_values.proofs.Readings.{no_tokens_read, no_value_read, open_list_found, constant_variable_found}
+use Rattle.graphql_values.specs.InputValues.{input_value_form}
+use Rattle.graphql_values.specs.DirectiveDefinitions.{directive_definition_form}
+use Rattle.graphql_values.specs.laws.DefinitionReading.{input_value_is_read, directive_definition_is_read}
+use Rattle.graphql_values.proofs.Readings.{no_tokens_read, no_tree_read, no_value_read, open_list_found, constant_variable_found, default_variable_found, no_location_found, unknown_location_found}
 use Rattle.graphql_values.proofs.laws.refused_readings.Goals as goal
 
 pub returns-clause-no_exponent : goal.returns-clause-no_exponent
@@ -18,3 +22,15 @@ returns-clause-bracket_in_comment c = no_value_read NonConst (codes "[1 #c]") (P
 
 pub returns-clause-constant_variable : goal.returns-clause-constant_variable
 returns-clause-constant_variable c = no_value_read Const (codes "$a") (Punctuation dollar ∷ Name (codes "a") ∷ []) refl constant_variable_found
+
+pub returns-clause-default_variable : goal.returns-clause-default_variable
+returns-clause-default_variable c = λ input.
+    no_tree_read input_value_form (codes "a: Int = $x") (Name (codes "a") ∷ Punctuation colon ∷ Name (codes "Int") ∷ Punctuation equals ∷ Punctuation dollar ∷ Name (codes "x") ∷ []) refl input (not_read (input_value_is_read input) default_variable_found refl)
+
+pub returns-clause-no_location : goal.returns-clause-no_location
+returns-clause-no_location c = λ definition.
+    no_tree_read directive_definition_form (codes "directive @d") (Name (codes "directive") ∷ Punctuation at ∷ Name (codes "d") ∷ []) refl definition (not_read (directive_definition_is_read definition) no_location_found refl)
+
+pub returns-clause-unknown_location : goal.returns-clause-unknown_location
+returns-clause-unknown_location c = λ definition.
+    no_tree_read directive_definition_form (codes "directive @d on Field") (Name (codes "directive") ∷ Punctuation at ∷ Name (codes "d") ∷ Name (codes "on") ∷ Name (codes "Field") ∷ []) refl definition (not_read (directive_definition_is_read definition) unknown_location_found refl)

@@ -1,9 +1,16 @@
-use Rattle.std.proofs.Common.{[], codes, refl, true}
-use Rattle.graphql_text.specs.Forms.{no_tokens}
+use Rattle.std.proofs.Common.{List, [], ◌∷◌, codes, refl, true, inr, None}
+use Rattle.graphql_text.specs.Tokens.{lparen, rparen, colon, at, bar, Punctuation, Name}
+use Rattle.graphql_text.specs.Forms.{token, no_tokens, ◌⨟◌, optional_token, name_except}
 use Rattle.graphql_text.proofs.Sound.{lex_sound}
 use Rattle.graphql_values.specs.Values.{boolean_value, value_tokens}
+use Rattle.graphql_values.specs.TypeReferences.{named_type, type_tokens}
+use Rattle.graphql_values.specs.Directives.{directive_tokens}
+use Rattle.graphql_values.specs.InputValues.{InputValueTree, input_value_form, input_value_tokens}
+use Rattle.graphql_values.specs.DirectiveLocations.{Field, Query}
+use Rattle.graphql_values.specs.DirectiveDefinitions.{directive_definition_form, directive_definition_body_form, directive_definition_tokens}
 use Rattle.graphql_values.specs.laws.KindLaws.{value_laws}
-use Rattle.graphql_values.proofs.Readings.{reads}
+use Rattle.graphql_values.specs.laws.ReadBack.{input_value_written, arguments_definition_written, directive_definition_written}
+use Rattle.graphql_values.proofs.Readings.{reads, reads_as}
 use Rattle.graphql_values.proofs.laws.worked_readings.Goals as goal
 
 pub returns-clause-list : goal.returns-clause-list
@@ -33,3 +40,28 @@ returns-clause-repeated_fields c = reads (codes "{a: 1, a: 2}") _ refl refl refl
 pub returns-clause-no_directives : goal.returns-clause-no_directives
 unfolding no_tokens
 returns-clause-no_directives c = (refl, [], lex_sound [] [] refl, refl)
+
+pub returns-clause-input_value_definition : goal.returns-clause-input_value_definition
+unfolding input_value_tokens type_tokens value_tokens directive_tokens
+returns-clause-input_value_definition c = reads_as input_value_form (codes "\"d\" a: [Int!] = [1] @x") _ _ refl refl (input_value_written _ refl [])
+
+abbrev two_arguments : List InputValueTree
+two_arguments =
+    (record { description = None; name = (record { text = codes "a"; valid = refl }); type = named_type (record { text = codes "Int"; valid = refl }); default_value = None; directives = (record { name = (record { text = codes "x"; valid = refl }); arguments = [] } ∷ []) })
+    ∷ (record { description = None; name = (record { text = codes "b"; valid = refl }); type = named_type (record { text = codes "Int"; valid = refl }); default_value = None; directives = [] }) ∷ []
+
+pub returns-clause-directive_definition : goal.returns-clause-directive_definition
+unfolding directive_definition_form directive_definition_body_form input_value_tokens type_tokens directive_tokens token no_tokens optional_token name_except ◌⨟◌
+returns-clause-directive_definition c =
+    reads_as directive_definition_form (codes "directive @d(a: Int @x, b: Int) repeatable on | FIELD | QUERY")
+    (Name (codes "directive") ∷ Punctuation at ∷ Name (codes "d") ∷ Punctuation lparen ∷ Name (codes "a") ∷ Punctuation colon ∷ Name (codes "Int") ∷ Punctuation at ∷ Name (codes "x")
+    ∷ Name (codes "b") ∷ Punctuation colon ∷ Name (codes "Int") ∷ Punctuation rparen ∷ Name (codes "repeatable") ∷ Name (codes "on") ∷ Punctuation bar ∷ Name (codes "FIELD") ∷ Punctuation bar ∷ Name (codes "QUERY") ∷ [])
+    (record { description = None; name = (record { text = codes "d"; valid = refl }); arguments = two_arguments; repeatable = true; locations = Field ∷ Query ∷ [] })
+    refl refl
+    (_, refl, (_, refl, (_, refl, (_, (refl, refl), (_, arguments_definition_written two_arguments refl _, (_, refl, (_, refl, (_, inr refl, (_, refl, (_, (_, refl, refl), refl))))))))))
+
+pub returns-clause-directive_locations : goal.returns-clause-directive_locations
+unfolding directive_definition_tokens
+returns-clause-directive_locations c =
+    reads_as directive_definition_form (codes "directive @d on QUERY | MUTATION | SUBSCRIPTION | FIELD | FRAGMENT_DEFINITION | FRAGMENT_SPREAD | INLINE_FRAGMENT | VARIABLE_DEFINITION | SCHEMA | SCALAR | OBJECT | FIELD_DEFINITION | ARGUMENT_DEFINITION | INTERFACE | UNION | ENUM | ENUM_VALUE | INPUT_OBJECT | INPUT_FIELD_DEFINITION")
+    _ _ refl refl (directive_definition_written _ refl [])

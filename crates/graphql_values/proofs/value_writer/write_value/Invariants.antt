@@ -5,11 +5,11 @@ use Rattle.graphql_text.specs.Stack.{stack_parts, stack_room}
 use Rattle.graphql_text.specs.Writing.{WritesFront}
 use Rattle.graphql_values.specs.Values.{value_shape, value_nesting}
 use Rattle.graphql_values.specs.ValueTrees.{value_tree}
-use Rattle.graphql_values.specs.ValueSteps.{stack_items, stack_need}
+use Rattle.graphql_values.specs.ValueWalk.{stack_items, stack_need}
 use Rattle.graphql_values.proofs.value_writer.write_value.Given as goal
 
-abbrev pub invariant-loop-step : goal.invariant-loop-step
-invariant-loop-step g l = record {
+abbrev pub invariant-loop-part : goal.invariant-loop-part
+invariant-loop-part g l = record {
   prefix : l.here.prefix ≡ l.place.prefix;
   level : l.here.level ≡ l.place.level + length (stack_parts l.stack);
   need : stack_need (stack_parts l.stack) ≤ value_nesting (value_tree l.value);
@@ -17,5 +17,5 @@ invariant-loop-step g l = record {
   written : WritesFront g.O.Target.wrote l.fn.out l.out (mode_of l.place.prefix) l.place.level (value_shape (is_broken (mode_of l.place.prefix)) (value_tree l.value)) l.here.level (stack_items (is_broken (mode_of l.place.prefix)) (stack_parts l.stack));
 }
 
-abbrev pub decreases-loop-step : goal.decreases-loop-step
-decreases-loop-step g l = length (stack_items (is_broken (mode_of l.place.prefix)) (stack_parts l.stack))
+abbrev pub decreases-loop-part : goal.decreases-loop-part
+decreases-loop-part g l = length (stack_items (is_broken (mode_of l.place.prefix)) (stack_parts l.stack))

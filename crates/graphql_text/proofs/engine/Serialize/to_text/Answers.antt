@@ -1,10 +1,15 @@
-use Rattle.std.proofs.Common.{◌≡◌, subst, sym, rules}
+use Rattle.std.proofs.Common.{◌≡◌, Result, Ok, Err, IfOk, subst, sym, rules}
 use Rattle.std.specs.Prelude.{string_bytes}
 use Rattle.graphql_text.specs.Printing.{ReadsAlone, print_bytes, print_tree}
 use Rattle.graphql_text.proofs.Headline.{reads_alone}
 use Rattle.graphql_text.proofs.engine.Serialize.to_text.Goals as goal
 
-pub returns-else-failed-clause-read : goal.returns-else-failed-clause-read
-returns-else-failed-clause-read g c =
-    let printed : string_bytes c.write.new.out.text ≡ print_bytes g.T.Syntax.shape g.T.Syntax.tree c.args.self.now = search rules in
-    λ obeyed blank. subst (λ bytes. ReadsAlone g.T.Syntax.derives bytes (g.T.Syntax.tree (print_tree c.args.self.now))) (sym printed) (reads_alone g.T.Syntax.laws _ _ _ obeyed blank)
+if_ok_then : {T E : Type 0} (P Q : T → Type 0) → ((value : T) → P value → Q value) → (result : Result T E) → IfOk result P → IfOk result Q
+if_ok_then P Q then (Ok value) holds = then value holds
+if_ok_then P Q then (Err error) holds = holds
+
+pub returns-clause-read : goal.returns-clause-read
+returns-clause-read g c =
+    let self = c.args.self.now in
+    let printed : IfOk c.ok_or.result (λ text. string_bytes text ≡ print_bytes g.T.Syntax.shape g.T.Syntax.tree self) = search rules in
+    if_ok_then _ _ (λ text is obeyed blank. subst (λ bytes. ReadsAlone g.T.Syntax.derives bytes (g.T.Syntax.tree (print_tree self))) (sym is) (reads_alone g.T.Syntax.laws _ _ _ obeyed blank)) c.ok_or.result printed

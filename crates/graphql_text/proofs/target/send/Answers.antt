@@ -1,0 +1,10 @@
+use Rattle.std.proofs.Common.{rules}
+use Rattle.graphql_text.specs.Sinks.{SinkFaulted}
+use Rattle.graphql_text.specs.laws.Sinks.{faulted_before}
+use Rattle.graphql_text.proofs.target.send.Goals as goal
+
+pub returns-then-is_err : goal.returns-then-is_err
+returns-then-is_err g c =
+    let fault : SinkFaulted g.S.TextSink.taken g.S.TextSink.fault_count c.args.sink.now c.waiting.result.now c.put_all.new.sink = search rules in
+    let waiting = rw c.waiting.ensures at fault in
+    rw c.if-stopped.false (λ few. faulted_before c.args.text.now waiting)

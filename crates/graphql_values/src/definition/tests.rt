@@ -1,0 +1,129 @@
+//! Worked definitions.
+ghost use Rattle.std.specs.Prelude.{◌≡◌};
+ghost use Rattle.std.specs.Bool.{OnFalse, OnTrue};
+ghost use Rattle.graphql_values.specs.FirstChanged.{first_changed};
+ghost use Rattle.graphql_values.specs.NamedDefinitions.{is_input_value_named};
+
+use super::{DirectiveDefinition, InputValueDefinition};
+use crate::directive::DirectiveList;
+use crate::location::DirectiveLocation;
+use crate::types::Type;
+use crate::value::Value;
+use graphql_base::name;
+use graphql_base::name::Name;
+use graphql_base::node::{Node, NodeStr};
+use std::alloc::{AllocError, Global};
+use std::collections::HashSet;
+use std::test::Fail;
+
+fn input(
+    alloc: Global,
+    name: Name,
+    ty: Type,
+    default_value: Option<Node<Value>>,
+) -> Result<InputValueDefinition, AllocError> {
+    Ok(InputValueDefinition {
+        description: Some(NodeStr::new_str(alloc, "é")?),
+        name,
+        ty: Node::new(alloc, ty)?,
+        default_value,
+        directives: DirectiveList::new(alloc),
+    })
+}
+
+// `directive @d(a: A, b: B, a: C) on FIELD`, with the same description each
+fn definition(alloc: Global) -> Result<DirectiveDefinition, AllocError> {
+    let mut arguments = Vec::new(alloc);
+    for (name, ty) in [
+        (name!(a), name!(A)),
+        (name!(b), name!(B)),
+        (name!(a), name!(C)),
+    ] {
+        let input = input(alloc, name, Type::Named(ty), None)?;
+        arguments.push(Node::new(alloc, input)?)?;
+    }
+    let mut locations = Vec::new(alloc);
+    locations.push(DirectiveLocation::Field)?;
+    Ok(DirectiveDefinition {
+        description: None,
+        name: name!(d),
+        arguments,
+        repeatable: false,
+        locations,
+    })
+}
+
+fn type_of(node: Option<&Node<InputValueDefinition>>) -> Option<&str> {
+    Some(node?.ty.inner_named_type().as_str())
+}
+
+#[test]
+fn arguments_by_name(rt: HostRuntime) -> Result<(), Fail> {
+    let definition = definition(rt.alloc())?;
+    assert_eq!(rt; type_of(definition.argument_by_name("a")), Some("A"));
+    assert_eq!(rt; type_of(definition.argument_by_name("b")), Some("B"));
+    assert_eq!(rt; type_of(definition.argument_by_name("c")), None);
+    Ok(())
+}
+
+// What a caller knows of an argument that it wrote.
+fn set_argument(
+    definition: &mut DirectiveDefinition,
+    name: &str,
+    node: Node<InputValueDefinition>,
+) -> bool
+    ensures written { OnTrue result (definition.new.arguments.items ≡ first_changed (is_input_value_named name.now) (λ _. node) definition.old.arguments.items) }
+    ensures none { OnFalse result (definition.new ≡ definition.old) }
+    ensures name { definition.new.name ≡ definition.old.name }
+{
+    match definition.argument_by_name_mut(name) {
+        Some(argument) => {
+            *argument = node;
+            true
+        }
+        None => false,
+    }
+}
+
+#[test]
+fn the_first_of_a_name_is_written(rt: HostRuntime) -> Result<(), Fail> {
+    let alloc = rt.alloc();
+    let mut definition = definition(alloc)?;
+    let other = definition.clone()?;
+    let written = input(alloc, name!(c), Type::Named(name!(A)), None)?;
+    assert!(rt; set_argument(&mut definition, "a", Node::new(alloc, written)?));
+    assert_eq!(rt; type_of(definition.argument_by_name("c")), Some("A"));
+    assert_eq!(rt; type_of(definition.argument_by_name("a")), Some("C"));
+    assert_eq!(rt; type_of(other.argument_by_name("a")), Some("A"));
+    assert!(rt; definition.argument_by_name_mut("z").is_none());
+    Ok(())
+}
+
+#[test]
+fn what_is_required(rt: HostRuntime) -> Result<(), Fail> {
+    let alloc = rt.alloc();
+    let null = Node::new(alloc, Value::Null)?;
+    for (ty, default_value, is_required) in [
+        (Type::NonNullNamed(name!(Int)), None, true),
+        (Type::NonNullNamed(name!(Int)), Some(null), false),
+        (Type::Named(name!(Int)), None, false),
+    ] {
+        let input = input(alloc, name!(a), ty, default_value)?;
+        assert_eq!(rt; input.is_required(), is_required);
+    }
+    Ok(())
+}
+
+#[test]
+fn equality(rt: HostRuntime) -> Result<(), Fail> {
+    let alloc = rt.alloc();
+    let mut changed = definition(alloc)?;
+    let same = definition(alloc)?;
+    assert!(rt; changed == same);
+    let mut set = HashSet::new(alloc);
+    set.insert(definition(alloc)?)?;
+    assert!(rt; set.contains(&same));
+    changed.repeatable = true;
+    assert!(rt; changed != same);
+    Ok(())
+}

@@ -1,0 +1,123 @@
+//! Calls that meet a refused growth, wherever it comes: the answer is the refusal, or that of an undisturbed call.
+//! `rt try --test --fail-alloc N` refuses the Nth growth of each test.
+use crate::arguments::SpecifiedArgumentError;
+use crate::directive::{Argument, Directive, DirectiveList};
+use crate::value::Value;
+use graphql_base::name;
+use graphql_base::node::Node;
+use graphql_text::engine::PrintError;
+use graphql_text::sink::StreamSink;
+use std::alloc::{AllocError, Global};
+use std::io::Cursor;
+
+// `@a(x: true, y: false)`
+fn directive(alloc: Global) -> Result<Directive, AllocError> {
+    let mut directive = Directive::new(alloc, name!(a));
+    let x = Node::new(alloc, Value::from(true))?;
+    directive
+        .arguments
+        .push(Argument::new_node(alloc, name!(x), x)?)?;
+    let y = Node::new(alloc, Value::from(false))?;
+    directive
+        .arguments
+        .push(Argument::new_node(alloc, name!(y), y)?)?;
+    Ok(directive)
+}
+
+#[test]
+fn no_memory_is_asked_for_what_is_not_specified(rt: HostRuntime) {
+    let Ok(before) = directive(rt.alloc()) else {
+        return;
+    };
+    let Ok(mut shared) = before.clone() else {
+        return;
+    };
+    assert_eq!(rt;
+        shared.specified_argument_by_name_mut("z").err(),
+        Some(SpecifiedArgumentError::NotSpecified)
+    );
+    assert!(rt; shared == before);
+}
+
+#[test]
+fn a_value_is_lent_or_the_directive_stays(rt: HostRuntime) {
+    let Ok(before) = directive(rt.alloc()) else {
+        return;
+    };
+    let Ok(mut shared) = before.clone() else {
+        return;
+    };
+    let error = match shared.specified_argument_by_name_mut("y") {
+        Ok(value) => {
+            assert!(rt; value.to_bool() == Some(false));
+            None
+        }
+        Err(error) => Some(error),
+    };
+    assert!(rt; error.is_none() || error == Some(SpecifiedArgumentError::Memory));
+    assert!(rt; shared == before);
+}
+
+#[test]
+fn no_memory_is_asked_of_one_owner(rt: HostRuntime) {
+    let Ok(mut directive) = directive(rt.alloc()) else {
+        return;
+    };
+    assert!(rt; directive.specified_argument_by_name_mut("y").is_ok());
+}
+
+#[test]
+fn a_node_is_pushed_or_handed_back(rt: HostRuntime) {
+    let alloc = rt.alloc();
+    let mut list = DirectiveList::new(alloc);
+    let Ok(node) = Node::new(alloc, Directive::new(alloc, name!(a))) else {
+        return;
+    };
+    match list.push(node) {
+        Ok(()) => assert!(rt; list.has("a")),
+        Err(node) => {
+            assert_eq!(rt; node.name.as_str(), "a");
+            assert!(rt; list.is_empty());
+        }
+    }
+}
+
+#[test]
+fn a_list_is_made_or_refused(rt: HostRuntime) {
+    let alloc = rt.alloc();
+    let mut list = DirectiveList::new(alloc);
+    if let Ok(node) = Node::new(alloc, Directive::new(alloc, name!(a))) {
+        let pushed = list.push(node);
+        assert!(rt; pushed.is_ok() || list.is_empty());
+    }
+    let count = list.len();
+    if let Ok(copy) = list.clone() {
+        assert!(rt; copy == list);
+    }
+    if let Ok(collected) = DirectiveList::collect_from(alloc, list.into_iter()) {
+        assert_eq!(rt; collected.len(), count);
+    }
+}
+
+// How the print into a writer ends that asks for no memory, and how many bytes the writer took.
+fn printed(directive: &Directive) -> (Result<(), PrintError>, u64) {
+    let mut sink = StreamSink::new(Cursor::new([0; 32]));
+    let result = directive.serialize().print_to(&mut sink);
+    (result, sink.into_inner().position())
+}
+
+#[test]
+fn a_directive_is_printed_or_nothing_is(rt: HostRuntime) {
+    let Ok(directive) = directive(rt.alloc()) else {
+        return;
+    };
+    let (result, count) = printed(&directive);
+    assert!(rt; result == Ok(()) || result == Err(PrintError::Memory));
+    assert_eq!(rt; count, if result.is_ok() { 21 } else { 0 });
+}
+
+#[test]
+fn no_memory_is_asked_without_arguments(rt: HostRuntime) {
+    let directive = Directive::new(rt.alloc(), name!(a));
+    assert_eq!(rt; printed(&directive), (Ok(()), 2));
+}

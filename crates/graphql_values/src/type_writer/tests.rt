@@ -1,0 +1,84 @@
+//! Types as they are written in larger kinds.
+ghost use Rattle.graphql_values.specs.TypeReferences.{TypeTree, type_form, type_shape};
+ghost use Rattle.graphql_values.specs.TypeTrees.{type_tree};
+ghost use Rattle.graphql_values.specs.Wrappings.{list_depth};
+ghost use Rattle.graphql_values.specs.laws.KindLaws.{type_laws};
+
+use super::{TypePart, find_list_depth, type_allocator, write_type};
+use crate::ty;
+use crate::types::Type;
+use graphql_text::engine::{Serialize, Syntax};
+use graphql_text::place::Place;
+use graphql_text::stack::Stack;
+use graphql_text::target::Target;
+use graphql_text::writers::write_first_indent;
+use std::alloc::AllocError;
+use std::test::Fail;
+
+/// A kind that is a type alone.
+#[derive(Drop)]
+struct Alone {
+    ty: Type,
+}
+
+impl Syntax for Alone {
+    ghost Tree = { TypeTree };
+
+    ghost tree = { λ alone. type_tree alone.ty };
+
+    ghost shape = { λ broken is_front. type_shape };
+
+    ghost nesting = { λ tree. 0 };
+
+    ghost parts = { list_depth };
+
+    ghost obeys = { λ tree. Unit {0} };
+
+    ghost derives = { type_form };
+
+    ghost laws = { type_laws };
+
+    fn is_well_formed(&self) -> bool {
+        true
+    }
+
+    fn find_nesting(&self) -> Option<usize> {
+        Some(0)
+    }
+
+    fn write<O: Target>(
+        &self,
+        out: &mut O,
+        place: &Place<'_>,
+        _depth: usize,
+    ) -> Result<(), AllocError> {
+        let parts = find_list_depth(&self.ty).ok_or(AllocError)?;
+        let mut stack: Stack<TypePart> = Stack::reserve(type_allocator(&self.ty), parts)?;
+        write_first_indent(out, place);
+        write_type(&self.ty, out, &mut stack);
+        Ok(())
+    }
+}
+
+#[test]
+fn depths(rt: HostRuntime) -> Result<(), Fail> {
+    assert_eq!(rt; find_list_depth(&ty!(Foo!)), Some(0));
+    let nested = ty!(in rt.alloc(); [[a!]]!)?;
+    assert_eq!(rt; find_list_depth(&nested), Some(2));
+    assert!(rt; type_allocator(&nested).is_some());
+    Ok(())
+}
+
+#[test]
+fn written_types(rt: HostRuntime) -> Result<(), Fail> {
+    let alloc = rt.alloc();
+    let nested = Alone {
+        ty: ty!(in alloc; [[[Obj ] !]]!)?,
+    };
+    let text = Serialize::new(&nested).to_text(alloc)?;
+    assert_eq!(rt; text.as_str(), "[[[Obj]!]]!");
+    let named = Alone { ty: ty!(Obj!) };
+    let text = Serialize::new(&named).to_text(alloc)?;
+    assert_eq!(rt; text.as_str(), "Obj!");
+    Ok(())
+}

@@ -1,5 +1,6 @@
 pub mod Clones
 pub mod DefinitionEquality
+pub mod DefinitionShapes
 pub mod DirectiveEquality
 pub mod DirectiveShapes
 pub mod Equality

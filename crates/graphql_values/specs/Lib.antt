@@ -24,6 +24,7 @@ pub mod InputValues
 pub mod JoinedNames
 pub mod DirectiveDefinitions
 pub mod DefinitionTrees
+pub mod DefinitionParts
 pub mod NamedDefinitions
 pub mod InputValueQueries
 pub mod DefinitionLoans

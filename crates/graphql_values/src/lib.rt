@@ -3,11 +3,14 @@
 
 pub mod arguments;
 pub mod definition;
+mod definition_writer;
 pub mod directive;
+mod directive_definition_syntax;
 pub mod directive_list;
 mod directive_list_syntax;
 mod directive_syntax;
 mod directive_writer;
+mod input_value_syntax;
 pub mod laws;
 pub mod literal;
 pub mod location;

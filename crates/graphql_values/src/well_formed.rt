@@ -1,11 +1,14 @@
-//! Which values, arguments and directives may be printed and read back.
+//! Which values, arguments, directives and definitions may be printed and read back.
 ghost use Rattle.std.specs.Prelude.{◌≡◌};
 ghost use Rattle.graphql_values.specs.Arguments.{arguments_obey};
 ghost use Rattle.graphql_values.specs.Directives.{directives_obey};
+ghost use Rattle.graphql_values.specs.DefinitionTrees.{input_value_tree, input_value_trees};
 ghost use Rattle.graphql_values.specs.DirectiveTrees.{argument_trees, directive_node_trees};
+ghost use Rattle.graphql_values.specs.InputValues.{arguments_definition_obeys, input_value_obeys};
 ghost use Rattle.graphql_values.specs.ValueTrees.{constness_of, object_field_trees, value_tree, value_trees};
 ghost use Rattle.graphql_values.specs.Values.{admits_variables, is_enum_name, object_fields_obey, value_obeys, values_obey};
 
+use crate::definition::InputValueDefinition;
 use crate::directive::{Argument, Directive};
 use crate::value::Value;
 use graphql_base::name::Name;
@@ -92,6 +95,30 @@ pub fn are_directives_well_formed(directives: &[Node<Directive>], constness: Con
 {
     for directive in directives {
         if !are_arguments_well_formed(&directive.arguments, constness) {
+            return false;
+        }
+    }
+    true
+}
+
+/// Whether the default value and the directives are well formed, each at a constant place.
+pub fn is_input_value_well_formed(input: &InputValueDefinition) -> bool
+    ensures { result ≡ input_value_obeys (input_value_tree input.now) }
+{
+    if let Some(value) = &input.default_value
+        && !is_well_formed_at(value, Constness::Const)
+    {
+        return false;
+    }
+    are_directives_well_formed(&input.directives.0, Constness::Const)
+}
+
+/// Whether each input value definition is well formed.
+pub fn are_input_values_well_formed(inputs: &[Node<InputValueDefinition>]) -> bool
+    ensures { result ≡ arguments_definition_obeys (input_value_trees inputs.now) }
+{
+    for input in inputs {
+        if !is_input_value_well_formed(input) {
             return false;
         }
     }

@@ -1,0 +1,104 @@
+//! Input value definitions are printed.
+ghost use Rattle.std.specs.Prelude.{◌≡◌, Some, IsOk, IsTrue, OnOk, OnErr, codes, encode_utf8_all};
+ghost use Rattle.graphql_text.specs.Levels.{Fits};
+ghost use Rattle.graphql_text.specs.Place.{mode_of};
+ghost use Rattle.graphql_text.specs.Reading.{layout_of};
+ghost use Rattle.graphql_text.specs.Printing.{print_tree, print_mode, print_level};
+ghost use Rattle.graphql_values.specs.DefinitionParts.{input_value_parts};
+ghost use Rattle.graphql_values.specs.DefinitionTrees.{input_value_tree};
+ghost use Rattle.graphql_values.specs.InputValues.{InputValueTree, input_value_form, input_value_nesting, input_value_obeys, input_value_shape};
+ghost use Rattle.graphql_values.specs.laws.KindLaws.{input_value_laws};
+
+use crate::definition::InputValueDefinition;
+use crate::definition_writer::{DefinitionStacks, find_input_value_nesting, write_input_value};
+use crate::type_writer::find_list_depth;
+use crate::well_formed::is_input_value_well_formed;
+use graphql_text::engine::{Serialize, Syntax};
+use graphql_text::place::Place;
+use graphql_text::target::Target;
+use graphql_text::writers::write_first_indent;
+use std::alloc::AllocError;
+use std::fmt;
+
+impl InputValueDefinition {
+    /// The definition in the default layout, for `print_to`, `to_text` or another layout.
+    pub fn serialize(&self) -> Serialize<'_, InputValueDefinition>
+        ensures tree { print_tree result ≡ self.now }
+        ensures mode { print_mode result ≡ Some (codes "  ") }
+        ensures level { print_level result ≡ 0 }
+    {
+        Serialize::new(self)
+    }
+
+    /// Whether no enum value in the default value and the directives is `true`, `false` or `null`, and no variable stands in them:
+    /// both are constant.
+    pub fn is_well_formed(&self) -> bool
+        ensures { result ≡ input_value_obeys (input_value_tree self.now) }
+    {
+        is_input_value_well_formed(self)
+    }
+}
+
+/// Writes the whole layout of an input value definition.
+fn write_layout<O: Target>(
+    input: &InputValueDefinition,
+    out: &mut O,
+    place: &Place<'_>,
+    nesting: usize,
+) -> Result<(), AllocError>
+    requires fits { Fits place.now.level nesting }
+    requires nesting { nesting ≡ input_value_nesting (input_value_tree input.now) }
+    ensures ok { OnOk result (O.wrote out.old (encode_utf8_all (layout_of (λ broken is_front. input_value_shape broken) (mode_of place.now.prefix) place.now.level (input_value_tree input.now))) out.new) }
+    ensures err { OnErr result (out.new ≡ out.old) }
+    ensures free { input_value_parts (input_value_tree input.now) ≡ 0 → IsOk result }
+{
+    let alloc = *input.directives.0.allocator();
+    let list_depth = find_list_depth(&input.ty).ok_or(AllocError)?;
+    let mut stacks = DefinitionStacks::reserve(alloc, nesting, list_depth)?;
+    write_first_indent(out, place);
+    write_input_value(out, place, &mut stacks, input);
+    Ok(())
+}
+
+impl Syntax for InputValueDefinition {
+    ghost Tree = { InputValueTree };
+
+    ghost tree = { input_value_tree };
+
+    ghost shape = { λ broken is_front. input_value_shape broken };
+
+    ghost nesting = { input_value_nesting };
+
+    ghost parts = { input_value_parts };
+
+    ghost obeys = { λ input. IsTrue (input_value_obeys input) };
+
+    ghost derives = { input_value_form };
+
+    ghost laws = { input_value_laws };
+
+    fn is_well_formed(&self) -> bool {
+        InputValueDefinition::is_well_formed(self)
+    }
+
+    fn find_nesting(&self) -> Option<usize> {
+        find_input_value_nesting(self)
+    }
+
+    fn write<O: Target>(
+        &self,
+        out: &mut O,
+        place: &Place<'_>,
+        depth: usize,
+    ) -> Result<(), AllocError> {
+        write_layout(self, out, place, depth)
+    }
+}
+
+impl fmt::Display for InputValueDefinition {
+    ghost output = { λ input. Some (encode_utf8_all (layout_of (λ broken is_front. input_value_shape broken) (Some (codes "  ")) 0 (input_value_tree input))) };
+
+    fn fmt<W: fmt::Write>(&self, f: &mut fmt::Formatter<W>) -> fmt::Result {
+        self.serialize().fmt(f)
+    }
+}

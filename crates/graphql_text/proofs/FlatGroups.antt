@@ -1,11 +1,12 @@
 -- Comma groups on one line are written item by item.
-use Rattle.std.proofs.Common.{◌≡◌, ℕ, ◌+◌, List, [], ◌∷◌, ◌++◌, None, false, refl, sym}
+use Rattle.std.proofs.Common.{◌≡◌, ℕ, ◌+◌, List, [], ◌∷◌, ◌++◌, None, false, refl}
 use Rattle.graphql_text.specs.Groups.{comma_lead, comma_rest}
 use Rattle.graphql_text.specs.Layout.{Item, Word, Comma, Space, Tight, comma_group, lowers, raises, text_of_items}
 use Rattle.graphql_text.specs.Tokens.{Punctuator, Punctuation}
 use Rattle.graphql_text.specs.Writing.{WritesFront, WritesItems}
+use Rattle.graphql_text.proofs.CommaGroups.{comma_closed, comma_next}
 use Rattle.graphql_text.proofs.GroupLaws.{comma_group_opened}
-use Rattle.graphql_text.proofs.WritingLaws.{front_all, front_none, front_next, levels_lower, levels_raise, writes_levels}
+use Rattle.graphql_text.proofs.WritingLaws.{front_none, front_next, levels_raise, writes_levels, writes_nothing}
 
 module _ {O : Type 0} {wrote : O → List ℕ → O → Type 0} (nothing : (a : O) → wrote a [] a) where
   -- a tight mark
@@ -30,11 +31,9 @@ module _ {O : Type 0} {wrote : O → List ℕ → O → Type 0} (nothing : (a : 
   -- a comma and a space were written, and an item that isn't the first
   pub flat_next : {a b c d : O} {v v' : ℕ} {all rest : List Item} (closing : Punctuator) (x : List Item) (xs : List (List Item)) → WritesFront wrote a b None v all v' rest → rest ≡ comma_rest closing false false (x ∷ xs) →
       WritesItems wrote b c None v' (Comma ∷ Space ∷ []) → WritesItems wrote c d None v' x → WritesFront wrote a d None v all v' (comma_rest closing false false xs)
-  flat_next closing x xs front e comma item = front_next more (front_next more front e (writes_levels (comma_is_words comma))) refl (writes_levels item)
+  flat_next closing x xs front e comma item = comma_next more closing false false x xs front e (comma_is_words comma) item
 
   -- the closing bracket was written
   pub flat_closed : {a b c : O} {v v' : ℕ} {all rest : List Item} (closing : Punctuator) → WritesFront wrote a b None v all v' rest → rest ≡ comma_rest closing false false [] → v' ≡ v + 1 →
       WritesItems wrote b c None v (Word (Punctuation closing) ∷ []) → WritesItems wrote a c None v all
-  flat_closed closing front e level h =
-      let lowered = front_next more front e (levels_lower nothing (sym level)) in
-      front_all (front_next more (front_next more lowered refl (writes_levels (tight_is_nothing nothing))) refl (writes_levels h)) refl refl
+  flat_closed closing front none level bracket = comma_closed nothing more closing false front none level (writes_nothing nothing) (tight_is_nothing nothing) bracket

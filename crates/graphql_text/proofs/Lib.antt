@@ -6,6 +6,7 @@ pub mod Skips
 pub mod Numbers
 pub mod Quotes
 pub mod Complete
+pub mod CommaGroups
 pub mod CommaLeads
 pub mod Compose
 pub mod Quoted

@@ -29,10 +29,6 @@ length_le_need (part ∷ parts) = omega (arith, length_le_need parts)
 pub alone : {later : List Item} (all first rest : List Item) → later ≡ [] → all ++ later ≡ first ++ rest → all ≡ first ++ rest
 alone {later} all first rest e h = let h' = rw e at h in sym (append-nil all) ∙ h'
 
-pub none_left : {A : Type 0} (xs : List A) → length xs ≡ 0 → xs ≡ []
-none_left [] e = refl
-none_left (x ∷ xs) e = absurd (omega arith)
-
 -- what leads to an item, and what ends a group, is never nothing
 pub lead_some : (is_first : Bool) → 0 < length (comma_lead is_first)
 lead_some true = omega arith

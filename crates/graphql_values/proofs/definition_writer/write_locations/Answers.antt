@@ -1,5 +1,5 @@
 use Rattle.std.proofs.Common.{◌+◌, [], ◌∷◌, ◌∙◌, Some, ap, codes, drop, drop_of_length-le, get_or, map, refl, sym}
-use Rattle.std.proofs.lemmas.List.{drop_more}
+use Rattle.std.proofs.lemmas.List.{drop_more, nil_from_length}
 use Rattle.graphql_text.specs.Layout.{Space, Word, each_after}
 use Rattle.graphql_text.specs.Tokens.{bar, Punctuation, Name}
 use Rattle.graphql_text.proofs.WritingLaws.{front_all, front_next, front_none, front_stopped, writes_levels, writes_nothing, writes_then}
@@ -8,13 +8,12 @@ use Rattle.graphql_values.specs.DirectiveLocations.{location_name}
 use Rattle.graphql_values.specs.LocationTrees.{location_tree}
 use Rattle.graphql_values.specs.declared.location.DirectiveLocation.TheVariants.{Query}
 use Rattle.graphql_values.proofs.DefinitionShapes.{further_locations, location_fixed, locations_balanced, locations_next, locations_opened}
-use Rattle.graphql_values.proofs.ValueStack.{none_left}
 use Rattle.graphql_values.proofs.definition_writer.write_locations.Goals as goal
 
 pub returns-in_default : goal.returns-in_default
 unfolding each_after
 returns-in_default g c = λ mode level.
-    rw (none_left c.args.locations.now c.in_default.ensures.cases) (writes_nothing g.met.O.Target.nothing)
+    rw (nil_from_length c.args.locations.now c.in_default.ensures.cases) (writes_nothing g.met.O.Target.nothing)
 
 pub loop-location-init : goal.loop-location-init
 loop-location-init g c = λ mode level.

@@ -1,4 +1,5 @@
 use Rattle.std.proofs.Common.{◌+◌, [], ◌∷◌, ◌∙◌, None, ap, arith, drop, drop_of_length-le, false, map, refl}
+use Rattle.std.proofs.lemmas.List.{nil_from_length}
 use Rattle.graphql_text.specs.Groups.{comma_rest}
 use Rattle.graphql_text.specs.Layout.{Comma, Space, Word}
 use Rattle.graphql_text.specs.Place.{mode_of}
@@ -10,11 +11,10 @@ use Rattle.graphql_text.proofs.WritingLaws.{front_next, front_stopped, writes_fl
 use Rattle.graphql_values.specs.Arguments.{argument_shape, arguments_nesting}
 use Rattle.graphql_values.specs.DirectiveTrees.{argument_tree, argument_trees}
 use Rattle.graphql_values.proofs.DirectiveShapes.{group_balanced}
-use Rattle.graphql_values.proofs.ValueStack.{none_left}
 use Rattle.graphql_values.proofs.directive_writer.write_arguments.Goals as goal
 
 pub returns-in_default-clause-written : goal.returns-in_default-clause-written
-returns-in_default-clause-written g c = rw (none_left c.args.arguments.now c.in_default.ensures.cases) (writes_nothing g.met.O.Target.nothing)
+returns-in_default-clause-written g c = rw (nil_from_length c.args.arguments.now c.in_default.ensures.cases) (writes_nothing g.met.O.Target.nothing)
 
 pub loop-argument-init : goal.loop-argument-init
 loop-argument-init g c =

@@ -1,4 +1,5 @@
 use Rattle.std.proofs.Common.{◌∙◌, ◌++◌, ◌∷◌, [], false, ap, sym, arith, refl, length, length-append, append_assoc}
+use Rattle.std.proofs.lemmas.List.{nil_from_length}
 use Rattle.graphql_base.specs.Name.{name_text}
 use Rattle.graphql_text.specs.Groups.{comma_lead, comma_rest}
 use Rattle.graphql_text.specs.Layout.{Space, Word, is_broken}
@@ -10,7 +11,7 @@ use Rattle.graphql_values.specs.Values.{object_fields_nesting, object_fields_sha
 use Rattle.graphql_values.specs.ValueTrees.{value_tree, object_field_trees}
 use Rattle.graphql_values.specs.ValueWalk.{part_items, stack_need}
 use Rattle.graphql_values.specs.declared.value_writer.ValuePart.TheVariants.{Fields}
-use Rattle.graphql_values.proofs.ValueStack.{goes_on_by_end, goes_on_by_item, named_some, end_some, none_left, stack_need_push}
+use Rattle.graphql_values.proofs.ValueStack.{goes_on_by_end, goes_on_by_item, named_some, end_some, stack_need_push}
 use Rattle.graphql_values.proofs.value_writer.write_next_field.Goals as goal
 
 pub push-requires : goal.push-requires
@@ -53,6 +54,6 @@ returns-in-Some-clause-written g c =
 pub returns-in-None-clause-written : goal.returns-in-None-clause-written
 returns-in-None-clause-written g c =
     let b = is_broken (mode_of c.args.here.now.prefix) in
-    let none = none_left c.args.fields.now c.in-None.ensures.cases in
+    let none = nil_from_length c.args.fields.now c.in-None.ensures.cases in
     goes_on_by_end g.met.O.Target.more g.met.O.Target.nothing (Fields c.args.fields c.args.is_first) (stack_parts c.args.stack.now) _
     (ap (λ fields. comma_rest rbrace b c.args.is_first (object_fields_shapes b (object_field_trees fields))) none) (end_some b rbrace) (c.write_closing.ensures.written (Word (Punctuation rbrace) ∷ []) refl) c.write_closing.ensures.level

@@ -1,4 +1,5 @@
 use Rattle.std.proofs.Common.{◌∙◌, ◌∷◌, [], false, ap, arith, refl, length, length-append}
+use Rattle.std.proofs.lemmas.List.{nil_from_length}
 use Rattle.graphql_text.specs.Groups.{comma_lead, comma_rest}
 use Rattle.graphql_text.specs.Layout.{Word, is_broken}
 use Rattle.graphql_text.specs.Place.{mode_of}
@@ -8,7 +9,7 @@ use Rattle.graphql_values.specs.Values.{values_nesting, values_shapes, value_sha
 use Rattle.graphql_values.specs.ValueTrees.{value_tree, value_trees}
 use Rattle.graphql_values.specs.ValueWalk.{stack_need}
 use Rattle.graphql_values.specs.declared.value_writer.ValuePart.TheVariants.{Items}
-use Rattle.graphql_values.proofs.ValueStack.{goes_on_by_end, goes_on_by_item, lead_some, end_some, none_left, stack_need_push}
+use Rattle.graphql_values.proofs.ValueStack.{goes_on_by_end, goes_on_by_item, lead_some, end_some, stack_need_push}
 use Rattle.graphql_values.proofs.value_writer.write_next_item.Goals as goal
 
 pub push-requires : goal.push-requires
@@ -47,6 +48,6 @@ returns-in-Some-clause-written g c =
 pub returns-in-None-clause-written : goal.returns-in-None-clause-written
 returns-in-None-clause-written g c =
     let b = is_broken (mode_of c.args.here.now.prefix) in
-    let none = none_left c.args.items.now c.in-None.ensures.cases in
+    let none = nil_from_length c.args.items.now c.in-None.ensures.cases in
     goes_on_by_end g.met.O.Target.more g.met.O.Target.nothing (Items c.args.items c.args.is_first) (stack_parts c.args.stack.now) _
     (ap (λ items. comma_rest rbracket b c.args.is_first (values_shapes b (value_trees items))) none) (end_some b rbracket) (c.write_closing.ensures.written (Word (Punctuation rbracket) ∷ []) refl) c.write_closing.ensures.level

@@ -1,5 +1,5 @@
 //! Values of cases, made by the public constructors.
-use crate::case::{Described, DescribedField};
+use crate::described::{DescribedValue, NamedValue};
 use graphql_base::name::{Name, NameError};
 use graphql_base::node::Node;
 use graphql_values::literal::{FloatValue, IntValue};
@@ -7,7 +7,7 @@ use graphql_values::value::Value;
 use std::alloc::{AllocError, AllocFailed, Global};
 use thiserror::Error;
 
-/// Why there is no value for a case.
+/// Why there is no tree for a case.
 #[derive(Debug, Drop, Error)]
 pub enum BuildError {
     #[error("{0}")]
@@ -32,7 +32,8 @@ impl<T: Drop> From<AllocFailed<T>> for BuildError {
     }
 }
 
-fn name(alloc: Global, text: &str) -> Result<Name, BuildError> {
+/// The name with this text.
+pub fn build_name(alloc: Global, text: &str) -> Result<Name, BuildError> {
     Name::new(alloc, text).map_err(BuildError::Name)
 }
 
@@ -65,37 +66,37 @@ fn nested_lists(alloc: Global, count: u64) -> Result<Value, AllocError> {
 
 /// The value that is described.
 #[cycle(build)]
-pub fn build(alloc: Global, described: &Described) -> Result<Value, BuildError> {
+pub fn build_value(alloc: Global, described: &DescribedValue) -> Result<Value, BuildError> {
     match described {
-        Described::Null => Ok(Value::Null),
-        Described::Enum(text) => Ok(Value::Enum(name(alloc, text)?)),
-        Described::Variable(text) => Ok(Value::Variable(name(alloc, text)?)),
-        Described::String(text) => Ok(Value::from_text(alloc, text)?),
-        Described::Float(text) => float(alloc, text),
-        Described::Int(text) => int(alloc, text),
-        Described::Boolean(boolean) => Ok(Value::from(*boolean)),
-        Described::List(items) => build_list(alloc, items),
-        Described::Object(fields) => build_object(alloc, fields),
-        Described::NestedLists(count) => Ok(nested_lists(alloc, *count)?),
+        DescribedValue::Null => Ok(Value::Null),
+        DescribedValue::Enum(text) => Ok(Value::Enum(build_name(alloc, text)?)),
+        DescribedValue::Variable(text) => Ok(Value::Variable(build_name(alloc, text)?)),
+        DescribedValue::String(text) => Ok(Value::from_text(alloc, text)?),
+        DescribedValue::Float(text) => float(alloc, text),
+        DescribedValue::Int(text) => int(alloc, text),
+        DescribedValue::Boolean(boolean) => Ok(Value::from(*boolean)),
+        DescribedValue::List(items) => build_list(alloc, items),
+        DescribedValue::Object(fields) => build_object(alloc, fields),
+        DescribedValue::NestedLists(count) => Ok(nested_lists(alloc, *count)?),
     }
 }
 
 #[cycle(build)]
-fn build_list(alloc: Global, described: &[Described]) -> Result<Value, BuildError> {
+fn build_list(alloc: Global, described: &[DescribedValue]) -> Result<Value, BuildError> {
     let mut items = Vec::new(alloc);
     for item in described {
-        let value = build(alloc, item)?;
+        let value = build_value(alloc, item)?;
         items.push(Node::new(alloc, value)?)?;
     }
     Ok(Value::List(items))
 }
 
 #[cycle(build)]
-fn build_object(alloc: Global, described: &[DescribedField]) -> Result<Value, BuildError> {
+fn build_object(alloc: Global, described: &[NamedValue]) -> Result<Value, BuildError> {
     let mut fields = Vec::new(alloc);
     for field in described {
-        let value = build(alloc, &field.value)?;
-        fields.push((name(alloc, &field.name)?, Node::new(alloc, value)?))?;
+        let value = build_value(alloc, &field.value)?;
+        fields.push((build_name(alloc, &field.name)?, Node::new(alloc, value)?))?;
     }
     Ok(Value::Object(fields))
 }

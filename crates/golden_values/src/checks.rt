@@ -1,14 +1,13 @@
 //! What is compared with a case.
 use crate::case::Case;
 use crate::sink::ByteSink;
-use graphql_text::engine::{PrintError, Serialize};
+use graphql_text::engine::{PrintError, Serialize, Syntax};
 use graphql_text::sink::{TextSink, VecSink};
-use graphql_values::value::Value;
 use std::alloc::Global;
 use std::fmt;
 use std::fmt::{Display, Formatter, Write};
 
-/// What is asked of a value: whether it is well formed, or its text, in one of the ways in which it can be printed.
+/// What is asked of a tree: whether it is well formed, or its text, in one of the ways in which it can be printed.
 #[derive(Clone, Copy, Debug, PartialEq, Eq)]
 pub enum Check {
     WellFormed,
@@ -18,7 +17,7 @@ pub enum Check {
     ByteSink,
 }
 
-pub const CHECKS: [Check; 5] = [
+const CHECKS: [Check; 5] = [
     Check::WellFormed,
     Check::ToText,
     Check::Display,
@@ -28,10 +27,10 @@ pub const CHECKS: [Check; 5] = [
 
 impl Check {
     /// Whether the answer is the one that the case wants.
-    pub fn passes(self, alloc: Global, case: &Case, value: &Value) -> bool {
-        let print = print_of(case, value);
+    fn passes<T: Syntax>(self, alloc: Global, case: &Case, tree: &T) -> bool {
+        let print = print_of(case, tree);
         match self {
-            Check::WellFormed => value.is_well_formed() == case.well_formed,
+            Check::WellFormed => tree.is_well_formed() == case.well_formed,
             Check::ToText => match print.to_text(alloc) {
                 Ok(text) => is_wanted(case, Ok(()), text.as_bytes()),
                 Err(error) => is_wanted(case, Err(error), b""),
@@ -55,9 +54,19 @@ impl Display for Check {
     }
 }
 
-/// The value, in the layout of the case.
-fn print_of<'a>(case: &'a Case, value: &'a Value) -> Serialize<'a, Value> {
-    let print = value.serialize().initial_indent_level(case.level);
+/// The first check that a tree doesn't pass, if there is one.
+pub fn first_failed<T: Syntax>(alloc: Global, case: &Case, tree: &T) -> Option<Check> {
+    for check in CHECKS {
+        if !check.passes(alloc, case, tree) {
+            return Some(check);
+        }
+    }
+    None
+}
+
+/// The tree, in the layout of the case.
+fn print_of<'a, T: Syntax>(case: &'a Case, tree: &'a T) -> Serialize<'a, T> {
+    let print = Serialize::new(tree).initial_indent_level(case.level);
     match &case.prefix {
         Some(prefix) => print.indent_prefix(prefix.as_str()),
         None => print.no_indent(),
@@ -72,7 +81,7 @@ fn is_wanted(case: &Case, printed: Result<(), PrintError>, bytes: &[u8]) -> bool
     }
 }
 
-fn is_displayed(alloc: Global, case: &Case, print: &Serialize<'_, Value>) -> bool {
+fn is_displayed<T: Syntax>(alloc: Global, case: &Case, print: &Serialize<'_, T>) -> bool {
     let mut shown = String::new(alloc);
     let is_ok = write!(shown, "{print}").is_ok();
     match &case.text {
@@ -81,13 +90,13 @@ fn is_displayed(alloc: Global, case: &Case, print: &Serialize<'_, Value>) -> boo
     }
 }
 
-fn is_put_into_vec(alloc: Global, case: &Case, print: &Serialize<'_, Value>) -> bool {
+fn is_put_into_vec<T: Syntax>(alloc: Global, case: &Case, print: &Serialize<'_, T>) -> bool {
     let mut sink = VecSink::new(alloc);
     let printed = print.print_to(&mut sink);
     is_wanted(case, printed, sink.bytes()) && sink.faults() == 0
 }
 
-fn is_put_bytewise(alloc: Global, case: &Case, print: &Serialize<'_, Value>) -> bool {
+fn is_put_bytewise<T: Syntax>(alloc: Global, case: &Case, print: &Serialize<'_, T>) -> bool {
     let mut sink = ByteSink::new(alloc, usize::MAX);
     let printed = print.print_to(&mut sink);
     is_wanted(case, printed, sink.bytes()) && sink.faults() == 0

@@ -1,33 +1,58 @@
-//! Prints the values of the cases on its input, one a line, and compares each print with the text that stands in the case.
+//! Prints the trees of the cases on its input, one a line, and compares each print with the text that stands in the case.
 //!
 //! The texts were made by an independent model of the layout rules, not by this printer.
 #![tactic(auto)]
 
 mod build;
+mod build_definitions;
 mod case;
 mod checks;
+mod described;
 mod sink;
 #[cfg(test)]
 mod tests;
 
-use crate::build::build;
-use crate::case::read_case;
-use crate::checks::{CHECKS, Check};
+use crate::build::{BuildError, build_value};
+use crate::build_definitions::{
+    build_directive, build_directive_definition, build_directive_list, build_input_value,
+};
+use crate::case::{Case, DescribedTree, read_case};
+use crate::checks::{Check, first_failed};
 use anyhow::{Context, Result};
 use std::alloc::Global;
 use std::io::{BufRead, BufReader};
 use std::process::ExitCode;
 
+/// The first check that the tree of a case doesn't pass, if there is one.
+fn difference(alloc: Global, case: &Case) -> Result<Option<Check>, BuildError> {
+    match &case.tree {
+        DescribedTree::Value(described) => {
+            let value = build_value(alloc, described)?;
+            Ok(first_failed(alloc, case, &value))
+        }
+        DescribedTree::Directive(described) => {
+            let directive = build_directive(alloc, described)?;
+            Ok(first_failed(alloc, case, &directive))
+        }
+        DescribedTree::DirectiveList(described) => {
+            let directives = build_directive_list(alloc, described)?;
+            Ok(first_failed(alloc, case, &directives))
+        }
+        DescribedTree::InputValueDefinition(described) => {
+            let definition = build_input_value(alloc, described)?;
+            Ok(first_failed(alloc, case, &definition))
+        }
+        DescribedTree::DirectiveDefinition(described) => {
+            let definition = build_directive_definition(alloc, described)?;
+            Ok(first_failed(alloc, case, &definition))
+        }
+    }
+}
+
 /// The first check that the case on a line doesn't pass, if there is one.
 fn first_difference(alloc: Global, line: &str) -> Result<Option<Check>> {
     let case = read_case(alloc, line)?;
-    let value = build(alloc, &case.value)?;
-    for check in CHECKS {
-        if !check.passes(alloc, &case, &value) {
-            return Ok(Some(check));
-        }
-    }
-    Ok(None)
+    Ok(difference(alloc, &case)?)
 }
 
 fn main(rt: HostRuntime) -> Result<ExitCode> {

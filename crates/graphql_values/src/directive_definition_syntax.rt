@@ -103,3 +103,6 @@ impl fmt::Display for DirectiveDefinition {
         self.serialize().fmt(f)
     }
 }
+
+#[cfg(test)]
+mod tests;

@@ -102,3 +102,6 @@ impl fmt::Display for InputValueDefinition {
         self.serialize().fmt(f)
     }
 }
+
+#[cfg(test)]
+mod tests;

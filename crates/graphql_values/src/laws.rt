@@ -27,6 +27,7 @@ use crate::directive::{Directive, DirectiveList};
 pub use crate::laws::definitions::{
     clones_are_the_same_directive_definition, clones_are_the_same_input_value_definition,
     directive_definitions_compare_by_tree, directive_locations_compare_by_tree,
+    displayed_directive_definitions_are_read, displayed_input_value_definitions_are_read,
     equal_directive_definitions_hash_alike, equal_input_value_definitions_hash_alike,
     input_value_definitions_compare_by_tree, operation_types_compare_by_tree,
 };

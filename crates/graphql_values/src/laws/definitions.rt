@@ -1,11 +1,15 @@
-//! What holds of directive definitions, input value definitions, locations and operation types as they are compared and cloned.
-ghost use Rattle.std.specs.Prelude.{◌≡◌, ◌↔◌, IsTrue};
+//! What holds of directive definitions, input value definitions, locations and operation types as they are displayed, compared and cloned.
+ghost use Rattle.std.specs.Prelude.{◌≡◌, ◌↔◌, IsTrue, MatchOption};
+ghost use Rattle.graphql_text.specs.Printing.{ReadsAlone};
 ghost use Rattle.graphql_values.specs.DefinitionTrees.{directive_definition_tree, input_value_tree};
+ghost use Rattle.graphql_values.specs.DirectiveDefinitions.{directive_definition_form, directive_definition_obeys};
+ghost use Rattle.graphql_values.specs.InputValues.{input_value_form, input_value_obeys};
 ghost use Rattle.graphql_values.specs.LocationTrees.{location_tree, operation_type_tree};
 
 use crate::definition::{DirectiveDefinition, InputValueDefinition};
 use crate::location::DirectiveLocation;
 use crate::operation_type::OperationType;
+use std::fmt::Display;
 use std::hash::Hash;
 
 /// Two operation types are equal exactly if they are the same variant.
@@ -61,3 +65,19 @@ pub fn clones_are_the_same_directive_definition(
         × (copy.now.locations.items ≡ definition.now.locations.items) }
     ensures tree { ⟦<DirectiveDefinition as Clone>⟧.is_clone definition.now copy.now → directive_definition_tree copy.now ≡ directive_definition_tree definition.now }
 {}
+
+/// What is displayed of an input value definition that obeys the side conditions is read as that definition and as no other.
+pub fn displayed_input_value_definitions_are_read(input: &InputValueDefinition)
+    ensures { IsTrue (input_value_obeys (input_value_tree input.now)) →
+        MatchOption (⟦<InputValueDefinition as Display>⟧.output input.now) ⊥ (λ bytes. ReadsAlone input_value_form bytes (input_value_tree input.now)) }
+{
+    let _input = input;
+}
+
+/// What is displayed of a directive definition that obeys the side conditions is read as that definition and as no other.
+pub fn displayed_directive_definitions_are_read(definition: &DirectiveDefinition)
+    ensures { IsTrue (directive_definition_obeys (directive_definition_tree definition.now)) →
+        MatchOption (⟦<DirectiveDefinition as Display>⟧.output definition.now) ⊥ (λ bytes. ReadsAlone directive_definition_form bytes (directive_definition_tree definition.now)) }
+{
+    let _definition = definition;
+}

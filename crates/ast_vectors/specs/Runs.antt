@@ -3,13 +3,15 @@ use Rattle.std.specs.Prelude.{ℕ, List, [], ◌∷◌, ◌++◌, Bool, false, O
 use Rattle.std.specs.declared.alloc.Global.{Global}
 use Rattle.std.specs.Io.KnownBytes.{Appends}
 use Rattle.graphql_text.specs.Forms.{is_one_of}
+use Rattle.graphql_text.specs.Layout.{Item}
 use Rattle.graphql_text.specs.Reading.{layout_of}
+use Rattle.graphql_values.specs.DirectiveDefinitions.{DirectiveDefinitionTree, directive_definition_shape}
 use Rattle.graphql_values.specs.Values.{ValueTree, value_shape}
 
 -- the numbers of the vectors
 abbrev pub vector_numbers : List (List ℕ)
 vector_numbers =
-    codes "1" ∷ codes "2" ∷ codes "3" ∷ codes "4" ∷ codes "5" ∷ codes "6" ∷ codes "15" ∷ codes "20" ∷ []
+    codes "1" ∷ codes "2" ∷ codes "3" ∷ codes "4" ∷ codes "5" ∷ codes "6" ∷ codes "14" ∷ codes "15" ∷ codes "20" ∷ []
 
 -- whether a word is the number of a vector
 abbrev pub is_vector_number : List ℕ → Bool
@@ -20,13 +22,23 @@ abbrev pub name_a_vector : List (String Global) → Bool
 name_a_vector (word ∷ []) = is_vector_number (string_bytes word)
 name_a_vector words = false
 
--- the line of a value: its layout with this prefix, or none on one line, from this level on, and a line feed
-abbrev pub line_of : Option (List ℕ) → ℕ → ValueTree → List ℕ
-line_of mode level tree = encode_utf8_all (layout_of (λ broken is_front. value_shape broken) mode level tree) ++ codes "\n"
+-- the line of a tree: its layout with this prefix, or none on one line, from this level on, and a line feed
+abbrev pub line_of : {Tree : Type 0} → (Bool → Bool → Tree → List Item) → Option (List ℕ) → ℕ → Tree → List ℕ
+line_of shape mode level tree = encode_utf8_all (layout_of shape mode level tree) ++ codes "\n"
 
--- known bytes grow by the line of some value
+-- a tree that a vector may have
+pub data VectorTree : Type 0 where
+  a_value : ValueTree → VectorTree
+  a_directive_definition : DirectiveDefinitionTree → VectorTree
+
+-- the line of such a tree
+abbrev pub vector_line : Option (List ℕ) → ℕ → VectorTree → List ℕ
+vector_line mode level (a_value tree) = line_of (λ broken is_front. value_shape broken) mode level tree
+vector_line mode level (a_directive_definition tree) = line_of (λ broken is_front. directive_definition_shape broken) mode level tree
+
+-- known bytes grow by the line of some vector
 pub record GrowsByLine (old new : Option (List ℕ)) : Type 0 where
   pub mode : Option (List ℕ)
   pub level : ℕ
-  pub tree : ValueTree
-  pub appended : Appends old new (line_of mode level tree)
+  pub tree : VectorTree
+  pub appended : Appends old new (vector_line mode level tree)

@@ -3,15 +3,19 @@ ghost use Rattle.std.specs.Prelude.{◌≡◌, ◌≤◌, ◌≢◌, ◌↔◌, 
 ghost use Rattle.std.specs.Io.KnownBytes.{Appends};
 ghost use Rattle.graphql_text.specs.Place.{mode_of};
 ghost use Rattle.graphql_text.specs.Sinks.{CanFault};
-ghost use Rattle.graphql_values.specs.ValueTrees.{value_tree};
-ghost use Rattle.ast_vectors.specs.Runs.{GrowsByLine, is_vector_number, line_of, name_a_vector};
+ghost use Rattle.ast_vectors.specs.Runs.{GrowsByLine, is_vector_number, line_of, name_a_vector, vector_line};
+ghost use Rattle.ast_vectors.specs.VectorTrees.{vector_tree};
 
 use graphql_base::name;
 use graphql_base::name::Name;
 use graphql_base::node::Node;
-use graphql_text::engine::PrintError;
+use graphql_text::engine::{PrintError, Serialize, Syntax};
 use graphql_text::sink::{SinkFault, StreamSink, TextSink};
+use graphql_values::definition::{DirectiveDefinition, InputValueDefinition};
+use graphql_values::directive::{Directive, DirectiveList};
 use graphql_values::literal::FloatValue;
+use graphql_values::location::DirectiveLocation;
+use graphql_values::ty;
 use graphql_values::value::Value;
 use std::alloc::{AllocError, Global};
 use std::io::Write;
@@ -136,18 +140,95 @@ fn object_of_all_kinds(alloc: Global) -> Result<Value, AllocError> {
     Ok(Value::Object(fields))
 }
 
+/// An argument of type `Int`.
+fn argument(
+    alloc: Global,
+    name: Name,
+    directives: DirectiveList,
+) -> Result<Node<InputValueDefinition>, AllocError> {
+    let input = InputValueDefinition {
+        description: None,
+        name,
+        ty: Node::new(alloc, ty!(Int))?,
+        default_value: None,
+        directives,
+    };
+    Node::new(alloc, input)
+}
+
+/// `@x`.
+fn one_directive(alloc: Global) -> Result<DirectiveList, AllocError> {
+    let mut list = DirectiveList::new(alloc);
+    match list.push(Node::new(alloc, Directive::new(alloc, name!(x)))?) {
+        Ok(()) => Ok(list),
+        Err(_) => Err(AllocError),
+    }
+}
+
+/// A directive definition with two arguments, the first of which has a directive.
+fn definition_with_directive(alloc: Global) -> Result<DirectiveDefinition, AllocError> {
+    let mut arguments = Vec::new(alloc);
+    arguments.push(argument(alloc, name!(a), one_directive(alloc)?)?)?;
+    arguments.push(argument(alloc, name!(b), DirectiveList::new(alloc))?)?;
+    let mut locations = Vec::new(alloc);
+    locations.push(DirectiveLocation::Field)?;
+    Ok(DirectiveDefinition {
+        description: None,
+        name: name!(d),
+        arguments,
+        repeatable: false,
+        locations,
+    })
+}
+
+/// The tree of a vector.
+#[derive(Drop)]
+enum Tree {
+    Value(Value),
+    DirectiveDefinition(DirectiveDefinition),
+}
+
 /// A tree, and the layout that it is printed in: the prefix, or none on one line, and the starting level.
 #[derive(Drop)]
 struct Vector {
-    tree: Value,
+    tree: Tree,
     prefix: Option<&'static str>,
     level: usize,
 }
 
+/// Prints a tree of any kind, and a line feed.
+fn print_line<T: Syntax, W: Write>(
+    tree: &T,
+    prefix: Option<&str>,
+    level: usize,
+    sink: &mut StreamSink<W>,
+) -> Result<(), VectorError>
+    requires { CanFault (⟦<StreamSink<W> as TextSink>⟧.fault_count sink.old) }
+    ensures printed { OnOk result (Appends (⟦<StreamSink<W> as TextSink>⟧.taken sink.old) (⟦<StreamSink<W> as TextSink>⟧.taken sink.new) (line_of T.shape (mode_of prefix.entry) level (T.tree tree.now))) }
+    ensures known { ¬ IsErrOf result VectorError.Unknown }
+{
+    let flat = Serialize::new(tree).no_indent().initial_indent_level(level);
+    let print = match prefix {
+        Some(prefix) => flat.indent_prefix(prefix),
+        None => flat,
+    };
+    print.print_to(sink).map_err(VectorError::Print)?;
+    sink.put(b"\n").map_err(VectorError::Line)?;
+    Ok(())
+}
+
 impl Vector {
-    fn of(tree: Value, prefix: Option<&'static str>) -> Vector {
+    fn of_value(value: Value, prefix: Option<&'static str>) -> Vector {
         Vector {
-            tree,
+            tree: Tree::Value(value),
+            prefix,
+            level: 0,
+        }
+    }
+
+    fn of_definition(definition: DirectiveDefinition, prefix: Option<&'static str>) -> Vector {
+        Vector {
+            tree: Tree::DirectiveDefinition(definition),
             prefix,
             level: 0,
         }
@@ -164,21 +245,15 @@ impl Vector {
     /// Prints the tree, and a line feed.
     fn print<W: Write>(&self, sink: &mut StreamSink<W>) -> Result<(), VectorError>
         requires { CanFault (⟦<StreamSink<W> as TextSink>⟧.fault_count sink.old) }
-        ensures printed { OnOk result (Appends (⟦<StreamSink<W> as TextSink>⟧.taken sink.old) (⟦<StreamSink<W> as TextSink>⟧.taken sink.new) (line_of (mode_of self.now.prefix) self.now.level (value_tree self.now.tree))) }
+        ensures printed { OnOk result (Appends (⟦<StreamSink<W> as TextSink>⟧.taken sink.old) (⟦<StreamSink<W> as TextSink>⟧.taken sink.new) (vector_line (mode_of self.now.prefix) self.now.level (vector_tree self.now.tree))) }
         ensures known { ¬ IsErrOf result VectorError.Unknown }
     {
-        let flat = self
-            .tree
-            .serialize()
-            .no_indent()
-            .initial_indent_level(self.level);
-        let print = match self.prefix {
-            Some(prefix) => flat.indent_prefix(prefix),
-            None => flat,
-        };
-        print.print_to(sink).map_err(VectorError::Print)?;
-        sink.put(b"\n").map_err(VectorError::Line)?;
-        Ok(())
+        match &self.tree {
+            Tree::Value(value) => print_line(value, self.prefix, self.level, sink),
+            Tree::DirectiveDefinition(definition) => {
+                print_line(definition, self.prefix, self.level, sink)
+            }
+        }
     }
 }
 
@@ -188,14 +263,15 @@ fn find_vector(alloc: Global, number: &str) -> Result<Option<Vector>, AllocError
     ensures err { OnErr result (IsTrue (is_vector_number number.now)) }
 {
     Ok(Some(match number {
-        "1" => Vector::of(four_values(alloc)?, None),
-        "2" => Vector::of(object_of_all_kinds(alloc)?, Some("  ")),
-        "3" => Vector::of(string(alloc, "\u{1}\t\u{7F}")?, Some("  ")),
-        "4" => Vector::of(string(alloc, "a\nb")?, Some("  ")),
-        "5" => Vector::of(string(alloc, "a\nb")?, None),
-        "6" => Vector::of(list_of_one(alloc, string(alloc, "a\n\n b")?)?, Some("  ")),
-        "15" => Vector::of(Value::Null, None).at_level(usize::MAX),
-        "20" => Vector::of(numbers(alloc, 1)?, Some(">")).at_level(1),
+        "1" => Vector::of_value(four_values(alloc)?, None),
+        "2" => Vector::of_value(object_of_all_kinds(alloc)?, Some("  ")),
+        "3" => Vector::of_value(string(alloc, "\u{1}\t\u{7F}")?, Some("  ")),
+        "4" => Vector::of_value(string(alloc, "a\nb")?, Some("  ")),
+        "5" => Vector::of_value(string(alloc, "a\nb")?, None),
+        "6" => Vector::of_value(list_of_one(alloc, string(alloc, "a\n\n b")?)?, Some("  ")),
+        "14" => Vector::of_definition(definition_with_directive(alloc)?, Some("  ")),
+        "15" => Vector::of_value(Value::Null, None).at_level(usize::MAX),
+        "20" => Vector::of_value(numbers(alloc, 1)?, Some(">")).at_level(1),
         _ => return Ok(None),
     }))
 }

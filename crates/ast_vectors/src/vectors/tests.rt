@@ -109,7 +109,7 @@ fn check_run(
     Ok(())
 }
 
-const KNOWN: [(&str, &str); 8] = [
+const KNOWN: [(&str, &str); 9] = [
     ("1", "[1, EXAMPLE, true, null]\n"),
     (
         "2",
@@ -119,6 +119,7 @@ const KNOWN: [(&str, &str); 8] = [
     ("4", "\"\"\"\na\nb\n\"\"\"\n"),
     ("5", "\"a\\nb\"\n"),
     ("6", "[\n  \"\"\"\n  a\n\n   b\n  \"\"\",\n]\n"),
+    ("14", "directive @d(\n  a: Int @x,\n  b: Int,\n) on FIELD\n"),
     ("15", "null\n"),
     ("20", ">[\n>>1,\n>]\n"),
 ];

@@ -1,5 +1,5 @@
 -- The layouts of input value definitions and directive definitions, piece by piece.
-use Rattle.std.proofs.Common.{◌≡◌, ◌≢◌, ℕ, ◌+◌, ◌<◌, ◌≤◌, Bool, true, false, List, [], ◌∷◌, ◌++◌, Option, Some, None, length, map, refl, arith, codes}
+use Rattle.std.proofs.Common.{◌≡◌, ◌≢◌, ◌<◌, ◌≤◌, Bool, true, false, List, [], ◌∷◌, ◌++◌, Option, Some, None, length, map, refl, arith, codes}
 use Rattle.std.specs.List.{list_any}
 use Rattle.graphql_base.specs.declared.node.Node.{Node}
 use Rattle.graphql_base.specs.Node.{node_value}

@@ -135,7 +135,10 @@ fn descriptions_and_locations(rt: HostRuntime) -> Result<(), Fail> {
 fn no_location_is_printed_all_the_same(rt: HostRuntime) -> Result<(), Fail> {
     let definition = bare(rt.alloc());
     assert!(rt; !definition.is_well_formed());
-    assert_eq!(rt; definition.serialize().to_text(rt.alloc())?.as_str(), "directive @d");
+    assert_eq!(rt;
+        definition.serialize().to_text(rt.alloc())?.as_str(),
+        "directive @d"
+    );
     Ok(())
 }
 
@@ -149,6 +152,11 @@ fn levels_at_the_edge(rt: HostRuntime) -> Result<(), Fail> {
         print.initial_indent_level(usize::MAX).to_text(alloc).err(),
         Some(PrintError::LevelOverflow)
     );
-    assert!(rt; print.initial_indent_level(usize::MAX - 1).to_text(alloc).is_ok());
+    assert!(rt;
+        print
+            .initial_indent_level(usize::MAX - 1)
+            .to_text(alloc)
+            .is_ok()
+    );
     Ok(())
 }

@@ -105,6 +105,11 @@ fn levels_at_the_edge(rt: HostRuntime) -> Result<(), Fail> {
         print.initial_indent_level(usize::MAX).to_text(alloc).err(),
         Some(PrintError::LevelOverflow)
     );
-    assert!(rt; print.initial_indent_level(usize::MAX - 1).to_text(alloc).is_ok());
+    assert!(rt;
+        print
+            .initial_indent_level(usize::MAX - 1)
+            .to_text(alloc)
+            .is_ok()
+    );
     Ok(())
 }

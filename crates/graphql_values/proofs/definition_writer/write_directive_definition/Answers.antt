@@ -1,5 +1,4 @@
 use Rattle.std.proofs.Common.{[], ◌∷◌, refl, codes}
-use Rattle.graphql_base.specs.Name.{name_text}
 use Rattle.graphql_text.specs.Layout.{Space, Word}
 use Rattle.graphql_text.specs.Tokens.{at, Punctuation, Name}
 use Rattle.graphql_text.proofs.WritingLaws.{writes_then}

@@ -1,11 +1,14 @@
 //! Calls that meet a refused growth, wherever it comes: the answer is the refusal, or that of an undisturbed call.
 //! `rt try --test --fail-alloc N` refuses the Nth growth of each test.
 use crate::arguments::SpecifiedArgumentError;
+use crate::definition::{DirectiveDefinition, InputValueDefinition};
 use crate::directive::{Argument, Directive, DirectiveList};
+use crate::literal::FloatValue;
+use crate::ty;
 use crate::value::Value;
 use graphql_base::name;
 use graphql_base::node::Node;
-use graphql_text::engine::PrintError;
+use graphql_text::engine::{PrintError, Serialize, Syntax};
 use graphql_text::sink::StreamSink;
 use std::alloc::{AllocError, Global};
 use std::io::Cursor;
@@ -100,9 +103,9 @@ fn a_list_is_made_or_refused(rt: HostRuntime) {
 }
 
 // How the print into a writer ends that asks for no memory, and how many bytes the writer took.
-fn printed(directive: &Directive) -> (Result<(), PrintError>, u64) {
+fn printed<T: Syntax>(tree: &T) -> (Result<(), PrintError>, u64) {
     let mut sink = StreamSink::new(Cursor::new([0; 32]));
-    let result = directive.serialize().print_to(&mut sink);
+    let result = Serialize::new(tree).no_indent().print_to(&mut sink);
     (result, sink.into_inner().position())
 }
 
@@ -120,4 +123,96 @@ fn a_directive_is_printed_or_nothing_is(rt: HostRuntime) {
 fn no_memory_is_asked_without_arguments(rt: HostRuntime) {
     let directive = Directive::new(rt.alloc(), name!(a));
     assert_eq!(rt; printed(&directive), (Ok(()), 2));
+}
+
+// `[[], 1.5]`
+fn list(alloc: Global) -> Result<Value, AllocError> {
+    let mut items = Vec::new(alloc);
+    items.push(Node::new(alloc, Value::List(Vec::new(alloc)))?)?;
+    let float = FloatValue::new_parsed(alloc, "1.5")?;
+    items.push(Node::new(alloc, Value::Float(float))?)?;
+    Ok(Value::List(items))
+}
+
+#[test]
+fn a_value_is_made_or_refused(rt: HostRuntime) {
+    let alloc = rt.alloc();
+    if let Ok(value) = Value::from_i32(alloc, -7) {
+        assert!(rt; value.to_i32() == Some(-7));
+    }
+    if let Ok(value) = Value::from_text(alloc, "text") {
+        assert!(rt; value.as_str() == Some("text"));
+    }
+}
+
+#[test]
+fn a_value_is_copied_or_refused(rt: HostRuntime) {
+    let Ok(value) = list(rt.alloc()) else {
+        return;
+    };
+    if let Ok(copy) = value.clone() {
+        assert!(rt; copy == value);
+    }
+}
+
+#[test]
+fn a_value_is_printed_or_nothing_is(rt: HostRuntime) {
+    let Ok(value) = list(rt.alloc()) else {
+        return;
+    };
+    let (result, count) = printed(&value);
+    assert!(rt; result == Ok(()) || result == Err(PrintError::Memory));
+    assert_eq!(rt; count, if result.is_ok() { 9 } else { 0 });
+}
+
+#[test]
+fn no_memory_is_asked_without_lists(rt: HostRuntime) {
+    assert_eq!(rt; printed(&Value::Null), (Ok(()), 4));
+    assert_eq!(rt; printed(&Value::Enum(name!(ON))), (Ok(()), 2));
+    assert_eq!(rt; printed(&Value::List(Vec::new(rt.alloc()))), (Ok(()), 2));
+}
+
+// `a: [[I!]] = [[], 1.5]`
+fn input(alloc: Global) -> Result<InputValueDefinition, AllocError> {
+    Ok(InputValueDefinition {
+        description: None,
+        name: name!(a),
+        ty: Node::new(alloc, ty!(in alloc; [[I!]])?)?,
+        default_value: Some(Node::new(alloc, list(alloc)?)?),
+        directives: DirectiveList::new(alloc),
+    })
+}
+
+#[test]
+fn an_input_value_is_printed_or_nothing_is(rt: HostRuntime) {
+    let Ok(input) = input(rt.alloc()) else {
+        return;
+    };
+    let (result, count) = printed(&input);
+    assert!(rt; result == Ok(()) || result == Err(PrintError::Memory));
+    assert_eq!(rt; count, if result.is_ok() { 21 } else { 0 });
+}
+
+// `directive @d(a: [[I!]] = [[], 1.5])`
+fn definition(alloc: Global) -> Result<DirectiveDefinition, AllocError> {
+    let mut arguments = Vec::new(alloc);
+    arguments.push(Node::new(alloc, input(alloc)?)?)?;
+    Ok(DirectiveDefinition {
+        description: None,
+        name: name!(d),
+        arguments,
+        repeatable: false,
+        locations: Vec::new(alloc),
+    })
+}
+
+#[test]
+fn a_text_is_whole_or_refused(rt: HostRuntime) {
+    let Ok(definition) = definition(rt.alloc()) else {
+        return;
+    };
+    match definition.serialize().to_text(rt.alloc()) {
+        Ok(text) => assert_eq!(rt; text.as_str(), "directive @d(a: [[I!]] = [[], 1.5])"),
+        Err(error) => assert_eq!(rt; error, PrintError::Memory),
+    }
 }

@@ -1,5 +1,5 @@
 //! A buffer of text on its owner's frame.
-ghost use Rattle.std.specs.Prelude.{◌≡◌, ◌≤◌, ◌++◌, [], IsTrue, IsUtf8, false, take};
+ghost use Rattle.std.specs.Prelude.{◌≡◌, ◌≤◌, ◌+◌, ◌++◌, [], IsTrue, IsUtf8, false, length, take};
 
 /// Text that waits to be sent. It takes no memory.
 #[derive(Drop)]
@@ -44,6 +44,7 @@ impl Buffer {
     pub(crate) fn add(&mut self, text: &str) -> bool
         ensures added { IsTrue result → waiting_bytes self.new ≡ waiting_bytes self.old ++ text.now }
         ensures full { result ≡ false → self.new ≡ self.old }
+        ensures room { length (waiting_bytes self.old) + length text.now ≤ 1024 → IsTrue result }
     {
         let used = self.used;
         if text.len() <= 1024 - used {

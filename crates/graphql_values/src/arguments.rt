@@ -163,6 +163,3 @@ impl Directive {
         }
     }
 }
-
-#[cfg(test)]
-mod tests;

@@ -78,6 +78,3 @@ impl DirectiveDefinition {
         }
     }
 }
-
-#[cfg(test)]
-mod tests;

@@ -53,6 +53,3 @@ impl Directive {
         Directive { name, arguments }
     }
 }
-
-#[cfg(test)]
-mod tests;

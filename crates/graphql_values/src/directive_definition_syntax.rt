@@ -103,6 +103,3 @@ impl fmt::Display for DirectiveDefinition {
         self.serialize().fmt(f)
     }
 }
-
-#[cfg(test)]
-mod tests;

@@ -193,6 +193,3 @@ impl<'l> IntoIterator for &'l mut DirectiveList {
         self.0.as_mut_slice().iter_mut()
     }
 }
-
-#[cfg(test)]
-mod tests;

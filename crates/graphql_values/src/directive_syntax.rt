@@ -101,6 +101,3 @@ impl fmt::Display for Directive {
         self.serialize().fmt(f)
     }
 }
-
-#[cfg(test)]
-mod tests;

@@ -102,6 +102,3 @@ impl fmt::Display for InputValueDefinition {
         self.serialize().fmt(f)
     }
 }
-
-#[cfg(test)]
-mod tests;

@@ -17,8 +17,6 @@ pub mod location;
 mod number_syntax;
 pub mod operation_type;
 mod owned_text;
-#[cfg(test)]
-mod refusals;
 mod type_writer;
 pub mod types;
 pub mod value;

@@ -145,6 +145,3 @@ impl Display for FloatValue {
         f.pad(self.as_str())
     }
 }
-
-#[cfg(test)]
-mod tests;

@@ -82,6 +82,3 @@ impl Display for DirectiveLocation {
         f.pad(self.name())
     }
 }
-
-#[cfg(test)]
-mod tests;

@@ -69,6 +69,3 @@ impl Display for OperationType {
         f.pad(self.name())
     }
 }
-
-#[cfg(test)]
-mod tests;

@@ -109,6 +109,3 @@ pub fn write_type<O: Target>(ty: &Type, out: &mut O, stack: &mut Stack<TypePart>
     }
     write_ends(out, stack);
 }
-
-#[cfg(test)]
-mod tests;

@@ -206,6 +206,3 @@ macro_rules! ty {
         $crate::ty!($($name)+).list($alloc)
     };
 }
-
-#[cfg(test)]
-mod tests;

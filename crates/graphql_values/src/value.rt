@@ -187,6 +187,3 @@ impl From<String> for Value {
         Value::String(text)
     }
 }
-
-#[cfg(test)]
-mod tests;

@@ -108,6 +108,3 @@ impl fmt::Display for Value {
         self.serialize().fmt(f)
     }
 }
-
-#[cfg(test)]
-mod tests;

@@ -1,5 +1,5 @@
 //! The words of operation types.
-use super::OperationType;
+use graphql_values::operation_type::OperationType;
 use std::test::Fail;
 
 #[test]

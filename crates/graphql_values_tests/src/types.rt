@@ -1,8 +1,8 @@
 //! Worked types.
-use super::{NamedType, Type};
-use crate::ty;
 use graphql_base::name;
 use graphql_base::span::{FileId, SourceSpan};
+use graphql_values::ty;
+use graphql_values::types::{NamedType, Type};
 use std::alloc::{AllocError, Global};
 use std::test::Fail;
 

@@ -1,7 +1,7 @@
-use crate::value::Value;
 use graphql_base::name;
 use graphql_base::node::Node;
 use graphql_text::sink::{TextSink, VecSink};
+use graphql_values::value::Value;
 use std::alloc::{AllocError, Global};
 use std::test::Fail;
 

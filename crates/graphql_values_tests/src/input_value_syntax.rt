@@ -1,12 +1,12 @@
 //! Worked prints of input value definitions.
-use crate::definition::InputValueDefinition;
-use crate::directive::{Argument, Directive, DirectiveList};
-use crate::ty;
-use crate::types::Type;
-use crate::value::Value;
 use graphql_base::name;
 use graphql_base::node::Node;
 use graphql_text::engine::{PrintError, Syntax};
+use graphql_values::definition::InputValueDefinition;
+use graphql_values::directive::{Argument, Directive, DirectiveList};
+use graphql_values::ty;
+use graphql_values::types::Type;
+use graphql_values::value::Value;
 use std::alloc::{AllocError, Global};
 use std::test::Fail;
 

@@ -1,6 +1,6 @@
 //! The words of directive locations.
-use super::DirectiveLocation;
-use crate::operation_type::OperationType;
+use graphql_values::location::DirectiveLocation;
+use graphql_values::operation_type::OperationType;
 use std::test::Fail;
 
 #[test]

@@ -1,4 +1,4 @@
-use super::{FloatValue, IntValue};
+use graphql_values::literal::{FloatValue, IntValue};
 use std::test::Fail;
 
 const CHARACTERS: [&str; 9] = ["0", "1", "-", "+", ".", "e", "E", "a", "_"];

@@ -4,14 +4,14 @@ ghost use Rattle.graphql_values.specs.TypeTrees.{type_tree};
 ghost use Rattle.graphql_values.specs.Wrappings.{list_depth};
 ghost use Rattle.graphql_values.specs.laws.KindLaws.{type_laws};
 
-use super::{TypePart, find_list_depth, type_allocator, write_type};
-use crate::ty;
-use crate::types::Type;
 use graphql_text::engine::{Serialize, Syntax};
 use graphql_text::place::Place;
 use graphql_text::stack::Stack;
 use graphql_text::target::Target;
 use graphql_text::writers::write_first_indent;
+use graphql_values::ty;
+use graphql_values::types::Type;
+use graphql_values::writers::{TypePart, find_list_depth, type_allocator, write_type};
 use std::alloc::AllocError;
 use std::test::Fail;
 

@@ -1,8 +1,8 @@
-use super::Value;
-use crate::well_formed::{Constness, is_well_formed_at};
 use graphql_base::name;
 use graphql_base::node::Node;
 use graphql_base::span::{FileId, SourceSpan};
+use graphql_values::value::Value;
+use graphql_values::well_formed::{Constness, is_well_formed_at};
 use std::alloc::{AllocError, Global};
 use std::test::Fail;
 

@@ -1,14 +1,14 @@
 //! Worked prints of directives and lists of directives.
 ghost use Rattle.std.specs.Prelude.{None};
 
-use crate::directive::{Argument, Directive, DirectiveList};
-use crate::value::Value;
-use crate::well_formed::{Constness, are_directives_well_formed};
 use graphql_base::name;
 use graphql_base::name::Name;
 use graphql_base::node::Node;
 use graphql_text::engine::{PrintError, Serialize, Syntax};
 use graphql_text::sink::{SinkFault, TextSink};
+use graphql_values::directive::{Argument, Directive, DirectiveList};
+use graphql_values::value::Value;
+use graphql_values::well_formed::{Constness, are_directives_well_formed};
 use std::alloc::{AllocError, Global};
 use std::test::Fail;
 

@@ -1,9 +1,9 @@
 //! Worked arguments and directives.
-use super::{Argument, Directive};
-use crate::value::Value;
 use graphql_base::name;
 use graphql_base::node::Node;
 use graphql_base::span::{FileId, SourceSpan};
+use graphql_values::directive::{Argument, Directive};
+use graphql_values::value::Value;
 use std::alloc::{AllocError, Global};
 use std::collections::HashSet;
 use std::test::Fail;

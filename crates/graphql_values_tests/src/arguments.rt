@@ -2,14 +2,14 @@
 ghost use Rattle.std.specs.Prelude.{◌≡◌, OnErr, OnOk};
 ghost use Rattle.graphql_values.specs.ArgumentLoans.{with_value_of};
 
-use super::{ArgumentByNameError, ArgumentValue, SpecifiedArgumentError};
-use crate::definition::{DirectiveDefinition, InputValueDefinition};
-use crate::directive::{Argument, Directive, DirectiveList};
-use crate::types::Type;
-use crate::value::Value;
 use graphql_base::name;
 use graphql_base::name::Name;
 use graphql_base::node::Node;
+use graphql_values::arguments::{ArgumentByNameError, ArgumentValue, SpecifiedArgumentError};
+use graphql_values::definition::{DirectiveDefinition, InputValueDefinition};
+use graphql_values::directive::{Argument, Directive, DirectiveList};
+use graphql_values::types::Type;
+use graphql_values::value::Value;
 use indexmap::IndexMap;
 use std::alloc::{AllocError, Global};
 use std::test::Fail;

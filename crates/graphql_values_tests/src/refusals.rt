@@ -1,15 +1,15 @@
 //! Calls that meet a refused growth, wherever it comes: the answer is the refusal, or that of an undisturbed call.
 //! `rt try --test --fail-alloc N` refuses the Nth growth of each test.
-use crate::arguments::SpecifiedArgumentError;
-use crate::definition::{DirectiveDefinition, InputValueDefinition};
-use crate::directive::{Argument, Directive, DirectiveList};
-use crate::literal::FloatValue;
-use crate::ty;
-use crate::value::Value;
 use graphql_base::name;
 use graphql_base::node::Node;
 use graphql_text::engine::{PrintError, Serialize, Syntax};
 use graphql_text::sink::StreamSink;
+use graphql_values::arguments::SpecifiedArgumentError;
+use graphql_values::definition::{DirectiveDefinition, InputValueDefinition};
+use graphql_values::directive::{Argument, Directive, DirectiveList};
+use graphql_values::literal::FloatValue;
+use graphql_values::ty;
+use graphql_values::value::Value;
 use std::alloc::{AllocError, Global};
 use std::io::Cursor;
 

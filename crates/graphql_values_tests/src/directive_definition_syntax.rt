@@ -1,12 +1,12 @@
 //! Worked prints of directive definitions.
-use crate::definition::{DirectiveDefinition, InputValueDefinition};
-use crate::directive::{Directive, DirectiveList};
-use crate::location::DirectiveLocation;
-use crate::ty;
 use graphql_base::name;
 use graphql_base::name::Name;
 use graphql_base::node::{Node, NodeStr};
 use graphql_text::engine::{PrintError, Syntax};
+use graphql_values::definition::{DirectiveDefinition, InputValueDefinition};
+use graphql_values::directive::{Directive, DirectiveList};
+use graphql_values::location::DirectiveLocation;
+use graphql_values::ty;
 use std::alloc::{AllocError, Global};
 use std::test::Fail;
 

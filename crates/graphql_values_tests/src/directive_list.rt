@@ -1,10 +1,9 @@
 //! Worked lists of directives.
-use super::DirectiveList;
-use crate::directive::{Argument, Directive};
-use crate::value::Value;
 use graphql_base::name;
 use graphql_base::name::Name;
 use graphql_base::node::Node;
+use graphql_values::directive::{Argument, Directive, DirectiveList};
+use graphql_values::value::Value;
 use std::alloc::{AllocError, Global};
 use std::test::Fail;
 

@@ -97,7 +97,7 @@ fn is_put_into_vec<T: Syntax>(alloc: Global, case: &Case, print: &Serialize<'_, 
 }
 
 fn is_put_bytewise<T: Syntax>(alloc: Global, case: &Case, print: &Serialize<'_, T>) -> bool {
-    let mut sink = ByteSink::new(alloc, usize::MAX);
+    let mut sink = ByteSink::new(alloc);
     let printed = print.print_to(&mut sink);
     is_wanted(case, printed, sink.bytes()) && sink.faults() == 0
 }

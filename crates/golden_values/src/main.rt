@@ -9,8 +9,6 @@ mod case;
 mod checks;
 mod described;
 mod sink;
-#[cfg(test)]
-mod tests;
 
 use crate::build::{BuildError, build_value};
 use crate::build_definitions::{

@@ -4,23 +4,21 @@ ghost use Rattle.std.specs.Prelude.{◌≡◌, [], Some};
 use graphql_text::sink::{SinkFault, TextSink};
 use std::alloc::Global;
 
-/// A sink that takes one byte a call, and faults once it has taken as many as it has room for.
+/// A sink that takes one byte a call. It faults where it gets no memory.
 #[derive(Drop)]
 pub struct ByteSink {
     bytes: Vec<u8>,
-    room: usize,
     faults: u64,
 }
 
 impl ByteSink {
     /// A sink that has taken nothing, and counted no fault.
-    pub fn new(alloc: Global, room: usize) -> ByteSink
+    pub fn new(alloc: Global) -> ByteSink
         ensures taken { ⟦<ByteSink as TextSink>⟧.taken result ≡ Some [] }
         ensures faults { ⟦<ByteSink as TextSink>⟧.fault_count result ≡ 0 }
     {
         ByteSink {
             bytes: Vec::new(alloc),
-            room,
             faults: 0,
         }
     }
@@ -40,7 +38,7 @@ impl TextSink for ByteSink {
 
     fn put(&mut self, bytes: &[u8]) -> Result<usize, SinkFault> {
         let front = &bytes[..bytes.len().min(1)];
-        if self.bytes.len() < self.room && self.bytes.extend_from_slice(front).is_ok() {
+        if self.bytes.extend_from_slice(front).is_ok() {
             return Ok(front.len());
         }
         self.faults += 1;

@@ -1,8 +1,10 @@
 use graphql_base::name;
 use graphql_base::node::Node;
-use graphql_text::sink::{TextSink, VecSink};
+use graphql_text::engine::PrintError;
+use graphql_text::sink::{StreamSink, TextSink, VecSink};
 use graphql_values::value::Value;
 use std::alloc::{AllocError, Global};
+use std::io::Cursor;
 use std::test::Fail;
 
 /// The list of an enum value and an empty list.
@@ -44,5 +46,31 @@ fn width_and_precision_do_not_reach_the_tree(rt: HostRuntime) -> Result<(), Fail
     let value = Value::from_i32(rt.alloc(), 47)?;
     let text = format!(in rt.alloc(); "{value:>9.1}")?;
     assert_eq!(rt; text.as_str(), "47");
+    Ok(())
+}
+
+#[test]
+fn a_print_stops_at_a_fault(rt: HostRuntime) {
+    let mut sink = StreamSink::new(Cursor::new([0; 3]));
+    let printed = Value::Null
+        .serialize()
+        .initial_indent_level(usize::MAX)
+        .print_to(&mut sink);
+    assert_eq!(rt; printed, Err(PrintError::Sink));
+    assert_eq!(rt; sink.faults(), 1);
+    assert_eq!(rt; sink.into_inner().into_inner(), *b"   ");
+}
+
+#[test]
+fn a_level_that_overflows_is_told_first(rt: HostRuntime) -> Result<(), Fail> {
+    let value = list(rt.alloc())?;
+    let mut sink = StreamSink::new(Cursor::new([0; 3]));
+    let printed = value
+        .serialize()
+        .initial_indent_level(usize::MAX)
+        .print_to(&mut sink);
+    assert_eq!(rt; printed, Err(PrintError::LevelOverflow));
+    assert_eq!(rt; sink.faults(), 0);
+    assert_eq!(rt; sink.into_inner().position(), 0);
     Ok(())
 }

@@ -11,7 +11,7 @@ failed=0
 for crate in "$@"; do
     for ((growth = 1; growth <= count; growth++)); do
         said=$(cd "crates/$crate" && rt try --test --fail-alloc "$growth" 2>&1)
-        bad=$(grep -E '^test (refusals::|.*refused_memory).* FAILED' <<<"$said" || true)
+        bad=$(grep -E '^test (.*refusals::|.*refused_memory).* FAILED' <<<"$said" || true)
         if [ -n "$bad" ]; then
             printf '%s, growth %s:\n%s\n' "$crate" "$growth" "$bad"
             failed=1

@@ -11,8 +11,6 @@ pub mod laws;
 pub mod name;
 pub mod node;
 mod node_str;
-#[cfg(test)]
-mod refusals;
 mod shared;
 mod shared_text;
 pub mod span;

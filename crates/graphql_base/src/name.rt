@@ -314,6 +314,3 @@ macro_rules! name {
         $crate::name::Name::new_static_unchecked($text)
     };
 }
-
-#[cfg(test)]
-mod tests;

@@ -183,6 +183,3 @@ impl<T: Debug> Debug for Node<T> {
         Debug::fmt(self.value.get(), f)
     }
 }
-
-#[cfg(test)]
-mod tests;

@@ -90,6 +90,3 @@ impl SourceSpan {
         self.end - self.start
     }
 }
-
-#[cfg(test)]
-mod tests;

@@ -271,6 +271,3 @@ impl<'a, T: Syntax> fmt::Display for Serialize<'a, T> {
         if out.failed { Err(fmt::Error) } else { Ok(()) }
     }
 }
-
-#[cfg(test)]
-mod tests;

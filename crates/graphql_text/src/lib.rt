@@ -11,8 +11,6 @@ pub mod engine;
 pub mod laws;
 pub mod place;
 mod quoted_string;
-#[cfg(test)]
-mod refusals;
 pub mod sink;
 pub mod stack;
 pub mod string;

@@ -149,6 +149,3 @@ impl<W: Write> TextSink for StreamSink<W> {
         self.faults
     }
 }
-
-#[cfg(test)]
-mod tests;

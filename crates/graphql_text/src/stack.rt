@@ -67,6 +67,3 @@ impl<T: Drop> Stack<T> {
         }
     }
 }
-
-#[cfg(test)]
-mod tests;

@@ -46,6 +46,3 @@ pub fn write_description<O: Target>(out: &mut O, place: &Place<'_>, value: &str)
         _ => write_quoted(out, value),
     }
 }
-
-#[cfg(test)]
-mod tests;

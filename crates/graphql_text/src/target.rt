@@ -210,6 +210,3 @@ pub(crate) fn write_piece<O: Target>(out: &mut O, text: &str)
         out.text(text);
     }
 }
-
-#[cfg(test)]
-mod tests;

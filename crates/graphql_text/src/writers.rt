@@ -120,6 +120,3 @@ pub fn write_first_indent<O: Target>(out: &mut O, place: &Place<'_>)
         None => {}
     }
 }
-
-#[cfg(test)]
-mod tests;

@@ -1,0 +1,5 @@
+//! Names, nodes and spans.
+mod names;
+mod nodes;
+mod refusals;
+mod spans;

@@ -1,0 +1,123 @@
+//! Calls that meet a refused growth, wherever it comes: the answer is the refusal, or that of an
+//! undisturbed call. `rt try --test --fail-alloc N` refuses the Nth growth of each test.
+use crate::checks::check_text;
+use graphql_base::name::{InvalidNameError, Name, NameError};
+use graphql_base::node::{Node, NodeStr};
+use graphql_base::span::{FileId, SourceSpan};
+use std::alloc::{AllocError, Global};
+use std::process::Abort;
+use std::rc::RcStr;
+
+fn placed(alloc: Global) -> Result<Node<String>, AllocError> {
+    let text = String::from_str(alloc, "old")?;
+    match SourceSpan::new(FileId::new(5), 10, 13) {
+        Some(span) => Node::new_parsed(alloc, text, span),
+        None => Node::new(alloc, text),
+    }
+}
+
+fn check_placed(rt: &impl Abort, node: &Node<String>, text: &str) {
+    assert_eq!(rt; node.as_str(), text);
+    assert_eq!(rt; node.location(), SourceSpan::new(FileId::new(5), 10, 13));
+}
+
+#[test]
+fn make_mut_changes_one_node_or_none(rt: HostRuntime) {
+    let alloc = rt.alloc();
+    let (Ok(before), Ok(first)) = (placed(alloc), placed(alloc)) else {
+        return;
+    };
+    let Ok(mut second) = first.clone() else {
+        return;
+    };
+    match second.make_mut() {
+        Ok(text) => *text = String::new(alloc),
+        Err(AllocError) => assert_eq!(rt; second, before),
+    }
+    check_placed(&rt, &first, "old");
+    assert_eq!(rt; first, before);
+    assert_eq!(rt; second.location(), before.location());
+}
+
+#[test]
+fn make_mut_takes_no_memory_of_one_owner(rt: HostRuntime) {
+    let Ok(mut node) = placed(rt.alloc()) else {
+        return;
+    };
+    match node.make_mut() {
+        Ok(text) => *text = String::new(rt.alloc()),
+        Err(AllocError) => assert!(rt; false, "one owner"),
+    }
+    check_placed(&rt, &node, "");
+}
+
+#[test]
+fn nodes_are_made_or_refused(rt: HostRuntime) {
+    let alloc = rt.alloc();
+    let Ok(node) = placed(alloc) else {
+        return;
+    };
+    if let Ok(beside) = node.same_location(alloc, 1u8) {
+        assert_eq!(rt; *beside, 1);
+        assert_eq!(rt; beside.location(), node.location());
+    }
+    if let Ok(text) = NodeStr::new_str(alloc, "text") {
+        if let Ok(copy) = text.to_text(alloc) {
+            check_text(&rt, copy.as_str(), "text");
+        }
+        check_text(&rt, text.as_str(), "text");
+    }
+    check_placed(&rt, &node, "old");
+}
+
+fn check_refusal(rt: &impl Abort, error: &NameError, text: &str) {
+    match error {
+        NameError::Invalid(InvalidNameError { name, location }) => {
+            assert_eq!(rt; name.as_str(), text);
+            assert_eq!(rt; *location, None);
+        }
+        NameError::Memory => {}
+    }
+}
+
+#[test]
+fn names_are_made_or_refused(rt: HostRuntime) {
+    let alloc = rt.alloc();
+    match Name::new(alloc, "abc") {
+        Ok(name) => assert_eq!(rt; name.as_str(), "abc"),
+        Err(error) => assert_eq!(rt; error, NameError::Memory),
+    }
+    match Name::new(alloc, "1nvalid") {
+        Ok(_) => assert!(rt; false, "no name"),
+        Err(error) => check_refusal(&rt, &error, "1nvalid"),
+    }
+    match Name::new_static(alloc, "1nvalid") {
+        Ok(_) => assert!(rt; false, "no name"),
+        Err(error) => check_refusal(&rt, &error, "1nvalid"),
+    }
+    assert!(rt; Name::new_static(alloc, "abc").is_ok());
+    if let Ok(text) = RcStr::from_str(alloc, "abc") {
+        assert!(rt; Name::new_shared(alloc, text).is_ok());
+    }
+}
+
+#[test]
+fn texts_of_names_are_shared_or_refused(rt: HostRuntime) {
+    let alloc = rt.alloc();
+    let fixed = Name::new_static_unchecked("abc");
+    if let Ok(copy) = fixed.to_cloned_arc() {
+        assert!(rt; copy.is_none());
+    } else {
+        assert!(rt; false, "a static text takes no memory");
+    }
+    if let Ok(text) = fixed.into_shared(alloc) {
+        check_text(&rt, text.as_str(), "abc");
+    }
+    let Ok(shared) = Name::new(alloc, "abc") else {
+        return;
+    };
+    match shared.into_shared(alloc) {
+        Ok(text) => assert_eq!(rt; text.as_str(), "abc"),
+        Err(AllocError) => assert!(rt; false, "a shared text takes no memory"),
+    }
+}

@@ -1,0 +1,66 @@
+//! Small trees of which the examples are made.
+use graphql_base::name::Name;
+use graphql_base::node::Node;
+use graphql_values::definition::{DirectiveDefinition, InputValueDefinition};
+use graphql_values::directive::{Argument, Directive, DirectiveList};
+use graphql_values::types::Type;
+use graphql_values::value::Value;
+use std::alloc::{AllocError, Global};
+
+pub(crate) fn number(alloc: Global, number: i32) -> Result<Node<Value>, AllocError> {
+    Node::new(alloc, Value::from_i32(alloc, number)?)
+}
+
+/// `[1, 2]`
+pub(crate) fn numbers(alloc: Global) -> Result<Value, AllocError> {
+    let items = vec![in alloc; number(alloc, 1)?, number(alloc, 2)?]?;
+    Ok(Value::List(items))
+}
+
+pub(crate) fn with_argument(
+    alloc: Global,
+    mut directive: Directive,
+    name: Name,
+    value: Node<Value>,
+) -> Result<Directive, AllocError> {
+    directive
+        .arguments
+        .push(Argument::new_node(alloc, name, value)?)?;
+    Ok(directive)
+}
+
+/// Adds a directive to the list.
+pub(crate) fn push(
+    alloc: Global,
+    list: &mut DirectiveList,
+    directive: Directive,
+) -> Result<(), AllocError> {
+    list.push(Node::new(alloc, directive)?)
+        .map_err(|_| AllocError)
+}
+
+/// An input value with a name and a type alone.
+pub(crate) fn input_value(
+    alloc: Global,
+    name: Name,
+    ty: Type,
+) -> Result<InputValueDefinition, AllocError> {
+    Ok(InputValueDefinition {
+        description: None,
+        name,
+        ty: Node::new(alloc, ty)?,
+        default_value: None,
+        directives: DirectiveList::new(alloc),
+    })
+}
+
+/// A definition with a name alone.
+pub(crate) fn directive_definition(alloc: Global, name: Name) -> DirectiveDefinition {
+    DirectiveDefinition {
+        description: None,
+        name,
+        arguments: Vec::new(alloc),
+        repeatable: false,
+        locations: Vec::new(alloc),
+    }
+}

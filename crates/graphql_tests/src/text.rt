@@ -1,0 +1,9 @@
+//! Strings, writers and sinks.
+mod buffered;
+mod errors;
+mod page;
+mod refusals;
+mod sinks;
+mod stacks;
+mod strings;
+mod writers;

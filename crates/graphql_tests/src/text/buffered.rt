@@ -1,0 +1,116 @@
+//! What reaches a sink, and in how many calls.
+
+ghost use Rattle.std.specs.Prelude.{None};
+
+use crate::samples::number;
+use graphql_base::name::Name;
+use graphql_base::node::Node;
+use graphql_text::engine::Syntax;
+use graphql_text::sink::{SinkFault, TextSink};
+use graphql_values::value::Value;
+use std::alloc::{AllocError, Global};
+use std::process::Abort;
+
+/// Takes so many bytes, all of a call or none, and then faults. It counts its calls, those with no byte, and those after a fault.
+#[derive(Drop)]
+struct Counting {
+    room: usize,
+    faults: u64,
+    calls: usize,
+    wrong_calls: usize,
+}
+
+impl TextSink for Counting {
+    ghost taken = { λ sink. None };
+
+    ghost fault_count = { λ sink. sink.faults };
+
+    fn put(&mut self, bytes: &[u8]) -> Result<usize, SinkFault> {
+        self.calls = self.calls.saturating_add(1);
+        if bytes.is_empty() || self.faults > 0 {
+            self.wrong_calls = self.wrong_calls.saturating_add(1);
+        }
+        if bytes.len() <= self.room {
+            self.room -= bytes.len();
+            return Ok(bytes.len());
+        }
+        self.faults += 1;
+        Err(SinkFault)
+    }
+
+    fn faults(&self) -> u64 {
+        self.faults
+    }
+}
+
+/// A list that has one item so many times.
+fn repeated(alloc: Global, item: &Node<Value>, count: usize) -> Result<Value, AllocError> {
+    let mut items = Vec::new(alloc);
+    for _ in 0..count {
+        items.push(item.clone()?)?;
+    }
+    Ok(Value::List(items))
+}
+
+/// Prints on one line into so much room.
+fn counted(tree: &Value, room: usize) -> Counting {
+    let mut sink = Counting {
+        room,
+        faults: 0,
+        calls: 0,
+        wrong_calls: 0,
+    };
+    let printed = tree.serialize().no_indent().print_to(&mut sink);
+    if printed.is_ok() != (sink.faults == 0) {
+        sink.wrong_calls = sink.wrong_calls.saturating_add(1);
+    }
+    sink
+}
+
+/// How many items of one byte a list has, and the room; the calls of `put`, the room that is left, and the faults.
+#[test]
+fn small_pieces_are_gathered(rt: HostRuntime) {
+    let item = number(rt.alloc(), 1).expect(&rt, "memory");
+    for (count, room, calls, left, faults) in [
+        (1, 9, 1, 6, 0),
+        (1, 3, 1, 0, 0),
+        (1, 2, 1, 2, 1),
+        (341, 2000, 1, 977, 0),
+        (342, 2000, 2, 974, 0),
+        (342, 1000, 1, 1000, 1),
+        (1000, 3000, 3, 0, 0),
+    ] {
+        let sink = counted(
+            &repeated(rt.alloc(), &item, count).expect(&rt, "memory"),
+            room,
+        );
+        assert_eq!(rt; sink.calls, calls, "{count} {room}");
+        assert_eq!(rt; sink.room, left, "{count} {room}");
+        assert_eq!(rt; sink.faults, faults, "{count} {room}");
+        assert_eq!(rt; sink.wrong_calls, 0, "{count} {room}");
+    }
+}
+
+/// An enum value of so many letters.
+fn long_name(rt: &impl Abort, alloc: Global, length: usize) -> Node<Value> {
+    let text = "x".repeat(alloc, length).expect(rt, "memory");
+    let name = Name::new(alloc, text.as_str()).expect(rt, "a name");
+    Node::new(alloc, Value::Enum(name)).expect(rt, "memory")
+}
+
+/// How many letters the items of a list of two have, and the room; the calls of `put`, the room that is left, and the faults.
+#[test]
+fn long_pieces_are_not_copied(rt: HostRuntime) {
+    for (length, room, calls, left, faults) in [
+        (1025, 3000, 5, 946, 0),
+        (1025, 1000, 2, 999, 1),
+        (500, 1004, 1, 0, 0),
+    ] {
+        let item = long_name(&rt, rt.alloc(), length);
+        let sink = counted(&repeated(rt.alloc(), &item, 2).expect(&rt, "memory"), room);
+        assert_eq!(rt; sink.calls, calls, "{length} {room}");
+        assert_eq!(rt; sink.room, left, "{length} {room}");
+        assert_eq!(rt; sink.faults, faults, "{length} {room}");
+        assert_eq!(rt; sink.wrong_calls, 0, "{length} {room}");
+    }
+}

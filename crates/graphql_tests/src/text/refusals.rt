@@ -1,0 +1,27 @@
+//! Calls that meet a refused growth: the answer is the refusal, or that of an undisturbed call.
+//! `rt try --test --fail-alloc N` refuses the Nth growth of each test.
+
+use graphql_text::sink::{TextSink, VecSink};
+use graphql_text::stack::Stack;
+
+#[test]
+fn a_vector_takes_all_or_counts_a_fault(rt: HostRuntime) {
+    let mut sink = VecSink::new(rt.alloc());
+    let wanted = match sink.put(b"[1, 2]") {
+        Ok(count) => count,
+        Err(_) => 0,
+    };
+    let faults = sink.faults();
+    assert_eq!(rt; faults, u64::from(wanted == 0));
+    assert_eq!(rt; sink.bytes(), &b"[1, 2]"[..wanted.min(6)]);
+    assert!(rt; wanted == 0 || wanted == 6);
+}
+
+#[test]
+fn a_stack_is_made_or_refused(rt: HostRuntime) {
+    if let Ok(mut stack) = Stack::reserve(Some(rt.alloc()), 2) {
+        stack.push('a');
+        stack.push('b');
+        assert_eq!(rt; stack.pop(), Some('b'));
+    }
+}

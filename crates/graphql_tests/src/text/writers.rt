@@ -1,0 +1,50 @@
+//! What the writers write.
+
+ghost use Rattle.std.specs.Prelude.{◌<◌};
+
+use super::page::{Page, blank_page};
+use crate::checks::check_text;
+use graphql_base::name;
+use graphql_text::place::Place;
+use graphql_text::writers::{
+    ready_comma_lead, write_comma_lead, write_first_indent, write_float, write_int,
+    write_last_comma, write_name, write_soft, write_tight, write_words,
+};
+use std::alloc::Global;
+
+fn page_at(alloc: Global, place: Place<'_>) -> Page
+    requires { place.level < 100 }
+{
+    let mut out = blank_page(alloc);
+    let inner = place.inner();
+    write_first_indent(&mut out, &place);
+    write_words(&mut out, "[");
+    write_comma_lead(&mut out, &inner, ready_comma_lead(&inner), true);
+    write_int(&mut out, "1");
+    write_comma_lead(&mut out, &inner, ready_comma_lead(&inner), false);
+    write_float(&mut out, "1.5");
+    write_last_comma(&mut out, &inner);
+    write_tight(&mut out, &inner.outer());
+    write_words(&mut out, "]");
+    write_soft(&mut out, &place);
+    write_name(&mut out, &name!(a));
+    write_soft(&mut out, &place.flat());
+    write_words(&mut out, "b");
+    out
+}
+
+/// A prefix, a level, and the text of a list and two names.
+#[test]
+fn at_several_places(rt: HostRuntime) {
+    for (prefix, level, wanted) in [
+        (Some("  "), 0, "[\n  1,\n  1.5,\n]\na b"),
+        (Some("\t"), 1, "\t[\n\t\t1,\n\t\t1.5,\n\t]\n\ta b"),
+        (Some(""), 7, "[\n1,\n1.5,\n]\na b"),
+        (None, 0, "[1, 1.5] a b"),
+        (None, 7, "[1, 1.5] a b"),
+    ] {
+        let page = page_at(rt.alloc(), Place { prefix, level });
+        check_text(&rt, page.text.as_str(), wanted);
+        assert!(rt; !page.has_fault, "an empty piece");
+    }
+}

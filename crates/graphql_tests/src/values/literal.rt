@@ -1,0 +1,114 @@
+use crate::checks::{check_made, check_text};
+use graphql_values::literal::{FloatValue, IntValue};
+
+const CHARACTERS: [&str; 9] = ["0", "1", "-", "+", ".", "e", "E", "a", "_"];
+
+const CHARACTERS_OR_NONE: [&str; 10] = ["", "0", "1", "-", "+", ".", "e", "E", "a", "_"];
+
+// Of all texts of at most three of these characters, those that a regular expression over the same grammar takes.
+const INTS: [&str; 12] = [
+    "0", "1", "10", "11", "-0", "-1", "100", "101", "110", "111", "-10", "-11",
+];
+
+const FLOATS: [&str; 12] = [
+    "0.0", "0.1", "0e0", "0e1", "0E0", "0E1", "1.0", "1.1", "1e0", "1e1", "1E0", "1E1",
+];
+
+fn is_one_of(texts: &[&str], text: &str) -> bool {
+    texts.iter().any(|other| *other == text)
+}
+
+#[test]
+fn short_texts(rt: HostRuntime) {
+    for a in CHARACTERS {
+        for b in CHARACTERS_OR_NONE {
+            for c in CHARACTERS_OR_NONE {
+                let text = format!(in rt.alloc(); "{a}{b}{c}").expect(&rt, "memory");
+                let is_int = is_one_of(INTS.as_slice(), text.as_str());
+                let is_float = is_one_of(FLOATS.as_slice(), text.as_str());
+                assert_eq!(rt; IntValue::valid_syntax(text.as_str()), is_int, "{text}");
+                assert_eq!(rt; FloatValue::valid_syntax(text.as_str()), is_float, "{text}");
+            }
+        }
+    }
+}
+
+/// A text, and whether it is an int and a float.
+#[test]
+fn syntax(rt: HostRuntime) {
+    for (text, is_int, is_float) in [
+        ("-0", true, false),
+        ("2147483648", true, false),
+        ("-2147483648", true, false),
+        ("120", true, false),
+        ("", false, false),
+        ("-", false, false),
+        ("00", false, false),
+        ("+3", false, false),
+        ("-01", false, false),
+        (" 1", false, false),
+        ("1 ", false, false),
+        ("é", false, false),
+        ("1.5", false, true),
+        ("1.5E-3", false, true),
+        ("1e5", false, true),
+        ("-0.5e+10", false, true),
+        ("0.00", false, true),
+        ("1e", false, false),
+        ("10e", false, false),
+        ("1.5e+", false, false),
+        ("1.", false, false),
+        ("+3.5", false, false),
+        (".5", false, false),
+        ("1.5.5", false, false),
+        ("1e5e5", false, false),
+        ("1.e5", false, false),
+        ("01.5", false, false),
+    ] {
+        assert_eq!(rt; IntValue::valid_syntax(text), is_int, "{text}");
+        assert_eq!(rt; FloatValue::valid_syntax(text), is_float, "{text}");
+    }
+}
+
+#[test]
+fn numbers_of_texts(rt: HostRuntime) {
+    for (text, wanted) in [
+        ("-0", Some(0)),
+        ("-2147483648", Some(-2147483648)),
+        ("2147483648", None),
+    ] {
+        assert!(rt; IntValue::valid_syntax(text));
+        let int = IntValue::new_parsed(rt.alloc(), text).expect(&rt, "memory");
+        assert_eq!(rt; int.try_to_i32().ok(), wanted, "{text}");
+    }
+}
+
+#[test]
+fn texts_of_numbers(rt: HostRuntime) {
+    for (number, wanted) in [
+        (0, "0"),
+        (-7, "-7"),
+        (1000000, "1000000"),
+        (-2147483648, "-2147483648"),
+    ] {
+        let int = IntValue::from_i32(rt.alloc(), number).expect(&rt, "memory");
+        check_text(&rt, int.as_str(), wanted);
+    }
+}
+
+#[test]
+fn printed(rt: HostRuntime) {
+    let int = IntValue::new_parsed(rt.alloc(), "10").expect(&rt, "memory");
+    check_made(&rt, format!(in rt.alloc(); "{int}|{int:>4}"), "10|  10");
+}
+
+#[test]
+fn floats(rt: HostRuntime) {
+    let float = FloatValue::new_parsed(rt.alloc(), "1.50").expect(&rt, "memory");
+    check_text(&rt, float.as_str(), "1.50");
+    check_made(
+        &rt,
+        format!(in rt.alloc(); "{float}|{float:<6}|"),
+        "1.50|1.50  |",
+    );
+}

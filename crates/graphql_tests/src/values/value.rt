@@ -1,0 +1,106 @@
+use graphql_base::name;
+use graphql_base::node::Node;
+use graphql_base::span::{FileId, SourceSpan};
+use graphql_values::value::Value;
+use graphql_values::well_formed::{Constness, is_well_formed_at};
+use std::alloc::{AllocError, Global};
+
+// 1 at a place.
+fn placed(alloc: Global, file: u64) -> Result<Node<Value>, AllocError> {
+    let one = Value::from_i32(alloc, 1)?;
+    match SourceSpan::new(FileId::new(file), 3, 4) {
+        Some(span) => Node::new_parsed(alloc, one, span),
+        None => Node::new(alloc, one),
+    }
+}
+
+// The list of 1 at a place, and of a variable.
+fn list(alloc: Global, file: u64) -> Result<Value, AllocError> {
+    let items = vec![in alloc;
+        placed(alloc, file)?,
+        Node::new(alloc, Value::Variable(name!(v)))?,
+    ]?;
+    Ok(Value::List(items))
+}
+
+fn object(alloc: Global, file: u64) -> Result<Value, AllocError> {
+    let fields = vec![in alloc;
+        (name!(a), Node::new(alloc, list(alloc, file)?)?),
+        (name!(a), Node::new(alloc, Value::Enum(name!("null")))?),
+    ]?;
+    Ok(Value::Object(fields))
+}
+
+#[test]
+fn constants(rt: HostRuntime) {
+    assert!(rt; Value::from(()).is_null());
+    assert_eq!(rt; Value::from(true).to_bool(), Some(true));
+    let name = Value::Enum(name!(A));
+    assert!(rt; name.as_enum().is_some());
+    assert!(rt; name.as_variable().is_none());
+}
+
+#[test]
+fn strings(rt: HostRuntime) {
+    let alloc = rt.alloc();
+    let value = Value::from_text(alloc, "é\n").expect(&rt, "memory");
+    assert_eq!(rt; value.as_str(), Some("é\n"));
+    assert!(rt; value == Value::from(String::from_str(alloc, "é\n").expect(&rt, "memory")));
+}
+
+#[test]
+fn numbers(rt: HostRuntime) {
+    assert_eq!(rt;
+        Value::from_i32(rt.alloc(), -5)
+            .expect(&rt, "memory")
+            .to_i32(),
+        Some(-5)
+    );
+}
+
+#[test]
+fn items_and_fields(rt: HostRuntime) {
+    let value = object(rt.alloc(), 1).expect(&rt, "memory");
+    let field = value.as_object().and_then(|fields| fields.first());
+    let items = field.and_then(|field| field.1.as_list());
+    assert_eq!(rt; items.map(|items| items.len()), Some(2));
+}
+
+#[test]
+fn equality(rt: HostRuntime) {
+    let alloc = rt.alloc();
+    let value = object(alloc, 1).expect(&rt, "memory");
+    assert!(rt;
+        value == object(alloc, 2).expect(&rt, "memory"),
+        "locations"
+    );
+    assert!(rt; value != list(alloc, 1).expect(&rt, "memory"));
+}
+
+#[test]
+fn clones_keep_locations(rt: HostRuntime) {
+    let copy = list(rt.alloc(), 7)
+        .expect(&rt, "memory")
+        .clone()
+        .expect(&rt, "memory");
+    let first = copy.as_list().and_then(|items| items.first());
+    assert_eq!(rt;
+        first.and_then(|node| node.location()),
+        SourceSpan::new(FileId::new(7), 3, 4)
+    );
+}
+
+#[test]
+fn well_formed(rt: HostRuntime) {
+    let alloc = rt.alloc();
+    let list = list(alloc, 1).expect(&rt, "memory");
+    assert!(rt; is_well_formed_at(&list, Constness::NonConst));
+    assert!(rt;
+        !is_well_formed_at(&list, Constness::Const),
+        "a variable in a list"
+    );
+    assert!(rt;
+        !object(alloc, 1).expect(&rt, "memory").is_well_formed(),
+        "the enum value null in an object"
+    );
+}

@@ -1,12 +1,12 @@
 -- The laws of a kind, from five facts: its shape spells its tokens, its brackets fit its marks and nest as deep as the
 -- tree, its tokens derive it, one token list derives one tree, and what is derived obeys the side conditions.
-use Rattle.std.proofs.Common.{ℕ, ◌≡◌, Bool, true, false, Some, List, [], Option, refl, sym, ap, ◌∙◌, subst, append-nil}
+use Rattle.std.proofs.Common.{ℕ, ◌≡◌, Bool, true, false, Some, List, [], Option, refl, sym, ap, ◌∙◌, subst}
 use Rattle.std.proofs.lemmas.Str.{encodes_same}
 use Rattle.graphql_text.specs.Tokens.{Token}
 use Rattle.graphql_text.specs.Forms.{Form}
 use Rattle.graphql_text.specs.Layout.{Item, IsBlankMode, is_broken, is_front}
 use Rattle.graphql_text.specs.PrintedTokens.{Tail}
-use Rattle.graphql_text.proofs.Spelling.{Gives, Spelling, apart_gives, gives_apart}
+use Rattle.graphql_text.proofs.Spelling.{Gives, Spelling, apart_gives, gives_apart, spelt_alone}
 use Rattle.graphql_text.specs.Spelling.{tokens_of_items}
 use Rattle.graphql_text.specs.Reading.{ReadsAs, layout_of, Laws}
 use Rattle.graphql_text.proofs.Complete.{one_list}
@@ -27,9 +27,7 @@ pub record Facts {Tree : Type 0} (shape : Bool → Bool → Tree → List Item) 
 module _ {Tree : Type 0} {shape : Bool → Bool → Tree → List Item} {nesting : Tree → ℕ} {obeys : Tree → Type 0} {derives : Tree → Form} {tokens : Bool → Tree → Tail} where
   gives : Facts shape nesting obeys derives tokens → (broken front : Bool) (tree : Tree) →
       Gives (shape broken front tree) (tokens front tree [])
-  gives facts broken front tree =
-      let spelling = facts.spelt broken front tree in
-      subst (λ l. Gives l (tokens front tree [])) (append-nil (shape broken front tree)) (spelling.gives [] [] refl refl)
+  gives facts broken front tree = spelt_alone (facts.spelt broken front tree)
 
   back : Facts shape nesting obeys derives tokens → (tree : Tree) (mode : Option (List ℕ)) (level : ℕ) →
       obeys tree → IsBlankMode mode → ReadsAs derives (layout_of shape mode level tree) tree

@@ -1,5 +1,5 @@
 -- How what parts spell follows on.
-use Rattle.std.proofs.Common.{◌≡◌, ℕ, Bool, true, false, List, [], ◌∷◌, ◌++◌, refl, sym, ◌∙◌, subst, append_assoc, map}
+use Rattle.std.proofs.Common.{◌≡◌, ℕ, Bool, true, false, List, [], ◌∷◌, ◌++◌, refl, sym, ◌∙◌, subst, append-nil, append_assoc, map}
 use Rattle.graphql_text.specs.Literals.{NameText, IntText, FloatText, StringText}
 use Rattle.graphql_base.specs.Names.{is_name}
 use Rattle.graphql_text.specs.Tokens.{Punctuator, lbrace, rbrace, Token, Punctuation, Name, IntValue, FloatValue, StringValue}
@@ -261,3 +261,10 @@ spelt_curly_group (one_more a more) =
     spelt_mark lbrace (spelt_then
     (spelt_enclosed (spelt_each (Soft ∷ []) (Soft ∷ []) (λ x v. spelt_soft) (λ x v. spelt_soft) a more))
     (spelt_soft (spelt_mark rbrace spelt_nothing)))
+
+-- what a part spells by itself
+pub spelt_alone : {items : List Item} {tokens : List Token → List Token} {opens : Bool} → Spelling items tokens opens → Gives items (tokens [])
+spelt_alone {items} {tokens} spelling = subst (λ l. Gives l (tokens [])) (append-nil items) (spelling.gives [] [] refl refl)
+
+pub spelt_tokens : {items : List Item} {tokens : List Token → List Token} {opens : Bool} → Spelling items tokens opens → tokens_of_items items ≡ tokens []
+spelt_tokens {items} {tokens} spelling = sym (gives_apart items (tokens []) (spelt_alone spelling)).1

@@ -6,8 +6,8 @@ use Rattle.graphql_text.specs.Tokens.{Punctuator, lbracket, rbracket, lbrace, rb
 use Rattle.graphql_text.specs.Layout.{Item, Word, StringItem, StringRole, Space, Comma, Soft, Blank, flat, comma_group, curly_group}
 use Rattle.graphql_text.specs.Nesting.{group_nesting}
 use Rattle.graphql_text.specs.PrintedTokens.{Tail, list_tokens}
-use Rattle.graphql_text.specs.Spelling.{punctuator_leaves_room}
-use Rattle.graphql_text.proofs.Spelling.{Spelling, spelt_nothing, spelt_then, spelt_mark, spelt_word, spelt_name, spelt_int, spelt_float, spelt_string, spelt_space, spelt_comma, spelt_soft, spelt_blank, spelt_weaker, spelt_flat, spelt_comma_group, spelt_curly_group}
+use Rattle.graphql_text.specs.Spelling.{punctuator_leaves_room, tokens_of_items}
+use Rattle.graphql_text.proofs.Spelling.{Spelling, spelt_nothing, spelt_then, spelt_mark, spelt_word, spelt_name, spelt_int, spelt_float, spelt_string, spelt_space, spelt_comma, spelt_soft, spelt_blank, spelt_tokens, spelt_weaker, spelt_flat, spelt_comma_group, spelt_curly_group}
 use Rattle.graphql_text.proofs.Spelling as spelling
 use Rattle.graphql_text.proofs.Bracketing.{Effect, Opens, Closes, Passes, punctuator_effect, Bracketed, bracketed_nothing, bracketed_then, bracketed_after, bracketed_as, bracketed_word, bracketed_string, bracketed_space, bracketed_comma, bracketed_soft, bracketed_blank, bracketed_type, bracketed_flat, bracketed_comma_group, bracketed_curly_group}
 use Rattle.graphql_text.proofs.Bracketing as bracketing
@@ -101,3 +101,7 @@ told_comma_group opening closing broken o k r parts = record { spelt = spelt_com
 
 pub told_curly_group : {xs : List (List Item)} {w : Tail} {ns : List ℕ} → Parts xs w ns → Told 0 (curly_group xs) (λ ts. Punctuation lbrace ∷ w (Punctuation rbrace ∷ ts)) true (group_nesting ns)
 told_curly_group parts = record { spelt = spelt_curly_group (parts_spelt parts); bracketed = bracketed_curly_group (parts_bracketed parts) }
+
+-- the words and strings of a part by itself
+pub told_tokens : {u n : ℕ} {xs : List Item} {w : Tail} {o : Bool} → Told u xs w o n → tokens_of_items xs ≡ w []
+told_tokens a = spelt_tokens a.spelt

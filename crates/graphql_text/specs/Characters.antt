@@ -36,11 +36,11 @@ quotes = codes "\"\"\""
 abbrev pub escaped_quotes : List ℕ
 escaped_quotes = codes "\\\"\"\""
 
--- a character that stands for itself in a quoted string: any but `"`, `\` and those of a LineTerminator
+-- a character that stands for itself in a quoted string (StringCharacter, section 2.9.4): any but `"`, `\` and those of a LineTerminator
 abbrev pub is_plain_string_character : ℕ → Bool
 is_plain_string_character c = not ((is_quote c || (c == 0x5C)) || is_line_terminator c)
 
--- EscapedCharacter: what the character after a backslash stands for
+-- EscapedCharacter, section 2.9.4: what the character after a backslash stands for
 abbrev pub escaped_character_value : ℕ → Option ℕ
 escaped_character_value c =
     cond ((is_quote c || (c == 0x5C)) || (c == 0x2F)) (Some c)
@@ -51,7 +51,7 @@ escaped_character_value c =
     (cond (c == 0x74) (Some 0x9)
     None)))))
 
--- EscapedUnicode: the number that four hexadecimal digits write
+-- EscapedUnicode, section 2.9.4: the number that four hexadecimal digits write
 abbrev pub unicode_escape_value : ℕ → ℕ → ℕ → ℕ → ℕ
 unicode_escape_value a b c d =
     ((digit_value a * 16 + digit_value b) * 16 + digit_value c) * 16 + digit_value d

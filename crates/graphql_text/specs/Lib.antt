@@ -19,6 +19,7 @@ pub mod Writing
 pub mod Place
 pub mod Printing
 pub mod Sinks
+pub mod Stream
 pub mod Buffer
 pub mod Targets
 pub mod Stack

@@ -1,6 +1,6 @@
 //! Line breaks, and the prefix that lines begin with.
 
-ghost use Rattle.std.specs.Prelude.{◌≡◌, ◌≤◌, [], ◌∷◌, IsTrue, MatchOption, ⊤, chars, encode_utf8_all};
+ghost use Rattle.std.specs.Prelude.{◌≡◌, ◌↔◌, ◌≤◌, [], ◌∷◌, IsSome, IsTrue, MatchOption, ⊤, chars, encode_utf8_all};
 ghost use Rattle.std.specs.List.{repeat};
 ghost use Rattle.graphql_text.specs.Layout.{break_text};
 
@@ -10,7 +10,7 @@ use crate::target::Target;
 const COMMA_AND_SPACES: &str = ",\n                                                              ";
 
 fn is_two_spaces(prefix: &str) -> bool
-    ensures { IsTrue result → prefix.now ≡ 32 ∷ 32 ∷ [] }
+    ensures { IsTrue result ↔ (prefix.now ≡ 32 ∷ 32 ∷ []) }
 {
     prefix == "  "
 }
@@ -61,7 +61,8 @@ fn ready_break(prefix: &str, level: usize) -> Option<&'static str>
 
 /// A comma, a line feed, and the prefix as often as the level, where that is a text at hand.
 pub(crate) fn ready_comma_break(prefix: &str, level: usize) -> Option<&'static str>
-    ensures { MatchOption result ⊤ (λ text. text.now ≡ 44 ∷ encode_utf8_all (break_text (chars prefix.now) level)) }
+    ensures text { MatchOption result ⊤ (λ text. text.now ≡ 44 ∷ encode_utf8_all (break_text (chars prefix.now) level)) }
+    ensures ready { prefix.now ≡ 32 ∷ 32 ∷ [] → level ≤ 30 → IsSome result }
 {
     if is_two_spaces(prefix) && level <= 30 {
         Some(two_space_comma_break(level))

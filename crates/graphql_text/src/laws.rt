@@ -1,6 +1,6 @@
 //! Laws of the definitions in `specs/`. The functions have empty bodies: each stands for what its contract says.
 
-ghost use Rattle.std.specs.Prelude.{◌≡◌, ℕ, Bool, true, false, List, [], ◌∷◌, ◌++◌, Option, MatchOption, codes, encode_utf8_all};
+ghost use Rattle.std.specs.Prelude.{◌≡◌, ℕ, Bool, true, false, List, [], ◌∷◌, ◌++◌, ◌↔◌, IsTrue, Option, MatchOption, codes, encode_utf8_all};
 ghost use Rattle.std.specs.List.{list_all};
 ghost use Rattle.graphql_base.specs.Names.{begins_in, is_name, is_name_continue};
 ghost use Rattle.graphql_text.specs.BlockForm.{block_text, can_be_block};
@@ -15,7 +15,8 @@ ghost use Rattle.graphql_text.specs.Spelling.{AreApart, tokens_of_items};
 ghost use Rattle.graphql_text.specs.Strings.{IsBlock, IsQuoted};
 ghost use Rattle.graphql_text.specs.Tokens.{FloatValue, IntValue, Lexes, LexesBefore, Name, Punctuation, Punctuator, StringValue, Token, lbracket, punctuator_text, rbracket};
 
-use crate::engine::{Serialize, Syntax};
+use crate::engine::{PrintError, Serialize, Syntax};
+use crate::sink::SinkFault;
 use std::fmt::Display;
 
 /// A text has one list of tokens at most, whoever wrote it. So have bytes: two texts with the same UTF-8 form have the
@@ -136,4 +137,14 @@ pub fn displayed_trees_are_read<'a, T: Syntax>(_printed: &Serialize<'a, T>)
     ensures { T.obeys (T.tree (print_tree _printed.now)) → IsBlankMode (print_mode _printed.now) →
         MatchOption (⟦<Serialize<'a, T> as Display>⟧.output _printed.now) ⊥
         (λ bytes. ReadsAlone T.derives bytes (T.tree (print_tree _printed.now))) }
+{}
+
+/// Two errors of a print are equal exactly if they are the same one.
+pub fn print_errors_compare_by_variant(a: PrintError, b: PrintError)
+    ensures { IsTrue (⟦<PrintError as PartialEq>⟧.eq a b) ↔ (a ≡ b) }
+{}
+
+/// Two faults of sinks are equal: a fault holds nothing.
+pub fn sink_faults_are_equal(a: SinkFault, b: SinkFault)
+    ensures { IsTrue (⟦<SinkFault as PartialEq>⟧.eq a b) }
 {}

@@ -90,7 +90,13 @@ impl TextSink for VecSink {
 
     ghost fault_count = { λ v. v.faults };
 
-    fn put(&mut self, bytes: &[u8]) -> Result<usize, SinkFault> {
+    fn put(&mut self, bytes: &[u8]) -> Result<usize, SinkFault>
+        requires { CanFault self.old.faults }
+        ensures whole { IfOk result (λ n. n ≡ length bytes.now) }
+        ensures bytes { WriteAppends (Some self.old.bytes.items) (Some self.new.bytes.items) result bytes.now }
+        ensures ok { OnOk result (self.new.faults ≡ self.old.faults) }
+        ensures err { OnErr result (self.new.faults ≡ self.old.faults + 1) }
+    {
         match self.bytes.extend_from_slice(bytes) {
             Ok(()) => Ok(bytes.len()),
             Err(_) => {
@@ -114,8 +120,11 @@ pub struct StreamSink<W> {
 }
 
 impl<W: Write> StreamSink<W> {
+    ghost use Rattle.graphql_text.specs.Stream.{stream_writer};
+
     /// A sink over this writer, which has counted no fault.
     pub fn new(writer: W) -> StreamSink<W>
+        ensures writer { stream_writer result ≡ writer }
         ensures taken { ⟦<StreamSink<W> as TextSink>⟧.taken result ≡ W.contents writer }
         ensures faults { ⟦<StreamSink<W> as TextSink>⟧.fault_count result ≡ 0 }
     {
@@ -124,7 +133,8 @@ impl<W: Write> StreamSink<W> {
 
     /// The writer.
     pub fn into_inner(self) -> W
-        ensures { W.contents result ≡ ⟦<StreamSink<W> as TextSink>⟧.taken self }
+        ensures writer { result ≡ stream_writer self }
+        ensures taken { W.contents result ≡ ⟦<StreamSink<W> as TextSink>⟧.taken self }
     {
         self.writer
     }

@@ -1,5 +1,5 @@
 //! What a printer writes to: a sink, a text, a formatter.
-ghost use Rattle.std.specs.Prelude.{◌≡◌, ◌++◌, ℕ, [], List, IfSome, IsTrue, false, string_bytes};
+ghost use Rattle.std.specs.Prelude.{◌≡◌, ◌↔◌, ◌++◌, ℕ, [], List, IfSome, IsTrue, false, string_bytes};
 ghost use Rattle.std.proofs.Common.{refl, ◌∙◌};
 ghost use Rattle.graphql_text.specs.Buffer.{waiting_bytes};
 ghost use Rattle.graphql_text.specs.Sinks.{Sends, SendsBuffered};
@@ -26,7 +26,7 @@ pub trait Target {
 
     /// Whether a write failed. A long loop asks, to end early.
     fn is_stopped(&self) -> bool
-        ensures { IsTrue result → stopped self.now };
+        ensures { IsTrue result ↔ stopped self.now };
 
     ghost nothing: { (a : Self) → wrote a [] a };
 
@@ -175,7 +175,7 @@ impl Target for ToText {
 
 /// A target that is a formatter.
 #[derive(Drop)]
-pub(crate) struct ToFormatter<'a, W> {
+pub struct ToFormatter<'a, W> {
     pub formatter: &'a mut fmt::Formatter<W>,
     pub failed: bool,
 }

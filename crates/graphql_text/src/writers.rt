@@ -1,5 +1,5 @@
 //! What kinds of trees are written with. Each writer appends the text of some items, at a place.
-ghost use Rattle.std.specs.Prelude.{◌≡◌, ℕ, List, Option, Some, [], ◌∷◌, IsTrue, encode_utf8_all};
+ghost use Rattle.std.specs.Prelude.{◌≡◌, ℕ, ◌≤◌, List, Option, Some, [], ◌∷◌, IsSome, IsTrue, MatchOption, ⊤, codes, encode_utf8_all};
 ghost use Rattle.graphql_base.specs.Name.{name_text};
 ghost use Rattle.graphql_text.specs.Groups.{comma_lead};
 ghost use Rattle.graphql_text.specs.Layout.{Item, Word, Soft, Tight, last_comma, is_broken, first_indent};
@@ -10,6 +10,7 @@ ghost use Rattle.graphql_text.specs.Writing.{IsCommaLead, WritesItems, fixed_tex
 
 use crate::breaks::{comma_break, indent, line_break, ready_comma_break};
 use crate::place::Place;
+pub use crate::string::{write_description, write_string_value};
 use crate::target::Target;
 use graphql_base::name::Name;
 
@@ -68,7 +69,8 @@ pub fn write_tight<O: Target>(out: &mut O, place: &Place<'_>)
 /// spaces up to level 30. A writer of many items asks once.
 #[inline(always)]
 pub fn ready_comma_lead(place: &Place<'_>) -> Option<&'static str>
-    ensures { IsCommaLead (mode_of place.now.prefix) place.now.level result }
+    ensures text { IsCommaLead (mode_of place.now.prefix) place.now.level result }
+    ensures ready { MatchOption place.now.prefix ⊤ (λ prefix. prefix.now ≡ codes "  " → place.now.level ≤ 30 → IsSome result) }
 {
     match place.prefix {
         Some(prefix) => ready_comma_break(prefix, place.level),

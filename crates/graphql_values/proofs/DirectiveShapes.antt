@@ -4,24 +4,24 @@ use Rattle.graphql_text.specs.Layout.{comma_group, lowers, raises}
 use Rattle.graphql_text.specs.Tokens.{lparen, rparen}
 use Rattle.graphql_text.proofs.GroupLaws.{AllBalanced, comma_balanced}
 use Rattle.graphql_text.proofs.LevelLaws.{lowers_append, lowers_flat, raises_append, raises_flat}
-use Rattle.graphql_values.specs.Arguments.{ArgumentTree, argument_shape, arguments_shape}
+use Rattle.graphql_values.specs.Arguments.{ArgumentTree, argument_items, arguments_shape}
 use Rattle.graphql_values.specs.Directives.{DirectiveTree, directive_shape, directives_shape}
 use Rattle.graphql_values.proofs.ValueShapes.{value_balanced}
 
-each_balanced : (arguments : List ArgumentTree) → AllBalanced (map argument_shape arguments)
+each_balanced : (arguments : List ArgumentTree) → AllBalanced (map argument_items arguments)
 unfolding raises lowers
 each_balanced [] = tt
 each_balanced (argument ∷ more) = (omega (arith, value_balanced false argument.value), each_balanced more)
 
 -- the group of the arguments, before it is set on one line
-pub group_balanced : (arguments : List ArgumentTree) → raises (comma_group lparen rparen false (map argument_shape arguments)) ≡ lowers (comma_group lparen rparen false (map argument_shape arguments))
-group_balanced arguments = comma_balanced lparen rparen false (map argument_shape arguments) (each_balanced arguments)
+pub group_balanced : (arguments : List ArgumentTree) → raises (comma_group lparen rparen false (map argument_items arguments)) ≡ lowers (comma_group lparen rparen false (map argument_items arguments))
+group_balanced arguments = comma_balanced lparen rparen false (map argument_items arguments) (each_balanced arguments)
 
 pub arguments_balanced : (arguments : List ArgumentTree) → raises (arguments_shape arguments) ≡ lowers (arguments_shape arguments)
 unfolding raises lowers
 arguments_balanced [] = refl
 arguments_balanced (argument ∷ more) =
-    let group = comma_group lparen rparen false (map argument_shape (argument ∷ more)) in
+    let group = comma_group lparen rparen false (map argument_items (argument ∷ more)) in
     raises_flat group ∙ group_balanced (argument ∷ more) ∙ sym (lowers_flat group)
 
 pub directive_balanced : (directive : DirectiveTree) → raises (directive_shape directive) ≡ lowers (directive_shape directive)

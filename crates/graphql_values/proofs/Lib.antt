@@ -14,6 +14,5 @@ pub mod Searches
 pub mod Trees
 pub mod TypeEquality
 pub mod TypeShapes
-pub mod TypeTexts
 pub mod ValueShapes
 pub mod ValueStack

@@ -94,6 +94,15 @@ is_set n ty made set =
     ∙ ap (λ w. is_first_non_null (first_set n w.nullability)) (sym (wrapped ty))
     ∙ first_of_set n (type_tree ty)
 
+first_given_back : (n m : Bool) (nullability : List Bool) → is_first_non_null nullability ≡ n → first_set n (first_set m nullability) ≡ nullability
+first_given_back n m [] was = refl
+first_given_back n m (b ∷ inner) was = ap (λ first. first ∷ inner) (sym was)
+
+pub set_back : (n m : Bool) (ty : «Type») → is_non_null (type_tree ty) ≡ n → with_nullability n (with_nullability m (type_wrapping ty)) ≡ type_wrapping ty
+set_back n m ty was =
+    let first : is_first_non_null (type_wrapping ty).nullability ≡ n = ap (λ w. is_first_non_null w.nullability) (sym (wrapped ty)) ∙ was in
+    ap (λ nullability. record { base = (type_wrapping ty).base; nullability = nullability }) (first_given_back n m (type_wrapping ty).nullability first)
+
 -- ASSIGNABILITY
 
 abbrev Admits : Bool → Bool → Type 0

@@ -1,7 +1,7 @@
 -- Texts that are read as a tree, and texts that are read as none.
 use Rattle.std.proofs.Common.{◌≡◌, ℕ, List, [], ◌∷◌, codes, refl, Some, None, IsTrue, true, subst}
 use Rattle.std.specs.Str.{all_scalars}
-use Rattle.graphql_text.specs.Tokens.{Token, Punctuation, Name, IntValue, dollar, colon, equals, at, lbracket}
+use Rattle.graphql_text.specs.Tokens.{Token, Punctuation, Name, IntValue, dollar, colon, equals, at, lbracket, lbrace, rbrace, lparen, rparen}
 use Rattle.graphql_text.specs.Forms.{Form}
 use Rattle.graphql_text.specs.Reading.{ReadsAs}
 use Rattle.graphql_text.proofs.Parsing as parsing
@@ -11,7 +11,8 @@ use Rattle.graphql_text.proofs.Reader.{lex}
 use Rattle.graphql_text.proofs.Sound.{lex_sound}
 use Rattle.graphql_text.proofs.Complete.{unread, read_as}
 use Rattle.graphql_values.specs.Values.{Constness, Const, NonConst, ValueTree, value_form, value_tokens, value_obeys}
-use Rattle.graphql_values.specs.laws.ValueReading.{value_reader, value_step, values_reader, variable_reader, unless_const, got_int, value_is_read}
+use Rattle.graphql_values.specs.laws.ValueReading.{value_reader, value_step, values_reader, object_fields_reader, object_field_reader, variable_reader, unless_const, got_int, value_is_read}
+use Rattle.graphql_values.specs.laws.DirectiveReading.{argument_reader, arguments_reader, directive_reader}
 use Rattle.graphql_values.specs.laws.TypeReading.{type_reader, type_step, bang_reader, maybe_non_null_name}
 use Rattle.graphql_values.specs.laws.DefinitionReading.{description_reader, default_value_reader, input_value_reader, arguments_definition_reader, repeatable_reader, location_of, all_locations, got_location, location_reader, directive_locations_reader, directive_definition_body_reader, directive_definition_reader}
 use Rattle.graphql_values.specs.laws.ReadBack.{value_written}
@@ -41,6 +42,18 @@ no_value_read c text tokens lexes none value = no_tree_read (value_form c) text 
 pub open_list_found : value_reader NonConst (Punctuation lbracket ∷ IntValue (codes "1") ∷ []) ≡ None
 unfolding value_reader value_step values_reader got_int parsing.bounded parsing.alt parsing.◌>>=◌ parsing.accept parsing.leaf parsing.accepted parsing.many parsing.pure tested.such
 open_list_found = refl
+
+pub no_colon_found : value_reader NonConst (Punctuation lbrace ∷ Name (codes "a") ∷ IntValue (codes "1") ∷ Punctuation rbrace ∷ []) ≡ None
+unfolding value_reader value_step object_fields_reader object_field_reader parsing.bounded parsing.alt parsing.◌>>=◌ parsing.accept parsing.leaf parsing.accepted parsing.parse_name parsing.named parsing.many parsing.pure tested.such
+no_colon_found = refl
+
+pub two_dollars_found : value_reader NonConst (Punctuation dollar ∷ Punctuation dollar ∷ Name (codes "a") ∷ []) ≡ None
+unfolding value_reader value_step variable_reader unless_const parsing.bounded parsing.alt parsing.◌>>=◌ parsing.accept parsing.leaf parsing.accepted parsing.parse_name parsing.named parsing.pure tested.such
+two_dollars_found = refl
+
+pub no_arguments_found : directive_reader NonConst (Punctuation at ∷ Name (codes "d") ∷ Punctuation lparen ∷ Punctuation rparen ∷ []) ≡ None
+unfolding directive_reader arguments_reader argument_reader parsing.alt parsing.◌>>=◌ parsing.accept parsing.leaf parsing.accepted parsing.parse_name parsing.named parsing.parse_group parsing.many parsing.pure tested.such
+no_arguments_found = refl
 
 pub constant_variable_found : value_reader Const (Punctuation dollar ∷ Name (codes "a") ∷ []) ≡ None
 unfolding value_reader value_step variable_reader unless_const parsing.bounded parsing.alt parsing.fail

@@ -29,14 +29,18 @@ argument_tokens argument rest = Name argument.name.text ∷ Punctuation colon �
 abbrev pub arguments_tokens : List ArgumentTree → Tail
 arguments_tokens = group_tokens lparen argument_tokens rparen
 
--- The layout of an argument of a field or a directive, which stands on one line in every layout.
+-- The items of an argument of a field or a directive.
+abbrev pub argument_items : ArgumentTree → List Item
+argument_items argument = Word (Name argument.name.text) ∷ Word (Punctuation colon) ∷ Space ∷ value_shape false argument.value
+
+-- The layout of an argument, which stands on one line in every layout.
 abbrev pub argument_shape : ArgumentTree → List Item
-argument_shape argument = Word (Name argument.name.text) ∷ Word (Punctuation colon) ∷ Space ∷ value_shape false argument.value
+argument_shape argument = flat (argument_items argument)
 
 -- Without arguments there are no brackets.
 abbrev pub arguments_shape : List ArgumentTree → List Item
 arguments_shape [] = []
-arguments_shape (argument ∷ more) = flat (comma_group lparen rparen false (map argument_shape (argument ∷ more)))
+arguments_shape (argument ∷ more) = flat (comma_group lparen rparen false (map argument_items (argument ∷ more)))
 
 -- Arguments are a group, of which each item nests as its value does.
 abbrev pub arguments_nesting : List ArgumentTree → ℕ

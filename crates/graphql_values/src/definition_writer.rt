@@ -28,11 +28,10 @@ use crate::value_writer::{ValuePart, find_value_nesting, write_value};
 use graphql_base::node::{Node, NodeStr};
 use graphql_text::place::Place;
 use graphql_text::stack::Stack;
-use graphql_text::string::write_description;
 use graphql_text::target::Target;
 use graphql_text::writers::{
-    ready_comma_lead, write_comma_lead, write_last_comma, write_name, write_soft, write_tight,
-    write_words,
+    ready_comma_lead, write_comma_lead, write_description, write_last_comma, write_name, write_soft,
+    write_tight, write_words,
 };
 use std::alloc::{AllocError, Global};
 

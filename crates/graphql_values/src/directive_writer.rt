@@ -4,7 +4,7 @@ ghost use Rattle.graphql_text.specs.Levels.{Fits};
 ghost use Rattle.graphql_text.specs.Place.{mode_of};
 ghost use Rattle.graphql_text.specs.Stack.{IsReady, IsKept};
 ghost use Rattle.graphql_text.specs.Writing.{WritesItems};
-ghost use Rattle.graphql_values.specs.Arguments.{argument_shape, arguments_nesting, arguments_shape};
+ghost use Rattle.graphql_values.specs.Arguments.{argument_items, arguments_nesting, arguments_shape};
 ghost use Rattle.graphql_values.specs.Directives.{directive_nesting, directive_shape, directives_nesting, directives_shape};
 ghost use Rattle.graphql_values.specs.DirectiveTrees.{argument_tree, argument_trees, directive_node_trees, directive_tree};
 ghost use Rattle.graphql_values.specs.Values.{value_nesting};
@@ -51,7 +51,7 @@ fn write_argument<'a, O: Target>(
     requires fits { Fits place.now.level (value_nesting (argument_tree argument.now).value) }
     requires ready { IsReady stack.old (value_nesting (argument_tree argument.now).value) }
     ensures kept { IsKept stack.old stack.new }
-    ensures written { WritesItems O.wrote out.old out.new None place.now.level (argument_shape (argument_tree argument.now)) }
+    ensures written { WritesItems O.wrote out.old out.new None place.now.level (argument_items (argument_tree argument.now)) }
 {
     write_name(out, &argument.name);
     write_words(out, ": ");

@@ -1,27 +1,28 @@
 //! What holds of values, types, arguments, directives, input value definitions and directive definitions as they are printed and read.
 //!
 //! Each function does nothing: its contract is the law.
-ghost use Rattle.std.specs.Prelude.{◌≡◌, ◌<◌, ◌↔◌, Bool, IsTrue, length, MatchOption, List, [], ◌∷◌, codes, Some, None, true, false, refl};
+ghost use Rattle.std.specs.Prelude.{◌≡◌, ◌<◌, ◌↔◌, Bool, IsTrue, length, not, MatchOption, List, [], ◌∷◌};
 ghost use Rattle.graphql_text.specs.Forms.{a_mark};
 ghost use Rattle.graphql_text.specs.Printing.{ReadsAlone};
-ghost use Rattle.graphql_text.specs.Reading.{Laws, ReadsAs};
+ghost use Rattle.graphql_text.specs.Reading.{Laws};
 ghost use Rattle.graphql_text.specs.Tokens.{at, bang, bar, equals, lparen};
 ghost use Rattle.graphql_values.specs.Lookahead.{IsReadOneWay};
 ghost use Rattle.graphql_values.specs.Arguments.{ArgumentTree, argument_form, argument_obeys, argument_shape};
 ghost use Rattle.graphql_values.specs.Directives.{DirectiveTree, directive_form, directive_obeys, directive_shape, directives_form, directives_obey, directives_shape, directive_nesting, directives_nesting};
 ghost use Rattle.graphql_values.specs.DirectiveTrees.{directive_tree, directive_trees};
 ghost use Rattle.graphql_values.specs.DirectiveDefinitions.{DirectiveDefinitionTree, directive_definition_form, directive_definition_nesting, directive_definition_obeys, directive_definition_shape};
-ghost use Rattle.graphql_values.specs.DirectiveLocations as location;
 ghost use Rattle.graphql_values.specs.InputValues.{InputValueTree, arguments_definition_form, input_value_form, input_value_nesting, input_value_obeys, input_value_shape};
-ghost use Rattle.graphql_values.specs.TypeReferences.{TypeTree, list_type, named_type, non_null_named_type, type_form, type_shape};
+ghost use Rattle.graphql_values.specs.TypeReferences.{TypeTree, type_form, type_shape};
 ghost use Rattle.graphql_values.specs.TypeTrees.{type_tree, type_wrapping};
 ghost use Rattle.graphql_values.specs.Wrappings.{IsAssignable, is_non_null, renamed, tree_nullability, tree_wrapping, with_nullability};
-ghost use Rattle.graphql_values.specs.Literals.{name_tree};
-ghost use Rattle.graphql_values.specs.Values.{Const, Constness, NonConst, ValueTree, boolean_value, int_value, list_value, more_fields, more_values, no_fields, no_values, object_value, string_value, value_form, value_nesting, value_obeys, value_shape};
+ghost use Rattle.graphql_values.specs.Literals.{float_text, int_text, name_tree};
+ghost use Rattle.graphql_values.specs.Values.{Constness, NonConst, ValueTree, value_form, value_nesting, value_obeys, value_shape};
 ghost use Rattle.graphql_values.specs.ValueTrees.{IsCloneOf, value_tree};
 
 mod definitions;
 mod directives;
+mod kinds;
+mod readings;
 
 use crate::directive::{Directive, DirectiveList};
 pub use crate::laws::definitions::{
@@ -38,6 +39,15 @@ pub use crate::laws::directives::{
     directives_compare_by_tree, equal_arguments_hash_alike, equal_directive_lists_hash_alike,
     equal_directives_hash_alike, get_all_ends, specified_argument_errors_compare_by_variant,
 };
+pub use crate::laws::kinds::{
+    layouts_have_the_printed_tokens, printed_tokens_derive_the_tree, syntax_of_directive_definitions,
+    syntax_of_directive_lists, syntax_of_directives, syntax_of_input_value_definitions,
+    syntax_of_values,
+};
+pub use crate::laws::readings::{
+    refused_numbers, refused_readings, refused_strings, worked_readings, worked_strings,
+};
+use crate::literal::{FloatValue, IntValue};
 use crate::types::Type;
 use crate::value::Value;
 use std::fmt::Display;
@@ -116,6 +126,16 @@ pub fn parts_are_read_in_one_way()
     ensures directive_definitions { IsReadOneWay directive_definition_form (a_mark bar ∷ []) }
 {}
 
+/// Two ints are equal exactly if their texts are.
+pub fn ints_compare_by_text(a: &IntValue, b: &IntValue)
+    ensures { IsTrue (⟦<IntValue as PartialEq>⟧.eq a.now b.now) ↔ (int_text a.now ≡ int_text b.now) }
+{}
+
+/// Two floats are equal exactly if their texts are.
+pub fn floats_compare_by_text(a: &FloatValue, b: &FloatValue)
+    ensures { IsTrue (⟦<FloatValue as PartialEq>⟧.eq a.now b.now) ↔ (float_text a.now ≡ float_text b.now) }
+{}
+
 /// Two values are equal exactly if their trees are the same: wherever they and their parts stand in a source text.
 pub fn values_compare_by_tree(a: &Value, b: &Value)
     ensures { IsTrue (⟦<Value as PartialEq>⟧.eq a.now b.now) ↔ (value_tree a.now ≡ value_tree b.now) }
@@ -156,10 +176,13 @@ pub fn types_are_wrapped_names(ty: &Type)
 {}
 
 /// What `non_null` makes is non-null, and what `nullable` makes is not, whatever the type was before. Made again, it stays the same.
+/// A nullable type is given back by `nullable` after `non_null`, and a non-null one by `non_null` after `nullable`.
 pub fn nullability_is_set(ty: &Type, made: &Type)
     ensures set { (non_null : Bool) → type_wrapping made.now ≡ with_nullability non_null (type_wrapping ty.now) → is_non_null (type_tree made.now) ≡ non_null }
     ensures idempotent { (non_null : Bool) → type_wrapping made.now ≡ with_nullability non_null (type_wrapping ty.now) →
         with_nullability non_null (type_wrapping made.now) ≡ type_wrapping made.now }
+    ensures gives_back { (non_null : Bool) → is_non_null (type_tree ty.now) ≡ non_null → type_wrapping made.now ≡ with_nullability (not non_null) (type_wrapping ty.now) →
+        with_nullability non_null (type_wrapping made.now) ≡ type_wrapping ty.now }
 {}
 
 /// Assignability is an order of types: each is assignable to itself, a first to a third that a second between them joins, and two to each other only if
@@ -176,35 +199,3 @@ pub fn displayed_types_are_read(ty: &Type)
 {
     let _ty = ty;
 }
-
-/// Texts that are read, and as what. Not all of them are printed of any tree.
-pub fn worked_readings()
-    ensures list { ReadsAs (value_form NonConst) (codes "[1 2,,3 #c\n]")
-        (list_value (more_values (int_value (record { text = codes "1"; valid = refl })) (more_values (int_value (record { text = codes "2"; valid = refl })) (more_values (int_value (record { text = codes "3"; valid = refl })) no_values)))) }
-    ensures escapes { ReadsAs (value_form NonConst) (codes "\"\\u0041\\/\"") (string_value (record { text = codes "A/"; valid = refl })) }
-    ensures block { ReadsAs (value_form NonConst) (codes "\"\"\"\n\ta\n\"\"\"") (string_value (record { text = codes "a"; valid = refl })) }
-    ensures boolean { ReadsAs (value_form NonConst) (codes "true") (boolean_value true) }
-    ensures boolean_alone { (value : ValueTree) → ReadsAs (value_form NonConst) (codes "true") value → value ≡ boolean_value true }
-    ensures repeated_fields { ReadsAs (value_form NonConst) (codes "{a: 1, a: 2}")
-        (object_value (more_fields (record { text = codes "a"; valid = refl }) (int_value (record { text = codes "1"; valid = refl })) (more_fields (record { text = codes "a"; valid = refl }) (int_value (record { text = codes "2"; valid = refl })) no_fields))) }
-    ensures no_directives { ReadsAs (directives_form NonConst) [] [] }
-    ensures input_value_definition { ReadsAs input_value_form (codes "\"d\" a: [Int!] = [1] @x")
-        (record { description = Some (record { text = codes "d"; valid = refl }); name = (record { text = codes "a"; valid = refl }); type = list_type (non_null_named_type (record { text = codes "Int"; valid = refl })); default_value = Some (list_value (more_values (int_value (record { text = codes "1"; valid = refl })) no_values)); directives = (record { name = (record { text = codes "x"; valid = refl }); arguments = [] } ∷ []) }) }
-    ensures directive_definition { ReadsAs directive_definition_form (codes "directive @d(a: Int @x, b: Int) repeatable on | FIELD | QUERY")
-        (record { description = None; name = (record { text = codes "d"; valid = refl }); arguments = (record { description = None; name = (record { text = codes "a"; valid = refl }); type = named_type (record { text = codes "Int"; valid = refl }); default_value = None; directives = (record { name = (record { text = codes "x"; valid = refl }); arguments = [] } ∷ []) }) ∷ (record { description = None; name = (record { text = codes "b"; valid = refl }); type = named_type (record { text = codes "Int"; valid = refl }); default_value = None; directives = [] }) ∷ []; repeatable = true; locations = location.Field ∷ location.Query ∷ [] }) }
-    ensures directive_locations { ReadsAs directive_definition_form (codes "directive @d on QUERY | MUTATION | SUBSCRIPTION | FIELD | FRAGMENT_DEFINITION | FRAGMENT_SPREAD | INLINE_FRAGMENT | VARIABLE_DEFINITION | SCHEMA | SCALAR | OBJECT | FIELD_DEFINITION | ARGUMENT_DEFINITION | INTERFACE | UNION | ENUM | ENUM_VALUE | INPUT_OBJECT | INPUT_FIELD_DEFINITION")
-        (record { description = None; name = (record { text = codes "d"; valid = refl }); arguments = []; repeatable = false; locations = location.Query ∷ location.Mutation ∷ location.Subscription ∷ location.Field ∷ location.FragmentDefinition ∷ location.FragmentSpread ∷ location.InlineFragment ∷ location.VariableDefinition ∷ location.Schema ∷ location.Scalar ∷ location.Object ∷ location.FieldDefinition ∷ location.ArgumentDefinition ∷ location.Interface ∷ location.Union ∷ location.Enum ∷ location.EnumValue ∷ location.InputObject ∷ location.InputFieldDefinition ∷ [] }) }
-{}
-
-/// Texts that are read as no value: an exponent without digits, a leading zero, a string and a list that do not end, and a variable at a constant place;
-/// as no input value definition: one with a variable as its default value; as no directive definition: one without a location, and one with a word that is no location.
-pub fn refused_readings()
-    ensures no_exponent { (value : ValueTree) → ReadsAs (value_form NonConst) (codes "1e") value → ⊥ }
-    ensures leading_zero { (value : ValueTree) → ReadsAs (value_form NonConst) (codes "01") value → ⊥ }
-    ensures unterminated { (value : ValueTree) → ReadsAs (value_form NonConst) (codes "\"a") value → ⊥ }
-    ensures bracket_in_comment { (value : ValueTree) → ReadsAs (value_form NonConst) (codes "[1 #c]") value → ⊥ }
-    ensures constant_variable { (value : ValueTree) → ReadsAs (value_form Const) (codes "$a") value → ⊥ }
-    ensures default_variable { (input : InputValueTree) → ReadsAs input_value_form (codes "a: Int = $x") input → ⊥ }
-    ensures no_location { (definition : DirectiveDefinitionTree) → ReadsAs directive_definition_form (codes "directive @d") definition → ⊥ }
-    ensures unknown_location { (definition : DirectiveDefinitionTree) → ReadsAs directive_definition_form (codes "directive @d on Field") definition → ⊥ }
-{}

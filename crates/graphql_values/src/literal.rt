@@ -83,7 +83,7 @@ impl Display for IntValue {
     ghost output = { λ int. Some (int_text int) };
 
     fn fmt<W: Write>(&self, f: &mut Formatter<W>) -> fmt::Result {
-        f.pad(self.as_str())
+        f.pad(self.digits.as_str())
     }
 }
 
@@ -142,6 +142,6 @@ impl Display for FloatValue {
     ghost output = { λ float. Some (float_text float) };
 
     fn fmt<W: Write>(&self, f: &mut Formatter<W>) -> fmt::Result {
-        f.pad(self.as_str())
+        f.pad(self.text.as_str())
     }
 }

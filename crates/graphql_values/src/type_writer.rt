@@ -1,5 +1,6 @@
 //! The loops that write a type.
-ghost use Rattle.std.specs.Prelude.{◌≡◌, ℕ, ◌≤◌, ◌^◌, List, Option, IsNone, MatchOption};
+ghost use Rattle.std.specs.Prelude.{◌≡◌, ℕ, ◌≤◌, ◌^◌, List, None, Option, IsNone, MatchOption, OnOk, OnErr, encode_utf8_all};
+ghost use Rattle.graphql_text.specs.Reading.{layout_of};
 ghost use Rattle.graphql_text.specs.Stack.{stack_parts, IsReady, IsKept};
 ghost use Rattle.graphql_text.specs.Writing.{WritesItems};
 ghost use Rattle.graphql_values.specs.TypeReferences.{type_shape};
@@ -11,7 +12,7 @@ use crate::types::Type;
 use graphql_text::stack::Stack;
 use graphql_text::target::Target;
 use graphql_text::writers::{write_name, write_words};
-use std::alloc::Global;
+use std::alloc::{AllocError, Global};
 
 /// What waits on the stack while a type is written: the end of a list that is open.
 #[derive(Clone, Copy)]
@@ -108,4 +109,15 @@ pub fn write_type<O: Target>(ty: &Type, out: &mut O, stack: &mut Stack<TypePart>
         }
     }
     write_ends(out, stack);
+}
+
+/// Writes a type by itself. Memory for the ends of its lists is asked for before the first byte.
+pub(crate) fn write_type_alone<O: Target>(ty: &Type, out: &mut O) -> Result<(), AllocError>
+    ensures ok { OnOk result (O.wrote out.old (encode_utf8_all (layout_of (λ broken is_front. type_shape) None 0 (type_tree ty.now))) out.new) }
+    ensures err { OnErr result (out.new ≡ out.old) }
+{
+    let depth = find_list_depth(ty).ok_or(AllocError)?;
+    let mut stack = Stack::reserve(type_allocator(ty), depth)?;
+    write_type(ty, out, &mut stack);
+    Ok(())
 }

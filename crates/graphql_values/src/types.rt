@@ -1,7 +1,9 @@
 //! Type references, and the macro `ty!`.
 ghost use Rattle.std.specs.Prelude.{◌≡◌, ◌↔◌, IfOk, IsTrue, true, false};
 
+use crate::type_writer::write_type_alone;
 pub use graphql_base::name::NamedType;
+use graphql_text::target::ToFormatter;
 use std::alloc::{AllocError, Global};
 use std::fmt;
 
@@ -150,25 +152,15 @@ impl fmt::Display for Type {
 
     ghost output = { λ ty. Some (encode_utf8_all (layout_of (λ broken is_front. type_shape) None 0 (type_tree ty))) };
 
-    #[tactic(auto, using(crate::proofs::TypeTexts::named_text, crate::proofs::TypeTexts::non_null_named_text, crate::proofs::TypeTexts::list_text, crate::proofs::TypeTexts::non_null_list_text, std::proofs::lemmas::Grind::common_steps))]
     fn fmt<W: fmt::Write>(&self, f: &mut fmt::Formatter<W>) -> fmt::Result {
-        match self {
-            Type::Named(name) => f.write_str(name.as_str()),
-            Type::NonNullNamed(name) => {
-                f.write_str(name.as_str())?;
-                f.write_str("!")
-            }
-            Type::List(item) => {
-                f.write_str("[")?;
-                (**item).fmt(f)?;
-                f.write_str("]")
-            }
-            Type::NonNullList(item) => {
-                f.write_str("[")?;
-                (**item).fmt(f)?;
-                f.write_str("]!")
-            }
+        let mut out = ToFormatter {
+            formatter: f,
+            failed: false,
+        };
+        if write_type_alone(self, &mut out).is_err() {
+            return Err(fmt::Error);
         }
+        if out.failed { Err(fmt::Error) } else { Ok(()) }
     }
 }
 

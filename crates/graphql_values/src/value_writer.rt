@@ -14,11 +14,10 @@ use graphql_base::name::Name;
 use graphql_base::node::Node;
 use graphql_text::place::Place;
 use graphql_text::stack::Stack;
-use graphql_text::string::write_string_value;
 use graphql_text::target::Target;
 use graphql_text::writers::{
     ready_comma_lead, write_comma_lead, write_float, write_int, write_last_comma, write_name,
-    write_tight, write_words,
+    write_string_value, write_tight, write_words,
 };
 
 /// A list or an object that is open: what is left of it, and whether nothing of it was written yet.

@@ -3,7 +3,7 @@ use Rattle.std.proofs.Common.{refl, List, [], IsTrue}
 use Rattle.graphql_text.specs.Reading.{Laws}
 use Rattle.graphql_text.proofs.Parsing.{one_reading}
 use Rattle.graphql_text.proofs.Bracketing.{whole}
-use Rattle.graphql_text.proofs.Telling.{told_weaker}
+use Rattle.graphql_text.proofs.Telling.{told_flat, told_weaker}
 use Rattle.graphql_text.proofs.KindLaws.{Facts, laws}
 use Rattle.graphql_values.specs.Values.{ValueTree, NonConst, value_form, value_tokens, value_shape, value_nesting, value_obeys}
 use Rattle.graphql_values.specs.TypeReferences.{TypeTree, type_form, type_tokens, type_shape}
@@ -32,8 +32,8 @@ value_laws = laws value_facts
 
 argument_facts : Facts {Tree = ArgumentTree} (λ broken front. argument_shape) (λ argument. value_nesting argument.value) (λ argument. IsTrue (argument_obeys NonConst argument)) (argument_form NonConst) (λ front. argument_tokens)
 argument_facts = record {
-  spelt = λ broken front a. let told = told_argument a in told.spelt;
-  bracketed = λ broken front a. let told = told_argument a in whole told.bracketed;
+  spelt = λ broken front a. let told = told_flat (told_argument a) in told.spelt;
+  bracketed = λ broken front a. let told = told_flat (told_argument a) in whole told.bracketed;
   written = λ front a o. argument_written NonConst a o [];
   once = λ a b ts d e. (one_reading (argument_is_read NonConst a) (argument_is_read NonConst b) d e refl refl).0;
   obeyed = λ a ts d. argument_obeyed NonConst a ts [] d;

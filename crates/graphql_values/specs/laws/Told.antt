@@ -10,7 +10,7 @@ use Rattle.graphql_text.proofs.Bracketing.{Passes, punctuator_effect}
 use Rattle.graphql_text.proofs.Telling.{Told, told_nothing, told_then, told_after, told_as, told_weaker, told_mark, told_word, told_name, told_int, told_float, told_string, told_space, told_soft, told_type, told_flat, Parts, no_parts, one_more, parts_of, told_comma_group}
 use Rattle.graphql_values.specs.Values.{ValueTree, ValueTrees, ObjectFieldTrees, null_value, enum_value, variable, string_value, float_value, int_value, boolean_value, list_value, object_value, no_values, more_values, no_fields, more_fields, value_tokens, values_tokens, object_fields_tokens, value_shape, values_shapes, object_fields_shapes, value_nesting, values_nestings, object_fields_nestings}
 use Rattle.graphql_values.specs.TypeReferences.{TypeTree, named_type, non_null_named_type, list_type, non_null_list_type, type_tokens, type_shape}
-use Rattle.graphql_values.specs.Arguments.{ArgumentTree, argument_tokens, arguments_tokens, argument_shape, arguments_shape, arguments_nesting}
+use Rattle.graphql_values.specs.Arguments.{ArgumentTree, argument_tokens, arguments_tokens, argument_items, arguments_shape, arguments_nesting}
 use Rattle.graphql_values.specs.Directives.{DirectiveTree, directive_tokens, directives_tokens, directive_shape, directives_shape, directive_nesting, directives_nesting}
 use Rattle.graphql_values.specs.Descriptions.{description_tokens, description_shape}
 use Rattle.graphql_values.specs.DefaultValues.{default_value_tokens, default_value_shape, default_value_nesting}
@@ -49,7 +49,7 @@ told_reference u (non_null_named_type s) = told_name s (told_mark bang refl told
 told_reference u (list_type t) = told_weaker (told_type (told_reference (suc u) t) told_nothing)
 told_reference u (non_null_list_type t) = told_weaker (told_type (told_reference (suc u) t) (told_mark bang refl told_nothing))
 
-pub told_argument : (a : ArgumentTree) → Told 0 (argument_shape a) (argument_tokens a) false (value_nesting a.value)
+pub told_argument : (a : ArgumentTree) → Told 0 (argument_items a) (argument_tokens a) false (value_nesting a.value)
 told_argument a = told_name a.name (told_mark colon refl (told_space (told_value false a.value)))
 
 pub told_arguments : (more : List ArgumentTree) → Told 0 (arguments_shape more) (arguments_tokens more) true (arguments_nesting more)

@@ -14,7 +14,7 @@ returns-then-is_stopped g c =
     let p : List ℕ = c.args.prefix.now in
     let rest : List ℕ = p ++ repeat (c.args.level - (c.loop.counter + 1)) p in
     rw (← repeat_in_chars c.args.level p c.utf8.prefix, repeat_front c.loop.counter c.args.level p (omega arith))
-    (g.met.O.Target.more _ _ _ _ _ c.loop.invariant (g.met.O.Target.idle _ rest (c.is_stopped.ensures c.if-is_stopped.true)))
+    (g.met.O.Target.more _ _ _ _ _ c.loop.invariant (g.met.O.Target.idle _ rest (c.is_stopped.ensures.0 c.if-is_stopped.true)))
 
 pub loop-preserved : goal.loop-preserved
 loop-preserved g c = rw (← repeat_more c.loop.counter c.args.prefix.now) (g.met.O.Target.more _ _ _ _ _ c.loop.invariant c.text.ensures)

@@ -5,5 +5,5 @@ use Rattle.graphql_text.proofs.breaks.ready_break.Goals as goal
 
 pub returns-then-level-le30 : goal.returns-then-level-le30
 returns-then-level-le30 c =
-    let spaces : c.args.prefix.now ≡ 32 ∷ 32 ∷ [] = c.is_two_spaces.ensures c.if-is_two_spaces.true in
+    let spaces : c.args.prefix.now ≡ 32 ∷ 32 ∷ [] = c.is_two_spaces.ensures.0 c.if-is_two_spaces.true in
     c.two_space_break.ensures ∙ ap (λ prefix. break_text prefix c.args.level) (sym spaces) ∙ break_in_chars c.args.level c.args.prefix.now c.utf8.prefix

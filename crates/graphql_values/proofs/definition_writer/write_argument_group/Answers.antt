@@ -33,7 +33,7 @@ loop-argument-init g c =
 
 pub returns-then-is_stopped-clause-written : goal.returns-then-is_stopped-clause-written
 returns-then-is_stopped-clause-written g c =
-    front_stopped g.met.O.Target.more c.loop-argument.invariant.written (λ x. g.met.O.Target.idle _ x (c.is_stopped.ensures c.if-is_stopped.true))
+    front_stopped g.met.O.Target.more c.loop-argument.invariant.written (λ x. g.met.O.Target.idle _ x (c.is_stopped.ensures.0 c.if-is_stopped.true))
     (argument_group_balanced (is_broken (mode_of c.args.place.now.prefix)) (input_value_trees c.args.arguments.now))
 
 pub loop-argument-preserved : goal.loop-argument-preserved

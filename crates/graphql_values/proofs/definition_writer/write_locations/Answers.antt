@@ -25,7 +25,7 @@ loop-location-init g c = λ mode level.
 
 pub returns-then-is_stopped : goal.returns-then-is_stopped
 returns-then-is_stopped g c = λ mode level.
-    front_stopped g.met.O.Target.more (c.loop-location.invariant mode level) (λ x. g.met.O.Target.idle _ x (c.is_stopped.ensures c.if-is_stopped.true)) (locations_balanced (map location_tree c.args.locations.now))
+    front_stopped g.met.O.Target.more (c.loop-location.invariant mode level) (λ x. g.met.O.Target.idle _ x (c.is_stopped.ensures.0 c.if-is_stopped.true)) (locations_balanced (map location_tree c.args.locations.now))
 
 pub loop-location-preserved : goal.loop-location-preserved
 loop-location-preserved g c = λ mode level.

@@ -13,7 +13,7 @@ loop-directive-init g c = record { nesting = le_refl _; kept = kept_unused c.req
 
 pub returns-then-is_stopped-clause-written : goal.returns-then-is_stopped-clause-written
 returns-then-is_stopped-clause-written g c =
-    front_stopped g.met.O.Target.more c.loop-directive.invariant.written (λ x. g.met.O.Target.idle _ x (c.is_stopped.ensures c.if-is_stopped.true)) (directives_balanced (directive_node_trees c.args.directives.now))
+    front_stopped g.met.O.Target.more c.loop-directive.invariant.written (λ x. g.met.O.Target.idle _ x (c.is_stopped.ensures.0 c.if-is_stopped.true)) (directives_balanced (directive_node_trees c.args.directives.now))
 
 pub loop-directive-preserved : goal.loop-directive-preserved
 loop-directive-preserved g c =

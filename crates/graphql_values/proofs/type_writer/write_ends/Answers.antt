@@ -7,7 +7,7 @@ use Rattle.graphql_values.proofs.type_writer.write_ends.Goals as goal
 
 pub returns-then-is_stopped-clause-written : goal.returns-then-is_stopped-clause-written
 returns-then-is_stopped-clause-written g c = λ mode level.
-    c.loop-end.invariant.written c.loop-end.out mode level (record { text = g.met.O.Target.idle _ _ (c.is_stopped.ensures c.if-is_stopped.true); balanced = ends_balanced (stack_parts c.loop-end.stack) })
+    c.loop-end.invariant.written c.loop-end.out mode level (record { text = g.met.O.Target.idle _ _ (c.is_stopped.ensures.0 c.if-is_stopped.true); balanced = ends_balanced (stack_parts c.loop-end.stack) })
 
 pub loop-end-preserved : goal.loop-end-preserved
 loop-end-preserved g c = record {

@@ -12,7 +12,7 @@ use Rattle.graphql_values.proofs.type_writer.write_type.Goals.{in-Named, in-NonN
 pub returns-then-is_stopped-clause-written : goal.returns-then-is_stopped-clause-written
 returns-then-is_stopped-clause-written g c = λ mode level.
     let balanced = rest_balanced (type_tree c.loop-inner.inner.now) (stack_parts c.loop-inner.stack) in
-    c.loop-inner.invariant.written c.loop-inner.out mode level (record { text = g.met.O.Target.idle _ _ (c.is_stopped.ensures c.if-is_stopped.true); balanced = balanced })
+    c.loop-inner.invariant.written c.loop-inner.out mode level (record { text = g.met.O.Target.idle _ _ (c.is_stopped.ensures.0 c.if-is_stopped.true); balanced = balanced })
 
 pub loop-inner-preserved-in-List : goal.loop-inner-preserved-in-List
 loop-inner-preserved-in-List g c =

@@ -62,5 +62,5 @@ loop-part-smaller g c =
 
 pub returns-then-is_stopped-clause-written : goal.returns-then-is_stopped-clause-written
 returns-then-is_stopped-clause-written g c =
-    front_stopped g.met.O.Target.more c.loop-part.invariant.written (λ x. g.met.O.Target.idle _ x (c.is_stopped.ensures c.if-is_stopped.true))
+    front_stopped g.met.O.Target.more c.loop-part.invariant.written (λ x. g.met.O.Target.idle _ x (c.is_stopped.ensures.0 c.if-is_stopped.true))
     (value_balanced (is_broken (mode_of c.args.place.now.prefix)) (value_tree c.args.value.now))

@@ -2,16 +2,16 @@ use Rattle.std.proofs.Common.{List, [], ◌∷◌, codes, refl, true, inr, None}
 use Rattle.graphql_text.specs.Tokens.{lparen, rparen, colon, at, bar, Punctuation, Name}
 use Rattle.graphql_text.specs.Forms.{token, no_tokens, ◌⨟◌, optional_token, name_except}
 use Rattle.graphql_text.proofs.Sound.{lex_sound}
-use Rattle.graphql_values.specs.Values.{boolean_value, value_tokens}
-use Rattle.graphql_values.specs.TypeReferences.{named_type, type_tokens}
-use Rattle.graphql_values.specs.Directives.{directive_tokens}
+use Rattle.graphql_values.specs.Values.{NonConst, boolean_value, value_tokens}
+use Rattle.graphql_values.specs.TypeReferences.{named_type, type_form, type_tokens}
+use Rattle.graphql_values.specs.Directives.{DirectiveTree, directive_form, directives_form, directive_tokens}
 use Rattle.graphql_values.specs.InputValues.{InputValueTree, input_value_form, input_value_tokens}
 use Rattle.graphql_values.specs.DirectiveLocations.{Field, Query}
 use Rattle.graphql_values.specs.DirectiveDefinitions.{directive_definition_form, directive_definition_body_form, directive_definition_tokens}
 use Rattle.graphql_values.specs.laws.KindLaws.{value_laws}
-use Rattle.graphql_values.specs.laws.ReadBack.{input_value_written, arguments_definition_written, directive_definition_written}
+use Rattle.graphql_values.specs.laws.ReadBack.{type_written, directive_written, directives_written, input_value_written, arguments_definition_written, directive_definition_written}
 use Rattle.graphql_values.proofs.Readings.{reads, reads_as}
-use Rattle.graphql_values.proofs.laws.worked_readings.Goals as goal
+use Rattle.graphql_values.proofs.laws.readings.worked_readings.Goals as goal
 
 pub returns-clause-list : goal.returns-clause-list
 unfolding value_tokens
@@ -36,6 +36,41 @@ returns-clause-boolean_alone c = λ value r. value_laws.one_tree (codes "true") 
 pub returns-clause-repeated_fields : goal.returns-clause-repeated_fields
 unfolding value_tokens
 returns-clause-repeated_fields c = reads (codes "{a: 1, a: 2}") _ refl refl refl
+
+pub returns-clause-words : goal.returns-clause-words
+unfolding value_tokens
+returns-clause-words c = reads (codes "[$a, null, false]") _ refl refl refl
+
+pub returns-clause-numbers : goal.returns-clause-numbers
+unfolding value_tokens
+returns-clause-numbers c = reads (codes "[1-2]") _ refl refl refl
+
+pub returns-clause-commas : goal.returns-clause-commas
+unfolding value_tokens
+returns-clause-commas c = reads (codes "{,a,:,1,}") _ refl refl refl
+
+pub returns-clause-ignored : goal.returns-clause-ignored
+unfolding value_tokens
+returns-clause-ignored c = reads (0xFEFF ∷ codes "$ #x\ra") _ refl refl refl
+
+pub returns-clause-types : goal.returns-clause-types
+unfolding type_tokens
+returns-clause-types c = reads_as type_form (codes "[Int!]!") _ _ refl refl (type_written _ [])
+
+pub returns-clause-directive : goal.returns-clause-directive
+unfolding directive_tokens value_tokens
+returns-clause-directive c = reads_as (directive_form NonConst) (codes "@a(x: $v)") _ _ refl refl (directive_written NonConst _ refl [])
+
+abbrev bare_directives : List DirectiveTree
+bare_directives = (record { name = (record { text = codes "a"; valid = refl }); arguments = [] }) ∷ (record { name = (record { text = codes "b"; valid = refl }); arguments = [] }) ∷ []
+
+pub returns-clause-directives : goal.returns-clause-directives
+unfolding directive_tokens
+returns-clause-directives c = reads_as (directives_form NonConst) (codes " @a @b") _ bare_directives refl refl (directives_written NonConst bare_directives refl [])
+
+pub returns-clause-comment : goal.returns-clause-comment
+unfolding no_tokens
+returns-clause-comment c = (refl, [], lex_sound (codes "#") [] refl, refl)
 
 pub returns-clause-no_directives : goal.returns-clause-no_directives
 unfolding no_tokens

@@ -1,0 +1,93 @@
+//! What is printed of each kind: what its `Syntax` is, and the tokens that its layouts have.
+ghost use Rattle.std.specs.Prelude.{◌≡◌, ◌↔◌, Bool, IsTrue, List, []};
+ghost use Rattle.graphql_text.specs.Spelling.{tokens_of_items};
+ghost use Rattle.graphql_text.specs.Tokens.{Token};
+ghost use Rattle.graphql_values.specs.Arguments.{ArgumentTree, argument_form, argument_obeys, argument_shape, argument_tokens};
+ghost use Rattle.graphql_values.specs.DefinitionParts.{directive_definition_parts, input_value_parts};
+ghost use Rattle.graphql_values.specs.DefinitionTrees.{directive_definition_tree, input_value_tree};
+ghost use Rattle.graphql_values.specs.DirectiveDefinitions.{DirectiveDefinitionTree, directive_definition_form, directive_definition_nesting, directive_definition_obeys, directive_definition_shape, directive_definition_tokens};
+ghost use Rattle.graphql_values.specs.DirectiveTrees.{directive_tree, directive_trees};
+ghost use Rattle.graphql_values.specs.Directives.{DirectiveTree, directive_form, directive_nesting, directive_obeys, directive_shape, directive_tokens, directives_form, directives_nesting, directives_obey, directives_shape, directives_tokens};
+ghost use Rattle.graphql_values.specs.InputValues.{InputValueTree, input_value_form, input_value_nesting, input_value_obeys, input_value_shape, input_value_tokens};
+ghost use Rattle.graphql_values.specs.TypeReferences.{TypeTree, type_form, type_shape, type_tokens};
+ghost use Rattle.graphql_values.specs.ValueTrees.{value_tree};
+ghost use Rattle.graphql_values.specs.Values.{Constness, NonConst, ValueTree, value_form, value_nesting, value_obeys, value_shape, value_tokens};
+
+use crate::definition::{DirectiveDefinition, InputValueDefinition};
+use crate::directive::{Directive, DirectiveList};
+use crate::value::Value;
+use graphql_text::engine::Syntax;
+
+/// What `Syntax` of values says: their trees, layouts, nesting, side conditions and grammar, and how many parts wait on stacks.
+pub fn syntax_of_values()
+    ensures tree { ⟦<Value as Syntax>⟧.tree ≡ value_tree }
+    ensures shape { ⟦<Value as Syntax>⟧.shape ≡ (λ broken is_front. value_shape broken) }
+    ensures nesting { ⟦<Value as Syntax>⟧.nesting ≡ value_nesting }
+    ensures parts { ⟦<Value as Syntax>⟧.parts ≡ value_nesting }
+    ensures obeys { (tree : ValueTree) → ⟦<Value as Syntax>⟧.obeys tree ↔ IsTrue (value_obeys NonConst tree) }
+    ensures derives { (tree : ValueTree) (tokens rest : List Token) → ⟦<Value as Syntax>⟧.derives tree tokens rest ↔ value_form NonConst tree tokens rest }
+{}
+
+/// What `Syntax` of directives says: their trees, layouts, nesting, side conditions and grammar, and how many parts wait on stacks.
+pub fn syntax_of_directives()
+    ensures tree { ⟦<Directive as Syntax>⟧.tree ≡ directive_tree }
+    ensures shape { ⟦<Directive as Syntax>⟧.shape ≡ (λ broken is_front. directive_shape) }
+    ensures nesting { ⟦<Directive as Syntax>⟧.nesting ≡ directive_nesting }
+    ensures parts { ⟦<Directive as Syntax>⟧.parts ≡ directive_nesting }
+    ensures obeys { (tree : DirectiveTree) → ⟦<Directive as Syntax>⟧.obeys tree ↔ IsTrue (directive_obeys NonConst tree) }
+    ensures derives { (tree : DirectiveTree) (tokens rest : List Token) → ⟦<Directive as Syntax>⟧.derives tree tokens rest ↔ directive_form NonConst tree tokens rest }
+{}
+
+/// What `Syntax` of lists of directives says: their trees, layouts, nesting, side conditions and grammar, and how many parts wait on stacks.
+pub fn syntax_of_directive_lists()
+    ensures tree { ⟦<DirectiveList as Syntax>⟧.tree ≡ directive_trees }
+    ensures shape { ⟦<DirectiveList as Syntax>⟧.shape ≡ (λ broken is_front. directives_shape) }
+    ensures nesting { ⟦<DirectiveList as Syntax>⟧.nesting ≡ directives_nesting }
+    ensures parts { ⟦<DirectiveList as Syntax>⟧.parts ≡ directives_nesting }
+    ensures obeys { (tree : List DirectiveTree) → ⟦<DirectiveList as Syntax>⟧.obeys tree ↔ IsTrue (directives_obey NonConst tree) }
+    ensures derives { (tree : List DirectiveTree) (tokens rest : List Token) → ⟦<DirectiveList as Syntax>⟧.derives tree tokens rest ↔ directives_form NonConst tree tokens rest }
+{}
+
+/// What `Syntax` of input value definitions says: their trees, layouts, nesting, side conditions and grammar, and how many parts wait on stacks.
+pub fn syntax_of_input_value_definitions()
+    ensures tree { ⟦<InputValueDefinition as Syntax>⟧.tree ≡ input_value_tree }
+    ensures shape { ⟦<InputValueDefinition as Syntax>⟧.shape ≡ (λ broken is_front. input_value_shape broken) }
+    ensures nesting { ⟦<InputValueDefinition as Syntax>⟧.nesting ≡ input_value_nesting }
+    ensures parts { ⟦<InputValueDefinition as Syntax>⟧.parts ≡ input_value_parts }
+    ensures obeys { (tree : InputValueTree) → ⟦<InputValueDefinition as Syntax>⟧.obeys tree ↔ IsTrue (input_value_obeys tree) }
+    ensures derives { (tree : InputValueTree) (tokens rest : List Token) → ⟦<InputValueDefinition as Syntax>⟧.derives tree tokens rest ↔ input_value_form tree tokens rest }
+{}
+
+/// What `Syntax` of directive definitions says: their trees, layouts, nesting, side conditions and grammar, and how many parts wait on stacks.
+pub fn syntax_of_directive_definitions()
+    ensures tree { ⟦<DirectiveDefinition as Syntax>⟧.tree ≡ directive_definition_tree }
+    ensures shape { ⟦<DirectiveDefinition as Syntax>⟧.shape ≡ (λ broken is_front. directive_definition_shape broken) }
+    ensures nesting { ⟦<DirectiveDefinition as Syntax>⟧.nesting ≡ directive_definition_nesting }
+    ensures parts { ⟦<DirectiveDefinition as Syntax>⟧.parts ≡ directive_definition_parts }
+    ensures obeys { (tree : DirectiveDefinitionTree) → ⟦<DirectiveDefinition as Syntax>⟧.obeys tree ↔ IsTrue (directive_definition_obeys tree) }
+    ensures derives { (tree : DirectiveDefinitionTree) (tokens rest : List Token) → ⟦<DirectiveDefinition as Syntax>⟧.derives tree tokens rest ↔ directive_definition_form tree tokens rest }
+{}
+
+/// The tokens that are printed of a part that obeys the side conditions derive it, before whatever follows.
+pub fn printed_tokens_derive_the_tree()
+    ensures values { (c : Constness) (value : ValueTree) → IsTrue (value_obeys c value) → (rest : List Token) → value_form c value (value_tokens value rest) rest }
+    ensures types { (type : TypeTree) (rest : List Token) → type_form type (type_tokens type rest) rest }
+    ensures arguments { (c : Constness) (argument : ArgumentTree) → IsTrue (argument_obeys c argument) → (rest : List Token) → argument_form c argument (argument_tokens argument rest) rest }
+    ensures directives { (c : Constness) (directive : DirectiveTree) → IsTrue (directive_obeys c directive) → (rest : List Token) → directive_form c directive (directive_tokens directive rest) rest }
+    ensures directive_lists { (c : Constness) (directives : List DirectiveTree) → IsTrue (directives_obey c directives) → (rest : List Token) → directives_form c directives (directives_tokens directives rest) rest }
+    ensures input_values { (input : InputValueTree) → IsTrue (input_value_obeys input) → (rest : List Token) → input_value_form input (input_value_tokens input rest) rest }
+    ensures directive_definitions { (definition : DirectiveDefinitionTree) → IsTrue (directive_definition_obeys definition) → (rest : List Token) →
+        directive_definition_form definition (directive_definition_tokens definition rest) rest }
+{}
+
+/// They are the words and strings of its layout, in order: of every layout, and whether it obeys the side conditions or not.
+pub fn layouts_have_the_printed_tokens()
+    ensures values { (broken : Bool) (value : ValueTree) → tokens_of_items (value_shape broken value) ≡ value_tokens value [] }
+    ensures types { (type : TypeTree) → tokens_of_items (type_shape type) ≡ type_tokens type [] }
+    ensures arguments { (argument : ArgumentTree) → tokens_of_items (argument_shape argument) ≡ argument_tokens argument [] }
+    ensures directives { (directive : DirectiveTree) → tokens_of_items (directive_shape directive) ≡ directive_tokens directive [] }
+    ensures directive_lists { (directives : List DirectiveTree) → tokens_of_items (directives_shape directives) ≡ directives_tokens directives [] }
+    ensures input_values { (broken : Bool) (input : InputValueTree) → tokens_of_items (input_value_shape broken input) ≡ input_value_tokens input [] }
+    ensures directive_definitions { (broken : Bool) (definition : DirectiveDefinitionTree) →
+        tokens_of_items (directive_definition_shape broken definition) ≡ directive_definition_tokens definition [] }
+{}

@@ -2,7 +2,7 @@
 use Rattle.std.proofs.Common.{ℕ, zero, suc, ◌≤◌, ◌≡◌, refl, sym, ap, ◌∙◌, subst, List, [], ◌∷◌, length, Bool, true, false, ◌&&◌, ◌⊎◌, inl, inr, Option, Some, None, arith, ◌<◌, le_refl}
 use Rattle.graphql_text.specs.Literals.{NameText}
 use Rattle.graphql_text.specs.Tokens.{Punctuator, punctuator_text, lbrace, rbrace, Token, Punctuation, Name}
-use Rattle.graphql_text.specs.Forms.{Form, token, no_tokens, ◌⨟◌, optional_token, optional, list_of, optional_group, name_except, not_followed_by, only_if, either, never, nonempty_list_of, optional_braces, joined_by, TokenClass, a_mark, a_word, a_name, admits, any_admits, begins, is_one_of}
+use Rattle.graphql_text.specs.Forms.{Form, token, no_tokens, ◌⨟◌, optional_token, optional, list_of, optional_group, name_except, not_followed_by, only_if, either, never, nonempty_list_of, optional_braces, joined_by, TokenClass, a_punctuator, a_keyword, a_name, admits, any_admits, begins, is_one_of}
 use Rattle.std.proofs.lemmas.Bool.{or_cases, or_left, or_right, not_from_false}
 use Rattle.graphql_text.proofs.Tests.{and-0, and-1}
 use Rattle.graphql_text.proofs.TokenClasses.{text_itself, covers-refl, within-begins, within-none, apart-begins, within-more}
@@ -402,12 +402,12 @@ unfolding accept accepted
 accept_reads h t e = leaf_reads _ t h (rw e refl) e
 
 pub mark_reads : {k : ℕ} (m : Punctuator) →
-    Reads k (accept (a_mark m)) (Punctuation m) (token (Punctuation m)) [] (a_mark m ∷ []) false
-mark_reads m = accept_reads (a_mark m) (Punctuation m) (text_itself (punctuator_text m))
+    Reads k (accept (a_punctuator m)) (Punctuation m) (token (Punctuation m)) [] (a_punctuator m ∷ []) false
+mark_reads m = accept_reads (a_punctuator m) (Punctuation m) (text_itself (punctuator_text m))
 
 pub word_reads : {k : ℕ} (w : List ℕ) →
-    Reads k (accept (a_word w)) (Name w) (token (Name w)) [] (a_word w ∷ []) false
-word_reads w = accept_reads (a_word w) (Name w) (text_itself w)
+    Reads k (accept (a_keyword w)) (Name w) (token (Name w)) [] (a_keyword w ∷ []) false
+word_reads w = accept_reads (a_keyword w) (Name w) (text_itself w)
 
 unfoldable pub named : List (List ℕ) → Token → Option NameText
 named ws (Name s) = elim (is_one_of ws s) [ true ↦ None | false ↦ such s ]
@@ -440,19 +440,19 @@ parse_some hs p = p >>= λ a. parse_each hs p >>= λ more. pure (a ∷ more)
 unfoldable pub parse_group : {A : Type 0} → Punctuator → List TokenClass → Parser A → Punctuator →
     Parser (List A)
 parse_group o hs p c =
-    alt (a_mark o ∷ []) (accept (a_mark o) >>= λ t. p >>= λ a. parse_each hs p >>= λ more. accept (a_mark c) >>= λ u. pure (a ∷ more)) (pure [])
+    alt (a_punctuator o ∷ []) (accept (a_punctuator o) >>= λ t. p >>= λ a. parse_each hs p >>= λ more. accept (a_punctuator c) >>= λ u. pure (a ∷ more)) (pure [])
 
 pub group_reads : {A : Type 0} {k : ℕ} {p : Parser A} (f : A → Form) {F L : List TokenClass} (G : List TokenClass) (o c : Punctuator) →
     ((a : A) → Reads k p a (f a) F L false) → within L G ≡ true → fits F L true G ≡ true →
-    all_apart F (also L (a_mark c ∷ [])) ≡ true → all_apart G (a_mark c ∷ []) ≡ true →
-    (more : List A) → Reads k (parse_group o L p c) more (optional_group o f c more) (a_mark o ∷ []) (a_mark o ∷ []) true
+    all_apart F (also L (a_punctuator c ∷ [])) ≡ true → all_apart G (a_punctuator c ∷ []) ≡ true →
+    (more : List A) → Reads k (parse_group o L p c) more (optional_group o f c more) (a_punctuator o ∷ []) (a_punctuator o ∷ []) true
 unfolding parse_group
 group_reads f {F} {L} G o c x e g i h [] =
-    alt_empty _ (a_mark o ∷ []) (a_mark o ∷ []) (a_mark o ∷ []) (within_refl (a_mark o ∷ []))
+    alt_empty _ (a_punctuator o ∷ []) (a_punctuator o ∷ []) (a_punctuator o ∷ []) (within_refl (a_punctuator o ∷ []))
 group_reads f {F} {L} G o c x e g i h (a ∷ more) =
-    wider (alt_0 _ (a_mark o ∷ [])
+    wider (alt_0 _ (a_punctuator o ∷ [])
     (seq _ (mark_reads o) (seq _ (x a) (seq _ (each_reads _ f G x e g more) (last _ (mark_reads c)) h) i) refl)
-    (within_refl (a_mark o ∷ []))) refl (within_refl (a_mark o ∷ [])) (λ z. refl)
+    (within_refl (a_punctuator o ∷ []))) refl (within_refl (a_punctuator o ∷ [])) (λ z. refl)
 
 pub some_reads : {A : Type 0} {k : ℕ} {p : Parser A} (f : A → Form) {F L : List TokenClass} (G : List TokenClass) →
     ((a : A) → Reads k p a (f a) F L false) → within L G ≡ true → fits F L true G ≡ true →
@@ -463,17 +463,17 @@ some_reads f {F} {L} G x e g (a ∷ more) = seq _ (x a) (last _ (each_reads _ f 
 
 pub braced_reads : {A : Type 0} {k : ℕ} {p : Parser A} (f : A → Form) {F L : List TokenClass} (G : List TokenClass) →
     ((a : A) → Reads k p a (f a) F L false) → within L G ≡ true → fits F L true G ≡ true →
-    all_apart F (also L (a_mark rbrace ∷ [])) ≡ true → all_apart G (a_mark rbrace ∷ []) ≡ true →
-    (more : List A) → Reads k (parse_group lbrace L p rbrace) more (optional_braces f more) [] (a_mark lbrace ∷ []) true
+    all_apart F (also L (a_punctuator rbrace ∷ [])) ≡ true → all_apart G (a_punctuator rbrace ∷ []) ≡ true →
+    (more : List A) → Reads k (parse_group lbrace L p rbrace) more (optional_braces f more) [] (a_punctuator lbrace ∷ []) true
 unfolding parse_group not_followed_by alt pure
 braced_reads f {F} {L} G x e g i h [] = record {
   finds = λ ts r d le stop.
-      let s : begins (a_mark lbrace ∷ []) ts ≡ false = subst (λ z. begins (a_mark lbrace ∷ []) z ≡ false) (sym d.0) d.1 in
+      let s : begins (a_punctuator lbrace ∷ []) ts ≡ false = subst (λ z. begins (a_punctuator lbrace ∷ []) z ≡ false) (sym d.0) d.1 in
       rw (s, alt) (ap (λ z. Some ([], z)) d.0);
   opens = λ ts r d. inr (refl, d.0);
 }
 braced_reads f {F} {L} G x e g i h (a ∷ more) =
-    wider (alt_0 _ (a_mark lbrace ∷ [])
+    wider (alt_0 _ (a_punctuator lbrace ∷ [])
     (seq _ (mark_reads lbrace) (seq _ (x a) (seq _ (each_reads _ f G x e g more) (last _ (mark_reads rbrace)) h) i) refl)
     refl) refl refl (λ z. refl)
 
@@ -490,16 +490,16 @@ optional_reads {k} h t e =
 
 unfoldable pub parse_joined : {A : Type 0} → TokenClass → Punctuator → Parser A → Parser (List A)
 parse_joined h s p =
-    alt (h ∷ []) (accept h >>= λ t. parse_optional (a_mark s) >>= λ u. p >>= λ a. parse_each (a_mark s ∷ []) (accept (a_mark s) >>= λ t. p) >>= λ more. pure (a ∷ more)) (pure [])
+    alt (h ∷ []) (accept h >>= λ t. parse_optional (a_punctuator s) >>= λ u. p >>= λ a. parse_each (a_punctuator s ∷ []) (accept (a_punctuator s) >>= λ t. p) >>= λ more. pure (a ∷ more)) (pure [])
 
 pub joined_reads : {A : Type 0} {k : ℕ} {p : Parser A} (f : A → Form) {L : List TokenClass} (h : TokenClass) (t : Token) (s : Punctuator) →
-    ((a : A) → Reads k p a (f a) [] L false) → admits h t ≡ true → all_apart (a_mark s ∷ []) L ≡ true →
-    (more : List A) → Reads k (parse_joined h s p) more (joined_by t s f more) (h ∷ a_mark s ∷ []) (h ∷ []) true
+    ((a : A) → Reads k p a (f a) [] L false) → admits h t ≡ true → all_apart (a_punctuator s ∷ []) L ≡ true →
+    (more : List A) → Reads k (parse_joined h s p) more (joined_by t s f more) (h ∷ a_punctuator s ∷ []) (h ∷ []) true
 unfolding parse_joined
 joined_reads f {L} h t s x e g [] =
-    alt_empty _ (h ∷ []) (h ∷ a_mark s ∷ []) (h ∷ []) (rw (covers-refl h) refl)
+    alt_empty _ (h ∷ []) (h ∷ a_punctuator s ∷ []) (h ∷ []) (rw (covers-refl h) refl)
 joined_reads f {L} h t s x e g (a ∷ more) =
     wider (alt_0 _ (h ∷ [])
-    (seq _ (accept_reads h t e) (seq _ (optional_reads (a_mark s) (Punctuation s) (covers-refl (a_mark s)))
-    (seq _ (x a) (last _ (each_reads _ _ (a_mark s ∷ []) (λ b. seq _ (mark_reads s) (x b) refl) (within_refl (a_mark s ∷ [])) refl more)) refl) g) refl)
-    (within_refl (h ∷ []))) (within-more (a_mark s ∷ []) (a_mark s ∷ []) h (within_refl (a_mark s ∷ []))) (within_refl (h ∷ [])) (λ z. refl)
+    (seq _ (accept_reads h t e) (seq _ (optional_reads (a_punctuator s) (Punctuation s) (covers-refl (a_punctuator s)))
+    (seq _ (x a) (last _ (each_reads _ _ (a_punctuator s ∷ []) (λ b. seq _ (mark_reads s) (x b) refl) (within_refl (a_punctuator s ∷ [])) refl more)) refl) g) refl)
+    (within_refl (h ∷ []))) (within-more (a_punctuator s ∷ []) (a_punctuator s ∷ []) h (within_refl (a_punctuator s ∷ []))) (within_refl (h ∷ [])) (λ z. refl)

@@ -3,7 +3,7 @@ use Rattle.std.proofs.Common.{ℕ, ◌≡◌, refl, sym, ap, ◌∙◌, subst, L
 use Rattle.std.proofs.lemmas.Slice.Eq.{bytes_eq-Decides}
 use Rattle.std.specs.Cmp.Lexicographic.{pointwise}
 use Rattle.graphql_text.specs.Tokens.{punctuator_text, Token, Punctuation, Name, IntValue, FloatValue, StringValue}
-use Rattle.graphql_text.specs.Forms.{TokenClass, a_mark, a_word, a_name, an_int, a_float, a_text, admits, any_admits, begins, is_one_of}
+use Rattle.graphql_text.specs.Forms.{TokenClass, a_punctuator, a_keyword, a_name, an_int, a_float, a_string_value, admits, any_admits, begins, is_one_of}
 use Rattle.std.proofs.lemmas.Bool.{or_cases, or_left, or_right, or_from, not-true, not_from_false, not_from_true}
 use Rattle.graphql_text.proofs.Tests.{and-0, and-1, is_true}
 
@@ -13,25 +13,25 @@ all_in (v ∷ vs) ws = is_one_of ws v && all_in vs ws
 
 -- every token that the second admits the first admits too
 abbrev covers : TokenClass → TokenClass → Bool
-covers (a_mark k) (a_mark m) = pointwise nat_eq (punctuator_text k) (punctuator_text m)
-covers (a_word w) (a_word s) = pointwise nat_eq w s
-covers (a_name ws) (a_word s) = not (is_one_of ws s)
+covers (a_punctuator k) (a_punctuator m) = pointwise nat_eq (punctuator_text k) (punctuator_text m)
+covers (a_keyword w) (a_keyword s) = pointwise nat_eq w s
+covers (a_name ws) (a_keyword s) = not (is_one_of ws s)
 covers (a_name ws) (a_name vs) = all_in ws vs
 covers an_int an_int = true
 covers a_float a_float = true
-covers a_text a_text = true
+covers a_string_value a_string_value = true
 covers _ _ = false
 
 -- no token is admitted by both
 abbrev apart : TokenClass → TokenClass → Bool
-apart (a_mark k) (a_mark m) = not (pointwise nat_eq (punctuator_text k) (punctuator_text m))
-apart (a_word w) (a_word s) = not (pointwise nat_eq w s)
-apart (a_name ws) (a_word s) = is_one_of ws s
-apart (a_word s) (a_name ws) = is_one_of ws s
+apart (a_punctuator k) (a_punctuator m) = not (pointwise nat_eq (punctuator_text k) (punctuator_text m))
+apart (a_keyword w) (a_keyword s) = not (pointwise nat_eq w s)
+apart (a_name ws) (a_keyword s) = is_one_of ws s
+apart (a_keyword s) (a_name ws) = is_one_of ws s
 apart (a_name ws) (a_name vs) = false
 apart an_int an_int = false
 apart a_float a_float = false
-apart a_text a_text = false
+apart a_string_value a_string_value = false
 apart _ _ = true
 
 abbrev covered : List TokenClass → TokenClass → Bool
@@ -72,33 +72,33 @@ all_in-in (v ∷ vs) ws s e h =
 
 covers-admits : (k h : TokenClass) (t : Token) → covers k h ≡ true → admits h t ≡ true →
     admits k t ≡ true
-covers-admits (a_mark k) (a_mark m) (Punctuation x) e g =
+covers-admits (a_punctuator k) (a_punctuator m) (Punctuation x) e g =
     subst (λ y. pointwise nat_eq (punctuator_text k) y ≡ true) (same_text (punctuator_text m) (punctuator_text x) g) e
-covers-admits (a_word w) (a_word s) (Name x) e g =
+covers-admits (a_keyword w) (a_keyword s) (Name x) e g =
     subst (λ y. pointwise nat_eq w y ≡ true) (same_text s x g) e
-covers-admits (a_name ws) (a_word s) (Name x) e g =
+covers-admits (a_name ws) (a_keyword s) (Name x) e g =
     subst (λ y. not (is_one_of ws y) ≡ true) (same_text s x g) e
 covers-admits (a_name ws) (a_name vs) (Name x) e g =
     not_from_false _ (is_true (is_one_of vs x) (is_one_of ws x) (λ h. all_in-in ws vs x e h) (not-true _ g))
 covers-admits an_int an_int (IntValue s) e g = refl
 covers-admits a_float a_float (FloatValue s) e g = refl
-covers-admits a_text a_text (StringValue s) e g = refl
+covers-admits a_string_value a_string_value (StringValue s) e g = refl
 covers-admits _ _ _ e g = cc
 
 apart-admits : (t : Token) (k h : TokenClass) → apart k h ≡ true → admits h t ≡ true →
     admits k t ≡ false
-apart-admits (Punctuation x) (a_mark k) (a_mark m) e g =
+apart-admits (Punctuation x) (a_punctuator k) (a_punctuator m) e g =
     subst (λ y. pointwise nat_eq (punctuator_text k) y ≡ false) (same_text (punctuator_text m) (punctuator_text x) g) (not-true _ e)
-apart-admits (Name x) (a_word w) (a_word s) e g =
+apart-admits (Name x) (a_keyword w) (a_keyword s) e g =
     subst (λ y. pointwise nat_eq w y ≡ false) (same_text s x g) (not-true _ e)
-apart-admits (Name x) (a_name ws) (a_word s) e g =
+apart-admits (Name x) (a_name ws) (a_keyword s) e g =
     not_from_true _ (subst (λ y. is_one_of ws y ≡ true) (same_text s x g) e)
-apart-admits (Name x) (a_word s) (a_name ws) e g =
+apart-admits (Name x) (a_keyword s) (a_name ws) e g =
     is_true (is_one_of ws x) (pointwise nat_eq s x) (λ h. sym (is_one_of-text ws s x h) ∙ e) (not-true _ g)
 apart-admits (Name x) (a_name ws) (a_name vs) e g = cc
 apart-admits (IntValue s) an_int an_int e g = cc
 apart-admits (FloatValue s) a_float a_float e g = cc
-apart-admits (StringValue s) a_text a_text e g = cc
+apart-admits (StringValue s) a_string_value a_string_value e g = cc
 apart-admits _ _ _ e g = cc
 
 covered-admits : (ks : List TokenClass) (h : TokenClass) (t : Token) → covered ks h ≡ true →
@@ -164,12 +164,12 @@ all_in-refl [] = refl
 all_in-refl (v ∷ vs) = rw (text_itself v) (all_in-more vs vs v (all_in-refl vs))
 
 pub covers-refl : (h : TokenClass) → covers h h ≡ true
-covers-refl (a_mark k) = text_itself (punctuator_text k)
-covers-refl (a_word w) = text_itself w
+covers-refl (a_punctuator k) = text_itself (punctuator_text k)
+covers-refl (a_keyword w) = text_itself w
 covers-refl (a_name ws) = all_in-refl ws
 covers-refl an_int = refl
 covers-refl a_float = refl
-covers-refl a_text = refl
+covers-refl a_string_value = refl
 
 pub within-more : (hs ks : List TokenClass) (k : TokenClass) → within hs ks ≡ true →
     within hs (k ∷ ks) ≡ true

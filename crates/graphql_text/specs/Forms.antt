@@ -10,7 +10,7 @@ Form = List Token → List Token → Type 0
 
 -- one token
 unfoldable pub token : Token → Form
-token t ts r = ts ≡ t ∷ r
+token word tokens rest = tokens ≡ word ∷ rest
 
 -- one word of the grammar
 abbrev pub keyword : List ℕ → Form
@@ -18,100 +18,100 @@ keyword word = token (Name word)
 
 -- nothing
 unfoldable pub no_tokens : Form
-no_tokens ts r = ts ≡ r
+no_tokens tokens rest = tokens ≡ rest
 
 infixr 40 ◌⨟◌
 -- one form and then another
 unfoldable pub ◌⨟◌ : Form → Form → Form
-◌⨟◌ p q ts r = (m : List Token) × p ts m × q m r
+◌⨟◌ first second tokens rest = (between : List Token) × first tokens between × second between rest
 
 -- a token that may be left out
 unfoldable pub optional_token : Token → Form
-optional_token t ts r = (ts ≡ r) ⊎ (ts ≡ t ∷ r)
+optional_token word tokens rest = (tokens ≡ rest) ⊎ (tokens ≡ word ∷ rest)
 
 -- a part that is there or not
 abbrev pub optional : {A : Type 0} → (A → Form) → Option A → Form
-optional f None = no_tokens
-optional f (Some a) = f a
+optional form None = no_tokens
+optional form (Some part) = form part
 
 -- any number of parts
 abbrev pub list_of : {A : Type 0} → (A → Form) → List A → Form
-list_of f [] = no_tokens
-list_of f (a ∷ more) = f a ⨟ list_of f more
+list_of form [] = no_tokens
+list_of form (part ∷ more) = form part ⨟ list_of form more
 
 -- at least one part between brackets, or nothing at all
 abbrev pub optional_group : {A : Type 0} → Punctuator → (A → Form) → Punctuator → List A → Form
-optional_group o f c [] = no_tokens
-optional_group o f c (a ∷ more) =
-    token (Punctuation o) ⨟ f a ⨟ list_of f more ⨟ token (Punctuation c)
+optional_group opening form closing [] = no_tokens
+optional_group opening form closing (part ∷ more) =
+    token (Punctuation opening) ⨟ form part ⨟ list_of form more ⨟ token (Punctuation closing)
 
 -- whether a text is one of some texts
 abbrev pub is_one_of : List (List ℕ) → List ℕ → Bool
-is_one_of [] s = false
-is_one_of (w ∷ ws) s = pointwise nat_eq w s || is_one_of ws s
+is_one_of [] text = false
+is_one_of (word ∷ words) text = pointwise nat_eq word text || is_one_of words text
 
 -- a name other than some words
 unfoldable pub name_except : List (List ℕ) → NameText → Form
-name_except ws s ts r = (is_one_of ws s.text ≡ false) × (ts ≡ Name s.text ∷ r)
+name_except words name tokens rest = (is_one_of words name.text ≡ false) × (tokens ≡ Name name.text ∷ rest)
 
 -- what a token can be: one punctuator, one word, a name other than some words, an int, a float, a string
 pub data TokenClass : Type 0 where
-  a_mark : Punctuator → TokenClass
-  a_word : List ℕ → TokenClass
+  a_punctuator : Punctuator → TokenClass
+  a_keyword : List ℕ → TokenClass
   a_name : List (List ℕ) → TokenClass
   an_int : TokenClass
   a_float : TokenClass
-  a_text : TokenClass
+  a_string_value : TokenClass
 
 -- whether a token is of a class
 abbrev pub admits : TokenClass → Token → Bool
-admits (a_mark k) (Punctuation m) = pointwise nat_eq (punctuator_text k) (punctuator_text m)
-admits (a_word w) (Name s) = pointwise nat_eq w s
-admits (a_name ws) (Name s) = not (is_one_of ws s)
-admits an_int (IntValue s) = true
-admits a_float (FloatValue s) = true
-admits a_text (StringValue s) = true
+admits (a_punctuator mark) (Punctuation other) = pointwise nat_eq (punctuator_text mark) (punctuator_text other)
+admits (a_keyword word) (Name text) = pointwise nat_eq word text
+admits (a_name words) (Name text) = not (is_one_of words text)
+admits an_int (IntValue text) = true
+admits a_float (FloatValue text) = true
+admits a_string_value (StringValue value) = true
 admits _ _ = false
 
 -- whether a token is of one of these classes
 abbrev pub any_admits : List TokenClass → Token → Bool
-any_admits [] t = false
-any_admits (h ∷ hs) t = admits h t || any_admits hs t
+any_admits [] token = false
+any_admits (class ∷ classes) token = admits class token || any_admits classes token
 
 -- whether the next token is one of these
 abbrev pub begins : List TokenClass → List Token → Bool
-begins hs [] = false
-begins hs (t ∷ ts) = any_admits hs t
+begins classes [] = false
+begins classes (first ∷ more) = any_admits classes first
 
 -- nothing, where the next token is none of these
 unfoldable pub not_followed_by : List TokenClass → Form
-not_followed_by hs ts r = (ts ≡ r) × (begins hs r ≡ false)
+not_followed_by classes tokens rest = (tokens ≡ rest) × (begins classes rest ≡ false)
 
 -- a form that is there only under a condition
 unfoldable pub only_if : Type 0 → Form → Form
-only_if P f ts r = P × f ts r
+only_if condition form tokens rest = condition × form tokens rest
 
 -- one of two forms
 unfoldable pub either : Form → Form → Form
-either f g ts r = f ts r ⊎ g ts r
+either one other tokens rest = one tokens rest ⊎ other tokens rest
 
 -- no form at all
 unfoldable pub never : Form
-never ts r = ⊥
+never tokens rest = ⊥
 
 -- at least one part
 abbrev pub nonempty_list_of : {A : Type 0} → (A → Form) → List A → Form
-nonempty_list_of f [] = never
-nonempty_list_of f (a ∷ more) = f a ⨟ list_of f more
+nonempty_list_of form [] = never
+nonempty_list_of form (part ∷ more) = form part ⨟ list_of form more
 
 -- at least one part between braces; without it the next token is no brace
 abbrev pub optional_braces : {A : Type 0} → (A → Form) → List A → Form
-optional_braces f [] = not_followed_by (a_mark lbrace ∷ [])
-optional_braces f (a ∷ more) =
-    token (Punctuation lbrace) ⨟ f a ⨟ list_of f more ⨟ token (Punctuation rbrace)
+optional_braces form [] = not_followed_by (a_punctuator lbrace ∷ [])
+optional_braces form (part ∷ more) =
+    token (Punctuation lbrace) ⨟ form part ⨟ list_of form more ⨟ token (Punctuation rbrace)
 
 -- at least one part after a token, with a separator between them and perhaps one in front, or nothing at all
 abbrev pub joined_by : {A : Type 0} → Token → Punctuator → (A → Form) → List A → Form
-joined_by t s f [] = no_tokens
-joined_by t s f (a ∷ more) =
-    token t ⨟ optional_token (Punctuation s) ⨟ f a ⨟ list_of (λ b. token (Punctuation s) ⨟ f b) more
+joined_by leading separator form [] = no_tokens
+joined_by leading separator form (part ∷ more) =
+    token leading ⨟ optional_token (Punctuation separator) ⨟ form part ⨟ list_of (λ other. token (Punctuation separator) ⨟ form other) more

@@ -13,6 +13,7 @@ pub mod Groups
 pub mod Levels
 pub mod Spelling
 pub mod Forms
+pub mod Lookahead
 pub mod PrintedTokens
 pub mod Reading
 pub mod Writing

@@ -1,7 +1,6 @@
 -- The tokens of parts as they are printed; and what holds of each part.
 use Rattle.std.specs.Prelude.{List, [], ◌∷◌, Option, Some, None}
-use Rattle.graphql_text.specs.Literals.{NameText}
-use Rattle.graphql_text.specs.Tokens.{Punctuator, Token, Punctuation, Name}
+use Rattle.graphql_text.specs.Tokens.{Punctuator, Token, Punctuation}
 
 -- what puts the tokens of a part in front of those that follow
 abbrev pub Tail : Type 0
@@ -9,32 +8,31 @@ Tail = List Token → List Token
 
 -- a part that is there or not
 abbrev pub optional_tokens : {A : Type 0} → (A → Tail) → Option A → Tail
-optional_tokens w None r = r
-optional_tokens w (Some a) r = w a r
+optional_tokens tail None rest = rest
+optional_tokens tail (Some part) rest = tail part rest
 
 -- each part
 abbrev pub list_tokens : {A : Type 0} → (A → Tail) → List A → Tail
-list_tokens w [] r = r
-list_tokens w (a ∷ more) r = w a (list_tokens w more r)
+list_tokens tail [] rest = rest
+list_tokens tail (part ∷ more) rest = tail part (list_tokens tail more rest)
 
 -- the parts between brackets, or nothing where there is no part
 abbrev pub group_tokens : {A : Type 0} → Punctuator → (A → Tail) → Punctuator → List A → Tail
-group_tokens o w c [] r = r
-group_tokens o w c (a ∷ more) r = Punctuation o ∷ w a (list_tokens w more (Punctuation c ∷ r))
+group_tokens opening tail closing [] rest = rest
+group_tokens opening tail closing (part ∷ more) rest =
+    Punctuation opening ∷ tail part (list_tokens tail more (Punctuation closing ∷ rest))
 
 -- the parts after a token with a separator between them, or nothing where there is no part
 abbrev pub joined_tokens : {A : Type 0} → Token → Punctuator → (A → Tail) → List A → Tail
-joined_tokens t s w [] r = r
-joined_tokens t s w (a ∷ more) r = t ∷ w a (list_tokens (λ b u. Punctuation s ∷ w b u) more r)
-
-abbrev pub name_tokens : NameText → Tail
-name_tokens s r = Name s.text ∷ r
+joined_tokens leading separator tail [] rest = rest
+joined_tokens leading separator tail (part ∷ more) rest =
+    leading ∷ tail part (list_tokens (λ other after. Punctuation separator ∷ tail other after) more rest)
 
 -- of every part, and of one that is there
 abbrev pub Every : {A : Type 0} → (A → Type 0) → List A → Type 0
-Every P [] = Unit {0}
-Every P (a ∷ more) = P a × Every P more
+Every Holds [] = Unit {0}
+Every Holds (part ∷ more) = Holds part × Every Holds more
 
 abbrev pub IfThere : {A : Type 0} → (A → Type 0) → Option A → Type 0
-IfThere P None = Unit {0}
-IfThere P (Some a) = P a
+IfThere Holds None = Unit {0}
+IfThere Holds (Some part) = Holds part

@@ -29,6 +29,5 @@ pub mod NamedDefinitions
 pub mod InputValueQueries
 pub mod DefinitionLoans
 pub mod ArgumentValues
-pub mod Lookahead
 pub mod ValueWalk
 pub mod laws

@@ -2,11 +2,11 @@
 //!
 //! Each function does nothing: its contract is the law.
 ghost use Rattle.std.specs.Prelude.{◌≡◌, ◌<◌, ◌↔◌, Bool, IsTrue, length, not, MatchOption, List, [], ◌∷◌};
-ghost use Rattle.graphql_text.specs.Forms.{a_mark};
+ghost use Rattle.graphql_text.specs.Forms.{a_punctuator};
 ghost use Rattle.graphql_text.specs.Printing.{ReadsAlone};
 ghost use Rattle.graphql_text.specs.Reading.{Laws};
 ghost use Rattle.graphql_text.specs.Tokens.{at, bang, bar, equals, lparen};
-ghost use Rattle.graphql_values.specs.Lookahead.{IsReadOneWay};
+ghost use Rattle.graphql_text.specs.Lookahead.{IsReadOneWay};
 ghost use Rattle.graphql_values.specs.Arguments.{ArgumentTree, argument_form, argument_obeys, argument_shape};
 ghost use Rattle.graphql_values.specs.Directives.{DirectiveTree, directive_form, directive_obeys, directive_shape, directives_form, directives_obey, directives_shape, directive_nesting, directives_nesting};
 ghost use Rattle.graphql_values.specs.DirectiveTrees.{directive_tree, directive_trees};
@@ -118,12 +118,12 @@ pub fn directive_definitions_are_read_back()
 pub fn parts_are_read_in_one_way()
     ensures values { (c : Constness) → IsReadOneWay (value_form c) [] }
     ensures arguments { (c : Constness) → IsReadOneWay (argument_form c) [] }
-    ensures directives { (c : Constness) → IsReadOneWay (directive_form c) (a_mark lparen ∷ []) }
-    ensures directive_lists { (c : Constness) → IsReadOneWay (directives_form c) (a_mark at ∷ a_mark lparen ∷ []) }
-    ensures types { IsReadOneWay type_form (a_mark bang ∷ []) }
-    ensures input_values { IsReadOneWay input_value_form (a_mark bang ∷ a_mark equals ∷ a_mark at ∷ a_mark lparen ∷ []) }
-    ensures arguments_definitions { IsReadOneWay arguments_definition_form (a_mark lparen ∷ []) }
-    ensures directive_definitions { IsReadOneWay directive_definition_form (a_mark bar ∷ []) }
+    ensures directives { (c : Constness) → IsReadOneWay (directive_form c) (a_punctuator lparen ∷ []) }
+    ensures directive_lists { (c : Constness) → IsReadOneWay (directives_form c) (a_punctuator at ∷ a_punctuator lparen ∷ []) }
+    ensures types { IsReadOneWay type_form (a_punctuator bang ∷ []) }
+    ensures input_values { IsReadOneWay input_value_form (a_punctuator bang ∷ a_punctuator equals ∷ a_punctuator at ∷ a_punctuator lparen ∷ []) }
+    ensures arguments_definitions { IsReadOneWay arguments_definition_form (a_punctuator lparen ∷ []) }
+    ensures directive_definitions { IsReadOneWay directive_definition_form (a_punctuator bar ∷ []) }
 {}
 
 /// Two ints are equal exactly if their texts are.

@@ -4,7 +4,7 @@ use Rattle.std.proofs.Common.{ℕ, refl, List, [], ◌∷◌, Bool, true, false,
 use Rattle.std.specs.Cmp.Lexicographic.{pointwise}
 use Rattle.graphql_text.specs.Literals.{StringText}
 use Rattle.graphql_text.specs.Tokens.{bang, lparen, rparen, colon, equals, at, bar, Token, Punctuation, Name}
-use Rattle.graphql_text.specs.Forms.{TokenClass, a_mark, a_word, a_name, a_text}
+use Rattle.graphql_text.specs.Forms.{TokenClass, a_punctuator, a_keyword, a_name, a_string_value}
 use Rattle.graphql_text.proofs.Parsing.{Parser, ◌>>=◌, pure, leaf, alt, Reads, seq, last, leaf_reads, alt_0, alt_empty, wider, before, never_reads, accept, mark_reads, word_reads, parse_name, name_reads, parse_optional, optional_reads, parse_each, each_reads, parse_maybe, maybe_reads, parse_group, group_reads}
 use Rattle.graphql_values.specs.Values.{Const, ValueTree}
 use Rattle.graphql_values.specs.Descriptions.{description_form}
@@ -19,28 +19,28 @@ use Rattle.graphql_values.specs.laws.DirectiveReading.{directives_reader, direct
 -- INPUT VALUE DEFINITIONS
 
 unfoldable pub description_reader : Parser (Option StringText)
-description_reader = parse_maybe (a_text ∷ []) (leaf got_text)
+description_reader = parse_maybe (a_string_value ∷ []) (leaf got_text)
 
-pub description_is_read : {k : ℕ} (d : Option StringText) → Reads k description_reader d (description_form d) (a_text ∷ []) (a_text ∷ []) true
+pub description_is_read : {k : ℕ} (d : Option StringText) → Reads k description_reader d (description_form d) (a_string_value ∷ []) (a_string_value ∷ []) true
 unfolding description_reader
-description_is_read = maybe_reads _ (a_text ∷ []) text_reads refl refl
+description_is_read = maybe_reads _ (a_string_value ∷ []) text_reads refl refl
 
 unfoldable pub default_value_reader : Parser (Option ValueTree)
-default_value_reader = parse_maybe (a_mark equals ∷ []) (accept (a_mark equals) >>= λ t. value_reader Const)
+default_value_reader = parse_maybe (a_punctuator equals ∷ []) (accept (a_punctuator equals) >>= λ t. value_reader Const)
 
-pub default_value_is_read : {k : ℕ} (d : Option ValueTree) → Reads k default_value_reader d (default_value_form d) (a_mark equals ∷ []) (a_mark equals ∷ []) true
+pub default_value_is_read : {k : ℕ} (d : Option ValueTree) → Reads k default_value_reader d (default_value_form d) (a_punctuator equals ∷ []) (a_punctuator equals ∷ []) true
 unfolding default_value_reader
-default_value_is_read = maybe_reads _ (a_mark equals ∷ []) (λ v. seq _ (mark_reads equals) (value_is_read Const v) refl) refl refl
+default_value_is_read = maybe_reads _ (a_punctuator equals ∷ []) (λ v. seq _ (mark_reads equals) (value_is_read Const v) refl) refl refl
 
 abbrev pub after_input_value : List TokenClass
-after_input_value = a_mark bang ∷ a_mark equals ∷ after_directives
+after_input_value = a_punctuator bang ∷ a_punctuator equals ∷ after_directives
 
 abbrev pub input_value_heads : List TokenClass
-input_value_heads = a_text ∷ a_name [] ∷ []
+input_value_heads = a_string_value ∷ a_name [] ∷ []
 
 unfoldable pub input_value_reader : Parser InputValueTree
 input_value_reader =
-    description_reader >>= λ d. parse_name [] >>= λ s. accept (a_mark colon) >>= λ t. type_reader >>= λ y. default_value_reader >>= λ v. directives_reader Const >>= λ ds.
+    description_reader >>= λ d. parse_name [] >>= λ s. accept (a_punctuator colon) >>= λ t. type_reader >>= λ y. default_value_reader >>= λ v. directives_reader Const >>= λ ds.
     pure (record { description = d; name = s; type = y; default_value = v; directives = ds })
 
 pub input_value_is_read : {k : ℕ} (v : InputValueTree) → Reads k input_value_reader v (input_value_form v) after_input_value input_value_heads false
@@ -52,9 +52,9 @@ input_value_is_read v =
 unfoldable pub arguments_definition_reader : Parser (List InputValueTree)
 arguments_definition_reader = parse_group lparen input_value_heads input_value_reader rparen
 
-pub arguments_definition_is_read : {k : ℕ} (vs : List InputValueTree) → Reads k arguments_definition_reader vs (arguments_definition_form vs) (a_mark lparen ∷ []) (a_mark lparen ∷ []) true
+pub arguments_definition_is_read : {k : ℕ} (vs : List InputValueTree) → Reads k arguments_definition_reader vs (arguments_definition_form vs) (a_punctuator lparen ∷ []) (a_punctuator lparen ∷ []) true
 unfolding arguments_definition_reader
-arguments_definition_is_read = group_reads input_value_form (a_text ∷ a_name [] ∷ after_input_value) lparen rparen input_value_is_read refl refl refl refl
+arguments_definition_is_read = group_reads input_value_form (a_string_value ∷ a_name [] ∷ after_input_value) lparen rparen input_value_is_read refl refl refl refl
 
 -- DIRECTIVE DEFINITIONS
 
@@ -101,33 +101,33 @@ unfolding location_reader
 location_is_read l = leaf_reads _ (Name (location_name l)) (a_name []) (location_is_found l) refl
 
 unfoldable pub repeatable_reader : Parser Bool
-repeatable_reader = alt (a_word (codes "repeatable") ∷ []) (accept (a_word (codes "repeatable")) >>= λ t. pure true) (pure false)
+repeatable_reader = alt (a_keyword (codes "repeatable") ∷ []) (accept (a_keyword (codes "repeatable")) >>= λ t. pure true) (pure false)
 
-pub repeatable_is_read : {k : ℕ} (b : Bool) → Reads k repeatable_reader b (repeatable_form b) (a_word (codes "repeatable") ∷ []) (a_word (codes "repeatable") ∷ []) true
+pub repeatable_is_read : {k : ℕ} (b : Bool) → Reads k repeatable_reader b (repeatable_form b) (a_keyword (codes "repeatable") ∷ []) (a_keyword (codes "repeatable") ∷ []) true
 unfolding repeatable_reader
 repeatable_is_read true = wider (alt_0 _ _ (last _ (word_reads (codes "repeatable"))) refl) refl refl (λ z. refl)
 repeatable_is_read false = alt_empty _ _ _ _ refl
 
 unfoldable pub directive_locations_reader : Parser (List DirectiveLocationTree)
 directive_locations_reader =
-    accept (a_word (codes "on")) >>= λ t. parse_optional (a_mark bar) >>= λ u. location_reader >>= λ l.
-    parse_each (a_mark bar ∷ []) (accept (a_mark bar) >>= λ t. location_reader) >>= λ ls. pure (l ∷ ls)
+    accept (a_keyword (codes "on")) >>= λ t. parse_optional (a_punctuator bar) >>= λ u. location_reader >>= λ l.
+    parse_each (a_punctuator bar ∷ []) (accept (a_punctuator bar) >>= λ t. location_reader) >>= λ ls. pure (l ∷ ls)
 
-pub directive_locations_are_read : {k : ℕ} (ls : List DirectiveLocationTree) → Reads k directive_locations_reader ls (directive_locations_form ls) (a_mark bar ∷ []) (a_word (codes "on") ∷ []) false
+pub directive_locations_are_read : {k : ℕ} (ls : List DirectiveLocationTree) → Reads k directive_locations_reader ls (directive_locations_form ls) (a_punctuator bar ∷ []) (a_keyword (codes "on") ∷ []) false
 unfolding directive_locations_reader
 directive_locations_are_read [] = never_reads
 directive_locations_are_read (l ∷ ls) =
-    seq _ (word_reads (codes "on")) (seq _ (optional_reads (a_mark bar) (Punctuation bar) refl) (seq _ (location_is_read l)
-    (last _ (each_reads _ _ (a_mark bar ∷ []) (λ b. seq _ (mark_reads bar) (location_is_read b) refl) refl refl ls)) refl) refl) refl
+    seq _ (word_reads (codes "on")) (seq _ (optional_reads (a_punctuator bar) (Punctuation bar) refl) (seq _ (location_is_read l)
+    (last _ (each_reads _ _ (a_punctuator bar ∷ []) (λ b. seq _ (mark_reads bar) (location_is_read b) refl) refl refl ls)) refl) refl) refl
 
 -- what follows the description
 unfoldable pub directive_definition_body_reader : Option StringText → Parser DirectiveDefinitionTree
 directive_definition_body_reader c =
-    accept (a_word (codes "directive")) >>= λ t. accept (a_mark at) >>= λ u. parse_name [] >>= λ s. arguments_definition_reader >>= λ vs. repeatable_reader >>= λ b.
+    accept (a_keyword (codes "directive")) >>= λ t. accept (a_punctuator at) >>= λ u. parse_name [] >>= λ s. arguments_definition_reader >>= λ vs. repeatable_reader >>= λ b.
     directive_locations_reader >>= λ ls. pure (record { description = c; name = s; arguments = vs; repeatable = b; locations = ls })
 
 pub directive_definition_body_is_read : {k : ℕ} (d : DirectiveDefinitionTree) →
-    Reads k (directive_definition_body_reader d.description) d (directive_definition_body_form d) (a_mark bar ∷ []) (a_word (codes "directive") ∷ []) false
+    Reads k (directive_definition_body_reader d.description) d (directive_definition_body_form d) (a_punctuator bar ∷ []) (a_keyword (codes "directive") ∷ []) false
 unfolding directive_definition_body_reader directive_definition_body_form
 directive_definition_body_is_read d =
     seq _ (word_reads (codes "directive")) (seq _ (mark_reads at) (seq _ (name_reads [] d.name) (seq _ (arguments_definition_is_read d.arguments)
@@ -137,6 +137,6 @@ unfoldable pub directive_definition_reader : Parser DirectiveDefinitionTree
 directive_definition_reader = description_reader >>= directive_definition_body_reader
 
 pub directive_definition_is_read : {k : ℕ} (d : DirectiveDefinitionTree) →
-    Reads k directive_definition_reader d (directive_definition_form d) (a_mark bar ∷ []) (a_text ∷ a_word (codes "directive") ∷ []) false
+    Reads k directive_definition_reader d (directive_definition_form d) (a_punctuator bar ∷ []) (a_string_value ∷ a_keyword (codes "directive") ∷ []) false
 unfolding directive_definition_reader directive_definition_form
 directive_definition_is_read d = seq _ (description_is_read d.description) (directive_definition_body_is_read d) refl

@@ -2,13 +2,13 @@
 use Rattle.std.proofs.Common.{ℕ, zero, suc, ◌≤◌, refl, List, [], ◌∷◌, true, false, Option, None, arith, le_refl, codes}
 use Rattle.graphql_text.specs.Literals.{NameText, IntText, FloatText, StringText}
 use Rattle.graphql_text.specs.Tokens.{dollar, colon, lbracket, rbracket, lbrace, rbrace, Token, Punctuation, IntValue, FloatValue, StringValue}
-use Rattle.graphql_text.specs.Forms.{token, ◌⨟◌, name_except, only_if, TokenClass, a_mark, a_word, a_name, an_int, a_float, a_text}
+use Rattle.graphql_text.specs.Forms.{token, ◌⨟◌, name_except, only_if, TokenClass, a_punctuator, a_keyword, a_name, an_int, a_float, a_string_value}
 use Rattle.graphql_text.proofs.Such.{such, such_found}
 use Rattle.graphql_text.proofs.Parsing.{Parser, ◌>>=◌, pure, fail, leaf, alt, Reads, seq, seq_in, last, leaf_reads, alt_0, alt_1, wider, lower, many, many_none, many_more, at_zero, accept, mark_reads, word_reads, parse_name, name_reads, bounded, bounded_reads}
 use Rattle.graphql_values.specs.Values.{Constness, Const, NonConst, ValueTree, ValueTrees, ObjectFieldTrees, null_value, enum_value, variable, string_value, float_value, int_value, boolean_value, list_value, object_value, no_values, more_values, no_fields, more_fields, not_enum_values, value_form, values_form, object_fields_form}
 
 abbrev pub value_heads : List TokenClass
-value_heads = a_mark dollar ∷ an_int ∷ a_float ∷ a_text ∷ a_name [] ∷ a_mark lbracket ∷ a_mark lbrace ∷ []
+value_heads = a_punctuator dollar ∷ an_int ∷ a_float ∷ a_string_value ∷ a_name [] ∷ a_punctuator lbracket ∷ a_punctuator lbrace ∷ []
 
 abbrev pub object_field_heads : List TokenClass
 object_field_heads = a_name [] ∷ []
@@ -31,10 +31,10 @@ unless_const Const p = fail
 unless_const NonConst p = p
 
 unfoldable pub variable_reader : Constness → Parser ValueTree
-variable_reader c = unless_const c (accept (a_mark dollar) >>= λ t. parse_name [] >>= λ s. pure (variable s))
+variable_reader c = unless_const c (accept (a_punctuator dollar) >>= λ t. parse_name [] >>= λ s. pure (variable s))
 
 unfoldable pub object_field_reader : Parser ValueTree → Parser (NameText × ValueTree)
-object_field_reader p = parse_name [] >>= λ s. accept (a_mark colon) >>= λ t. p >>= λ v. pure (s, v)
+object_field_reader p = parse_name [] >>= λ s. accept (a_punctuator colon) >>= λ t. p >>= λ v. pure (s, v)
 
 unfoldable pub with_field : NameText × ValueTree → ObjectFieldTrees → ObjectFieldTrees
 with_field e es = more_fields e.0 e.1 es
@@ -42,16 +42,16 @@ with_field e es = more_fields e.0 e.1 es
 -- one value, with parsers for what stands between its brackets
 unfoldable pub value_step : Constness → Parser ValueTrees → Parser ObjectFieldTrees → Parser ValueTree
 value_step c pv pe =
-    alt (a_mark dollar ∷ []) (variable_reader c)
+    alt (a_punctuator dollar ∷ []) (variable_reader c)
     (alt (an_int ∷ []) (leaf got_int >>= λ s. pure (int_value s))
     (alt (a_float ∷ []) (leaf got_float >>= λ s. pure (float_value s))
-    (alt (a_text ∷ []) (leaf got_text >>= λ s. pure (string_value s))
-    (alt (a_word (codes "null") ∷ []) (accept (a_word (codes "null")) >>= λ t. pure null_value)
-    (alt (a_word (codes "true") ∷ []) (accept (a_word (codes "true")) >>= λ t. pure (boolean_value true))
-    (alt (a_word (codes "false") ∷ []) (accept (a_word (codes "false")) >>= λ t. pure (boolean_value false))
+    (alt (a_string_value ∷ []) (leaf got_text >>= λ s. pure (string_value s))
+    (alt (a_keyword (codes "null") ∷ []) (accept (a_keyword (codes "null")) >>= λ t. pure null_value)
+    (alt (a_keyword (codes "true") ∷ []) (accept (a_keyword (codes "true")) >>= λ t. pure (boolean_value true))
+    (alt (a_keyword (codes "false") ∷ []) (accept (a_keyword (codes "false")) >>= λ t. pure (boolean_value false))
     (alt (a_name not_enum_values ∷ []) (parse_name not_enum_values >>= λ s. pure (enum_value s))
-    (alt (a_mark lbracket ∷ []) (accept (a_mark lbracket) >>= λ t. pv >>= λ vs. accept (a_mark rbracket) >>= λ u. pure (list_value vs))
-    (alt (a_mark lbrace ∷ []) (accept (a_mark lbrace) >>= λ t. pe >>= λ es. accept (a_mark rbrace) >>= λ u. pure (object_value es))
+    (alt (a_punctuator lbracket ∷ []) (accept (a_punctuator lbracket) >>= λ t. pv >>= λ vs. accept (a_punctuator rbracket) >>= λ u. pure (list_value vs))
+    (alt (a_punctuator lbrace ∷ []) (accept (a_punctuator lbrace) >>= λ t. pe >>= λ es. accept (a_punctuator rbrace) >>= λ u. pure (object_value es))
     fail)))))))))
 
 unfoldable pub values_reader : ℕ → Parser ValueTree → Parser ValueTrees
@@ -76,11 +76,11 @@ float_reads : {k : ℕ} (s : FloatText) → Reads k (leaf got_float) s (token (F
 unfolding got_float
 float_reads s = leaf_reads _ (FloatValue s.text) a_float (such_found s) refl
 
-pub text_reads : {k : ℕ} (s : StringText) → Reads k (leaf got_text) s (token (StringValue s.text)) [] (a_text ∷ []) false
+pub text_reads : {k : ℕ} (s : StringText) → Reads k (leaf got_text) s (token (StringValue s.text)) [] (a_string_value ∷ []) false
 unfolding got_text
-text_reads s = leaf_reads _ (StringValue s.text) a_text (such_found s) refl
+text_reads s = leaf_reads _ (StringValue s.text) a_string_value (such_found s) refl
 
-variable_reads : {k : ℕ} (c : Constness) (s : NameText) → Reads k (variable_reader c) (variable s) (value_form c (variable s)) [] (a_mark dollar ∷ []) false
+variable_reads : {k : ℕ} (c : Constness) (s : NameText) → Reads k (variable_reader c) (variable s) (value_form c (variable s)) [] (a_punctuator dollar ∷ []) false
 unfolding variable_reader value_form only_if unless_const
 variable_reads NonConst s =
     let x = seq _ (mark_reads dollar) (last (λ s. variable s) (name_reads [] s)) refl in
@@ -113,9 +113,9 @@ mutual
   value_reads k c (enum_value s) =
       wider (alt_1 _ _ (alt_1 _ _ (alt_1 _ _ (alt_1 _ _ (alt_1 _ _ (alt_1 _ _ (alt_1 _ _ (alt_0 _ _ (last _ (name_reads not_enum_values s)) refl) refl) refl) refl) refl) refl) refl) refl) refl refl (λ z. z)
   value_reads zero c (list_value vs) =
-      wider (at_zero (mark_reads lbracket) (seq (λ vs. accept (a_mark rbracket) >>= λ t. pure (list_value vs)) (values_read 0 0 (le_refl 0) c vs) (last _ (mark_reads rbracket)) refl)) refl refl (λ z. z)
+      wider (at_zero (mark_reads lbracket) (seq (λ vs. accept (a_punctuator rbracket) >>= λ t. pure (list_value vs)) (values_read 0 0 (le_refl 0) c vs) (last _ (mark_reads rbracket)) refl)) refl refl (λ z. z)
   value_reads zero c (object_value es) =
-      wider (at_zero (mark_reads lbrace) (seq (λ es. accept (a_mark rbrace) >>= λ t. pure (object_value es)) (object_fields_read 0 0 (le_refl 0) c es) (last _ (mark_reads rbrace)) refl)) refl refl (λ z. z)
+      wider (at_zero (mark_reads lbrace) (seq (λ es. accept (a_punctuator rbrace) >>= λ t. pure (object_value es)) (object_fields_read 0 0 (le_refl 0) c es) (last _ (mark_reads rbrace)) refl)) refl refl (λ z. z)
   value_reads (suc k) c (list_value vs) =
       wider (alt_1 _ _ (alt_1 _ _ (alt_1 _ _ (alt_1 _ _ (alt_1 _ _ (alt_1 _ _ (alt_1 _ _ (alt_1 _ _ (alt_0 _ _
       (seq_in _ (mark_reads lbracket) (seq _ (values_read k k (le_refl k) c vs) (last _ (mark_reads rbracket)) refl) refl)

@@ -11,6 +11,11 @@ pub(crate) fn number(alloc: Global, number: i32) -> Result<Node<Value>, AllocErr
     Node::new(alloc, Value::from_i32(alloc, number)?)
 }
 
+/// `[1]`
+pub(crate) fn one(alloc: Global) -> Result<Value, AllocError> {
+    Ok(Value::List(vec![in alloc; number(alloc, 1)?]?))
+}
+
 /// `[1, 2]`
 pub(crate) fn numbers(alloc: Global) -> Result<Value, AllocError> {
     let items = vec![in alloc; number(alloc, 1)?, number(alloc, 2)?]?;

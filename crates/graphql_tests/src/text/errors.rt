@@ -23,3 +23,20 @@ fn what_a_fault_says(rt: HostRuntime) {
         "the writer failed",
     );
 }
+
+#[test]
+fn errors_are_equal_to_themselves_alone(rt: HostRuntime) {
+    use PrintError::{LevelOverflow, Memory, Sink};
+    for (first, second, is_same) in [
+        (LevelOverflow, LevelOverflow, true),
+        (Memory, Memory, true),
+        (Sink, Sink, true),
+        (LevelOverflow, Memory, false),
+        (LevelOverflow, Sink, false),
+        (Memory, Sink, false),
+    ] {
+        assert!(rt; (first == second) == is_same);
+        assert!(rt; (second == first) == is_same);
+    }
+    assert!(rt; SinkFault == SinkFault);
+}

@@ -44,3 +44,14 @@ fn of_operations(rt: HostRuntime) {
         assert_eq!(rt; DirectiveLocation::from(operation_type), location);
     }
 }
+
+#[test]
+fn padded(rt: HostRuntime) {
+    for (location, wanted) in [
+        (DirectiveLocation::Field, "       FIELD"),
+        (DirectiveLocation::Subscription, "SUBSCRIPTION"),
+        (DirectiveLocation::FragmentSpread, "FRAGMENT_SPREAD"),
+    ] {
+        check_made(&rt, format!(in rt.alloc(); "{location:>12}"), wanted);
+    }
+}

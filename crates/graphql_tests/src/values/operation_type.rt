@@ -35,3 +35,14 @@ fn words(rt: HostRuntime) {
         );
     }
 }
+
+#[test]
+fn padded(rt: HostRuntime) {
+    for (operation_type, wanted) in [
+        (OperationType::Query, "       query"),
+        (OperationType::Mutation, "    mutation"),
+        (OperationType::Subscription, "subscription"),
+    ] {
+        check_made(&rt, format!(in rt.alloc(); "{operation_type:>12}"), wanted);
+    }
+}

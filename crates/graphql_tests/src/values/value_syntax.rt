@@ -79,3 +79,12 @@ fn a_level_that_overflows_is_told_first(rt: HostRuntime) {
     assert_eq!(rt; sink.faults(), 0);
     assert_eq!(rt; sink.into_inner().position(), 0);
 }
+
+#[test]
+fn a_clone_prints_the_same(rt: HostRuntime) {
+    let value = list(rt.alloc()).expect(&rt, "memory");
+    let print = value.serialize().indent_prefix("-").initial_indent_level(1);
+    let copy = print.clone().expect(&rt, "memory");
+    check_made(&rt, copy.to_text(rt.alloc()), "-[\n--EXAMPLE,\n--[],\n-]");
+    check_made(&rt, print.to_text(rt.alloc()), "-[\n--EXAMPLE,\n--[],\n-]");
+}

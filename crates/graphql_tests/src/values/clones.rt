@@ -17,40 +17,48 @@ fn object(alloc: Global) -> Result<Value, AllocError> {
     Ok(Value::Object(fields))
 }
 
-fn values(alloc: Global) -> Result<Vec<Value>, AllocError> {
-    Ok(vec![in alloc;
-        Value::Null,
-        Value::Enum(name!(A)),
-        Value::Variable(name!(v)),
-        Value::from_text(alloc, "é")?,
-        Value::Float(FloatValue::new_parsed(alloc, "1.50")?),
-        Value::from_i32(alloc, -7)?,
-        Value::from(true),
-        numbers(alloc)?,
-        object(alloc)?,
-    ]?)
+fn value(alloc: Global, form: &str) -> Result<Value, AllocError> {
+    match form {
+        "string" => Value::from_text(alloc, "é"),
+        "float" => Ok(Value::Float(FloatValue::new_parsed(alloc, "1.50")?)),
+        "int" => Value::from_i32(alloc, -7),
+        "list" => numbers(alloc),
+        "object" => object(alloc),
+        _ => Ok(plain_value(form)),
+    }
 }
 
-fn types(alloc: Global) -> Result<Vec<Type>, AllocError> {
-    Ok(vec![in alloc;
-        ty!(A),
-        ty!(A!),
-        ty!(in alloc; [A!])?,
-        ty!(in alloc; [[A]!]!)?,
-    ]?)
+fn plain_value(form: &str) -> Value {
+    match form {
+        "enum" => Value::Enum(name!(A)),
+        "variable" => Value::Variable(name!(v)),
+        "boolean" => Value::from(true),
+        _ => Value::Null,
+    }
+}
+
+fn type_of(alloc: Global, text: &str) -> Result<Type, AllocError> {
+    match text {
+        "A!" => Ok(ty!(A!)),
+        "[A!]" => ty!(in alloc; [A!]),
+        "[[A]!]!" => ty!(in alloc; [[A]!]!),
+        _ => Ok(ty!(A)),
+    }
 }
 
 #[test]
 fn of_values(rt: HostRuntime) {
-    for value in &values(rt.alloc()).expect(&rt, "memory") {
-        check_cloned(&rt, value);
+    for form in [
+        "null", "enum", "variable", "string", "float", "int", "boolean", "list", "object",
+    ] {
+        check_cloned(&rt, &value(rt.alloc(), form).expect(&rt, "memory"));
     }
 }
 
 #[test]
 fn of_types(rt: HostRuntime) {
-    for ty in &types(rt.alloc()).expect(&rt, "memory") {
-        check_cloned(&rt, ty);
+    for text in ["A", "A!", "[A!]", "[[A]!]!"] {
+        check_cloned(&rt, &type_of(rt.alloc(), text).expect(&rt, "memory"));
     }
 }
 

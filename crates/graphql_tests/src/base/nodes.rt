@@ -3,7 +3,7 @@ use crate::checks::{check_made, check_text};
 use graphql_base::name;
 use graphql_base::node::{Node, NodeStr};
 use graphql_base::span::{FileId, SourceSpan};
-use std::alloc::AllocError;
+use std::alloc::{AllocError, Global};
 use std::collections::HashSet;
 use std::process::Abort;
 
@@ -11,88 +11,100 @@ fn span_in(rt: &impl Abort, file: u64) -> SourceSpan {
     SourceSpan::new(FileId::new(file), 10, 13).expect(rt, "in order")
 }
 
+fn check_number(rt: &impl Abort, node: &Node<u8>, value: u8, location: Option<SourceSpan>) {
+    assert_eq!(rt;
+        (**node, *node.as_ref(), node.location()),
+        (value, value, location)
+    );
+}
+
 #[test]
 fn a_node_is_its_value_and_location(rt: HostRuntime) {
-    let alloc = rt.alloc();
     let span = span_in(&rt, 5);
-    let bare = Node::new(alloc, 1u8).expect(&rt, "memory");
-    assert_eq!(rt; *bare, 1);
-    assert_eq!(rt; bare.location(), None);
-    let placed = Node::new_parsed(alloc, 2u8, span).expect(&rt, "memory");
-    assert_eq!(rt; *placed.as_ref(), 2);
-    assert_eq!(rt; placed.location(), Some(span));
-    let beside = placed.same_location(alloc, "text").expect(&rt, "memory");
-    assert_eq!(rt; *beside, "text");
+    let bare = Node::new(rt.alloc(), 1u8).expect(&rt, "memory");
+    check_number(&rt, &bare, 1, None);
+    let placed = Node::new_parsed(rt.alloc(), 2u8, span).expect(&rt, "memory");
+    check_number(&rt, &placed, 2, Some(span));
+}
+
+#[test]
+fn a_node_can_stand_where_another_does(rt: HostRuntime) {
+    let span = span_in(&rt, 5);
+    let placed = Node::new_parsed(rt.alloc(), 2u8, span).expect(&rt, "memory");
+    let beside = placed.same_location(rt.alloc(), 4u8).expect(&rt, "memory");
+    check_number(&rt, &beside, 4, Some(span));
+    let bare = Node::new(rt.alloc(), 1u8).expect(&rt, "memory");
+    let beside = bare.same_location(rt.alloc(), 3u8).expect(&rt, "memory");
+    check_number(&rt, &beside, 3, None);
+}
+
+/// Nor need the two have values of one type.
+#[test]
+fn a_text_can_stand_where_a_number_does(rt: HostRuntime) {
+    let span = span_in(&rt, 5);
+    let placed = Node::new_parsed(rt.alloc(), 2u8, span).expect(&rt, "memory");
+    let beside = placed.same_location(rt.alloc(), "text").expect(&rt, "memory");
+    check_text(&rt, *beside, "text");
     assert_eq!(rt; beside.location(), Some(span));
-    assert_eq!(rt;
-        bare.same_location(alloc, 3u8)
-            .expect(&rt, "memory")
-            .location(),
-        None
-    );
+}
+
+#[test]
+fn a_clone_has_the_value_and_location(rt: HostRuntime) {
+    let span = span_in(&rt, 5);
+    let placed = Node::new_parsed(rt.alloc(), 2u8, span).expect(&rt, "memory");
     let copy = placed.clone().expect(&rt, "memory");
-    assert_eq!(rt; *copy, 2);
-    assert_eq!(rt; copy.location(), Some(span));
+    check_number(&rt, &copy, 2, Some(span));
+}
+
+fn built_in() -> Option<SourceSpan> {
+    SourceSpan::new(FileId::BUILT_IN, 0, 1)
 }
 
 #[test]
 fn what_is_built_in_is_told_by_the_file(rt: HostRuntime) {
-    let alloc = rt.alloc();
-    let built_in = SourceSpan::new(FileId::BUILT_IN, 0, 1).expect(&rt, "in order");
-    assert!(rt;
-        Node::new_parsed(alloc, 1u8, built_in)
-            .expect(&rt, "memory")
-            .is_built_in()
-    );
-    assert!(rt;
-        !Node::new_parsed(alloc, 1u8, span_in(&rt, 5))
-            .expect(&rt, "memory")
-            .is_built_in()
-    );
-    assert!(rt; !Node::new(alloc, 1u8).expect(&rt, "memory").is_built_in());
-    assert!(rt;
-        NodeStr::new_str_parsed(alloc, "a", built_in)
-            .expect(&rt, "memory")
-            .is_built_in()
-    );
-    assert!(rt;
-        !NodeStr::new_str_parsed(alloc, "a", span_in(&rt, 5))
-            .expect(&rt, "memory")
-            .is_built_in()
-    );
-    assert!(rt;
-        !NodeStr::new_str(alloc, "a")
-            .expect(&rt, "memory")
-            .is_built_in()
-    );
+    let span = built_in().expect(&rt, "in order");
+    let node = Node::new_parsed(rt.alloc(), 1u8, span).expect(&rt, "memory");
+    assert!(rt; node.is_built_in());
+    let node = Node::new_parsed(rt.alloc(), 1u8, span_in(&rt, 5)).expect(&rt, "memory");
+    assert!(rt; !node.is_built_in());
+    let node = Node::new(rt.alloc(), 1u8).expect(&rt, "memory");
+    assert!(rt; !node.is_built_in());
+}
+
+#[test]
+fn a_text_that_is_built_in_is_told_by_the_file(rt: HostRuntime) {
+    let span = built_in().expect(&rt, "in order");
+    let text = NodeStr::new_str_parsed(rt.alloc(), "a", span).expect(&rt, "memory");
+    assert!(rt; text.is_built_in());
+    let text = NodeStr::new_str_parsed(rt.alloc(), "a", span_in(&rt, 5)).expect(&rt, "memory");
+    assert!(rt; !text.is_built_in());
+    let text = NodeStr::new_str(rt.alloc(), "a").expect(&rt, "memory");
+    assert!(rt; !text.is_built_in());
+}
+
+fn placed_text(alloc: Global, span: SourceSpan) -> Result<Node<String>, AllocError> {
+    let text = String::from_str(alloc, "old")?;
+    Node::new_parsed(alloc, text, span)
+}
+
+fn add(node: &mut Node<String>, text: &str) -> Result<(), AllocError> {
+    node.make_mut()?.push_str(text)
+}
+
+fn check_placed(rt: &impl Abort, node: &Node<String>, text: &str, span: SourceSpan) {
+    assert_eq!(rt; (node.as_str(), node.location()), (text, Some(span)));
 }
 
 #[test]
 fn a_change_is_seen_in_one_node(rt: HostRuntime) {
-    let alloc = rt.alloc();
     let span = span_in(&rt, 5);
-    let first = Node::new_parsed(
-        alloc,
-        String::from_str(alloc, "old").expect(&rt, "memory"),
-        span,
-    )
-    .expect(&rt, "memory");
+    let first = placed_text(rt.alloc(), span).expect(&rt, "memory");
     let mut second = first.clone().expect(&rt, "memory");
-    second
-        .make_mut()
-        .expect(&rt, "memory")
-        .push_str("er")
-        .expect(&rt, "memory");
-    check_text(&rt, first.as_str(), "old");
-    check_text(&rt, second.as_str(), "older");
-    assert_eq!(rt; first.location(), Some(span));
-    assert_eq!(rt; second.location(), Some(span));
-    second
-        .make_mut()
-        .expect(&rt, "memory")
-        .push_str("!")
-        .expect(&rt, "memory");
-    check_text(&rt, second.as_str(), "older!");
+    add(&mut second, "er").expect(&rt, "memory");
+    check_placed(&rt, &first, "old", span);
+    check_placed(&rt, &second, "older", span);
+    add(&mut second, "!").expect(&rt, "memory");
+    check_placed(&rt, &second, "older!", span);
 }
 
 #[test]
@@ -107,7 +119,7 @@ fn a_new_node_lends_its_value(rt: HostRuntime) {
 }
 
 /// A number whose clone is refused.
-#[derive(Debug, Drop, PartialEq, Eq)]
+#[derive(Drop)]
 struct Unclonable(u8);
 
 impl Clone for Unclonable {
@@ -116,18 +128,18 @@ impl Clone for Unclonable {
     }
 }
 
+fn check_unclonable(rt: &impl Abort, node: &Node<Unclonable>, span: SourceSpan) {
+    assert_eq!(rt; (node.0, node.location()), (1, Some(span)));
+}
+
 #[test]
 fn a_refused_clone_leaves_the_node(rt: HostRuntime) {
-    let alloc = rt.alloc();
     let span = span_in(&rt, 5);
-    let before = Node::new_parsed(alloc, Unclonable(1), span).expect(&rt, "memory");
-    let first = Node::new_parsed(alloc, Unclonable(1), span).expect(&rt, "memory");
+    let first = Node::new_parsed(rt.alloc(), Unclonable(1), span).expect(&rt, "memory");
     let mut second = first.clone().expect(&rt, "memory");
     assert!(rt; second.make_mut().is_err());
-    for node in [first, second] {
-        assert_eq!(rt; node, before);
-        assert_eq!(rt; node.location(), before.location());
-    }
+    check_unclonable(&rt, &first, span);
+    check_unclonable(&rt, &second, span);
 }
 
 #[test]
@@ -138,6 +150,14 @@ fn nodes_compare_by_value(rt: HostRuntime) {
     let other = here.same_location(alloc, name!(b)).expect(&rt, "memory");
     assert_eq!(rt; here, there);
     assert_ne!(rt; here, other);
+}
+
+#[test]
+fn nodes_of_one_value_are_one_key(rt: HostRuntime) {
+    let alloc = rt.alloc();
+    let here = Node::new_parsed(alloc, name!(a), span_in(&rt, 5)).expect(&rt, "memory");
+    let there = Node::new_parsed(alloc, name!(a), span_in(&rt, 6)).expect(&rt, "memory");
+    let other = here.same_location(alloc, name!(b)).expect(&rt, "memory");
     let mut nodes = HashSet::new(alloc);
     nodes.insert(here).expect(&rt, "memory");
     assert!(rt; nodes.contains(&there));
@@ -154,29 +174,37 @@ fn a_node_prints_its_value(rt: HostRuntime) {
     check_made(&rt, format!(in alloc; "[{name:>5}]"), "[  abc]");
 }
 
+fn check_shared(rt: &impl Abort, node: &NodeStr, text: &str, location: Option<SourceSpan>) {
+    assert_eq!(rt; (node.as_str(), node.location()), (text, location));
+}
+
 #[test]
 fn a_shared_text_has_a_location(rt: HostRuntime) {
-    let alloc = rt.alloc();
     let span = span_in(&rt, 5);
-    let bare = NodeStr::new_str(alloc, "été").expect(&rt, "memory");
-    check_text(&rt, bare.as_str(), "été");
-    assert_eq!(rt; bare.location(), None);
-    let placed = NodeStr::new_str_parsed(alloc, "été", span).expect(&rt, "memory");
-    check_text(&rt, placed.as_str(), "été");
-    assert_eq!(rt; placed.location(), Some(span));
-    check_made(&rt, placed.to_text(alloc), "été");
+    let bare = NodeStr::new_str(rt.alloc(), "été").expect(&rt, "memory");
+    check_shared(&rt, &bare, "été", None);
+    let placed = NodeStr::new_str_parsed(rt.alloc(), "été", span).expect(&rt, "memory");
+    check_shared(&rt, &placed, "été", Some(span));
+}
+
+#[test]
+fn a_shared_text_is_copied(rt: HostRuntime) {
+    let span = span_in(&rt, 5);
+    let placed = NodeStr::new_str_parsed(rt.alloc(), "été", span).expect(&rt, "memory");
+    check_made(&rt, placed.to_text(rt.alloc()), "été");
     let copy = placed.clone().expect(&rt, "memory");
-    check_text(&rt, copy.as_str(), "été");
-    assert_eq!(rt; copy.location(), Some(span));
-    let beside = placed.same_location(alloc, 1u8).expect(&rt, "memory");
-    assert_eq!(rt; *beside, 1);
-    assert_eq!(rt; beside.location(), Some(span));
-    assert_eq!(rt;
-        bare.same_location(alloc, 1u8)
-            .expect(&rt, "memory")
-            .location(),
-        None
-    );
+    check_shared(&rt, &copy, "été", Some(span));
+}
+
+#[test]
+fn a_node_can_stand_where_a_shared_text_does(rt: HostRuntime) {
+    let span = span_in(&rt, 5);
+    let placed = NodeStr::new_str_parsed(rt.alloc(), "été", span).expect(&rt, "memory");
+    let beside = placed.same_location(rt.alloc(), 1u8).expect(&rt, "memory");
+    check_number(&rt, &beside, 1, Some(span));
+    let bare = NodeStr::new_str(rt.alloc(), "été").expect(&rt, "memory");
+    let beside = bare.same_location(rt.alloc(), 1u8).expect(&rt, "memory");
+    check_number(&rt, &beside, 1, None);
 }
 
 #[test]

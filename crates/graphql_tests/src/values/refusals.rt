@@ -1,6 +1,10 @@
 //! Calls that meet a refused growth, wherever it comes: the answer is the refusal, or that of an undisturbed call.
 //! `rt try --test --fail-alloc N` refuses the Nth growth of each test.
-use crate::checks::check_text;
+mod copies;
+mod displays;
+mod prints;
+
+use crate::checks::check_cloned_or_refused;
 use crate::samples::{directive_definition, input_value, with_argument};
 use graphql_base::name;
 use graphql_base::node::Node;
@@ -66,36 +70,47 @@ fn no_memory_is_asked_of_one_owner(rt: HostRuntime) {
     assert!(rt; directive.specified_argument_by_name_mut("y").is_ok());
 }
 
+// `@a @b`
+fn directives(alloc: Global) -> Result<DirectiveList, AllocError> {
+    let nodes = vec![in alloc;
+        Node::new(alloc, Directive::new(alloc, name!(a)))?,
+        Node::new(alloc, Directive::new(alloc, name!(b)))?,
+    ]?;
+    Ok(DirectiveList(nodes))
+}
+
 #[test]
 fn a_node_is_pushed_or_handed_back(rt: HostRuntime) {
     let alloc = rt.alloc();
-    let mut list = DirectiveList::new(alloc);
-    let Ok(node) = Node::new(alloc, Directive::new(alloc, name!(a))) else {
+    let (Ok(mut list), Ok(before)) = (directives(alloc), directives(alloc)) else {
         return;
     };
-    match list.push(node) {
-        Ok(()) => assert!(rt; list.has("a")),
-        Err(node) => {
-            check_text(&rt, node.name.as_str(), "a");
-            assert!(rt; list.is_empty());
-        }
+    let Ok(node) = Node::new(alloc, Directive::new(alloc, name!(c))) else {
+        return;
+    };
+    let back = match list.push(node) {
+        Ok(()) => list.pop(),
+        Err(node) => Some(node),
+    };
+    assert!(rt; back.is_some_and(|node| *node == Directive::new(alloc, name!(c))));
+    assert!(rt; list == before);
+}
+
+#[test]
+fn a_list_is_copied_or_refused(rt: HostRuntime) {
+    if let Ok(list) = directives(rt.alloc()) {
+        check_cloned_or_refused(&rt, &list);
     }
 }
 
 #[test]
-fn a_list_is_made_or_refused(rt: HostRuntime) {
+fn a_list_is_collected_or_refused(rt: HostRuntime) {
     let alloc = rt.alloc();
-    let mut list = DirectiveList::new(alloc);
-    if let Ok(node) = Node::new(alloc, Directive::new(alloc, name!(a))) {
-        let pushed = list.push(node);
-        assert!(rt; pushed.is_ok() || list.is_empty());
-    }
-    let count = list.len();
-    if let Ok(copy) = list.clone() {
-        assert!(rt; copy == list);
-    }
+    let (Ok(list), Ok(before)) = (directives(alloc), directives(alloc)) else {
+        return;
+    };
     if let Ok(collected) = DirectiveList::collect_from(alloc, list.into_iter()) {
-        assert_eq!(rt; collected.len(), count);
+        assert!(rt; collected == before);
     }
 }
 

@@ -1,0 +1,45 @@
+//! What is made or copied, or refused.
+use super::{definition, input};
+use crate::checks::{check_cloned_or_refused, check_text};
+use graphql_values::literal::{FloatValue, IntValue};
+use graphql_values::ty;
+
+#[test]
+fn an_integer_is_made_and_copied_or_refused(rt: HostRuntime) {
+    if let Ok(int) = IntValue::new_parsed(rt.alloc(), "-120") {
+        check_text(&rt, int.as_str(), "-120");
+        check_cloned_or_refused(&rt, &int);
+    }
+}
+
+#[test]
+fn a_float_is_made_and_copied_or_refused(rt: HostRuntime) {
+    if let Ok(float) = FloatValue::new_parsed(rt.alloc(), "1.50") {
+        check_text(&rt, float.as_str(), "1.50");
+        check_cloned_or_refused(&rt, &float);
+    }
+}
+
+#[test]
+fn a_type_is_made_and_copied_or_refused(rt: HostRuntime) {
+    if let Ok(ty) = ty!(in rt.alloc(); [[I]!]!) {
+        assert!(rt; ty.is_list() && ty.is_non_null());
+        assert!(rt; ty.item_type().is_list() && ty.item_type().is_non_null());
+        assert!(rt; *ty.item_type().item_type() == ty!(I));
+        check_cloned_or_refused(&rt, &ty);
+    }
+}
+
+#[test]
+fn an_input_value_is_copied_or_refused(rt: HostRuntime) {
+    if let Ok(input) = input(rt.alloc()) {
+        check_cloned_or_refused(&rt, &input);
+    }
+}
+
+#[test]
+fn a_definition_is_copied_or_refused(rt: HostRuntime) {
+    if let Ok(definition) = definition(rt.alloc()) {
+        check_cloned_or_refused(&rt, &definition);
+    }
+}

@@ -43,7 +43,9 @@ fn a_node_can_stand_where_another_does(rt: HostRuntime) {
 fn a_text_can_stand_where_a_number_does(rt: HostRuntime) {
     let span = span_in(&rt, 5);
     let placed = Node::new_parsed(rt.alloc(), 2u8, span).expect(&rt, "memory");
-    let beside = placed.same_location(rt.alloc(), "text").expect(&rt, "memory");
+    let beside = placed
+        .same_location(rt.alloc(), "text")
+        .expect(&rt, "memory");
     check_text(&rt, *beside, "text");
     assert_eq!(rt; beside.location(), Some(span));
 }

@@ -17,26 +17,34 @@ fn placed(alloc: Global) -> Result<Node<String>, AllocError> {
 }
 
 fn check_placed(rt: &impl Abort, node: &Node<String>, text: &str) {
-    assert_eq!(rt; node.as_str(), text);
-    assert_eq!(rt; node.location(), SourceSpan::new(FileId::new(5), 10, 13));
+    assert_eq!(rt;
+        (node.as_str(), node.location()),
+        (text, SourceSpan::new(FileId::new(5), 10, 13))
+    );
+}
+
+/// Empties the text, and answers what it is then.
+fn empty(node: &mut Node<String>, alloc: Global) -> &'static str {
+    match node.make_mut() {
+        Ok(text) => {
+            *text = String::new(alloc);
+            ""
+        }
+        Err(AllocError) => "old",
+    }
 }
 
 #[test]
 fn make_mut_changes_one_node_or_none(rt: HostRuntime) {
-    let alloc = rt.alloc();
-    let (Ok(before), Ok(first)) = (placed(alloc), placed(alloc)) else {
+    let Ok(first) = placed(rt.alloc()) else {
         return;
     };
     let Ok(mut second) = first.clone() else {
         return;
     };
-    match second.make_mut() {
-        Ok(text) => *text = String::new(alloc),
-        Err(AllocError) => assert_eq!(rt; second, before),
-    }
+    let text = empty(&mut second, rt.alloc());
+    check_placed(&rt, &second, text);
     check_placed(&rt, &first, "old");
-    assert_eq!(rt; first, before);
-    assert_eq!(rt; second.location(), before.location());
 }
 
 #[test]
@@ -71,34 +79,34 @@ fn nodes_are_made_or_refused(rt: HostRuntime) {
 }
 
 fn check_refusal(rt: &impl Abort, error: &NameError, text: &str) {
-    match error {
-        NameError::Invalid(InvalidNameError { name, location }) => {
-            assert_eq!(rt; name.as_str(), text);
-            assert_eq!(rt; *location, None);
-        }
-        NameError::Memory => {}
+    if let NameError::Invalid(InvalidNameError { name, location }) = error {
+        assert_eq!(rt; (name.as_str(), *location), (text, None));
+    }
+}
+
+fn check_refused(rt: &impl Abort, made: Result<Name, NameError>, text: &str) {
+    match made {
+        Ok(_) => assert!(rt; false, "no name"),
+        Err(error) => check_refusal(rt, &error, text),
     }
 }
 
 #[test]
 fn names_are_made_or_refused(rt: HostRuntime) {
-    let alloc = rt.alloc();
-    match Name::new(alloc, "abc") {
-        Ok(name) => assert_eq!(rt; name.as_str(), "abc"),
+    match Name::new(rt.alloc(), "abc") {
+        Ok(name) => check_text(&rt, name.as_str(), "abc"),
         Err(error) => assert_eq!(rt; error, NameError::Memory),
     }
-    match Name::new(alloc, "1nvalid") {
-        Ok(_) => assert!(rt; false, "no name"),
-        Err(error) => check_refusal(&rt, &error, "1nvalid"),
+    assert!(rt; Name::new_static(rt.alloc(), "abc").is_ok());
+    if let Ok(text) = RcStr::from_str(rt.alloc(), "abc") {
+        assert!(rt; Name::new_shared(rt.alloc(), text).is_ok());
     }
-    match Name::new_static(alloc, "1nvalid") {
-        Ok(_) => assert!(rt; false, "no name"),
-        Err(error) => check_refusal(&rt, &error, "1nvalid"),
-    }
-    assert!(rt; Name::new_static(alloc, "abc").is_ok());
-    if let Ok(text) = RcStr::from_str(alloc, "abc") {
-        assert!(rt; Name::new_shared(alloc, text).is_ok());
-    }
+}
+
+#[test]
+fn other_texts_are_refused(rt: HostRuntime) {
+    check_refused(&rt, Name::new(rt.alloc(), "1nvalid"), "1nvalid");
+    check_refused(&rt, Name::new_static(rt.alloc(), "1nvalid"), "1nvalid");
 }
 
 #[test]

@@ -7,6 +7,7 @@ use graphql_text::string::{write_description, write_string_value};
 use graphql_text::target::Target;
 use graphql_text::writers::write_first_indent;
 use std::alloc::Global;
+use std::process::Abort;
 
 /// Takes one piece, and then no more.
 #[derive(Drop)]
@@ -46,98 +47,164 @@ fn description_page(alloc: Global, place: &Place<'_>, value: &str) -> Page {
     out
 }
 
+const ONE_LINE: Place<'static> = Place {
+    prefix: None,
+    level: 0,
+};
+
+const TWO_SPACES: Place<'static> = Place {
+    prefix: Some("  "),
+    level: 0,
+};
+
+fn indented(prefix: &str, level: usize) -> Place<'_> {
+    Place {
+        prefix: Some(prefix),
+        level,
+    }
+}
+
+fn check_page(rt: &impl Abort, page: &Page, wanted: &str) {
+    check_text(rt, page.text.as_str(), wanted);
+    assert!(rt; !page.has_fault, "an empty piece");
+}
+
 #[test]
-fn writes_values(rt: HostRuntime) {
-    let cases = [
-        (None, 0, "", r#""""#),
-        (Some("  "), 0, "", r#""""#),
-        (Some("  "), 0, "\u{1}\t\u{7F}", "\"\\u0001\t\u{7F}\""),
-        (None, 0, "\u{1}\t\u{7F}", "\"\\u0001\t\u{7F}\""),
-        (None, 0, "a\nb", r#""a\nb""#),
-        (Some("  "), 0, "a\nb", "\"\"\"\na\nb\n\"\"\""),
-        (Some("  "), 1, "a\n\n b", "\"\"\"\n  a\n\n   b\n  \"\"\""),
-        (Some("  "), 0, " \na", r#"" \na""#),
-        (Some("  "), 0, "a\n ", r#""a\n ""#),
-        (Some("  "), 0, "a\n", r#""a\n""#),
-        (Some("  "), 0, "\na", r#""\na""#),
-        (Some("  "), 0, "a\r\nb", r#""a\r\nb""#),
-        (Some("  "), 0, "a\rb\nc", r#""a\rb\nc""#),
-        (Some("  "), 0, "  a\n  b", r#""  a\n  b""#),
-        (Some("  "), 0, "a\n\t\nb", "\"\"\"\na\n\t\nb\n\"\"\""),
-        (Some("  "), 0, "\ta\nb", "\"\"\"\n\ta\nb\n\"\"\""),
-        (Some("\t"), 1, "a\n\tb", "\"\"\"\n\ta\n\t\tb\n\t\"\"\""),
-        (Some(""), 9, "a\nb", "\"\"\"\na\nb\n\"\"\""),
-        (Some(""), usize::MAX, "a\nb", "\"\"\"\na\nb\n\"\"\""),
-        (Some(">"), 2, "a\nb", "\"\"\"\n>>a\n>>b\n>>\"\"\""),
-        (Some("  "), 0, "example", r#""example""#),
-        (Some("  "), 0, r#"say "hi" \"#, r#""say \"hi\" \\""#),
+fn writes_values_on_one_line(rt: HostRuntime) {
+    for (value, wanted) in [
+        ("", r#""""#),
+        ("\u{1}\t\u{7F}", "\"\\u0001\t\u{7F}\""),
+        ("a\nb", r#""a\nb""#),
         (
-            Some("  "),
-            0,
-            "\u{8}\u{C}\r\u{B}\u{1F}\u{0}",
-            r#""\b\f\r\u000B\u001F\u0000""#,
-        ),
-        (
-            None,
-            0,
             "\u{E9}\n\u{1F600}\"\u{FFFF}\u{10FFFF}",
             "\"\u{E9}\\n\u{1F600}\\\"\u{FFFF}\u{10FFFF}\"",
         ),
-        (
-            Some("  "),
-            0,
-            "\u{E9}\n\u{1F600}\"\u{10FFFF}",
-            "\"\"\"\n\u{E9}\n\u{1F600}\"\u{10FFFF}\n\"\"\"",
-        ),
-        (
-            Some("  "),
-            0,
-            "a\"\"\"b\n\\\"\"\"\n\"\"\"\"\"\"\"",
-            "\"\"\"\na\\\"\"\"b\n\\\\\"\"\"\n\\\"\"\"\\\"\"\"\"\n\"\"\"",
-        ),
-    ];
-    for (prefix, level, value, want) in cases {
-        let out = value_page(rt.alloc(), &Place { prefix, level }, value);
-        check_text(&rt, out.text.as_str(), want);
-        assert!(rt; !out.has_fault, "an empty piece");
+    ] {
+        let page = value_page(rt.alloc(), &ONE_LINE, value);
+        check_page(&rt, &page, wanted);
     }
 }
 
 #[test]
-fn writes_descriptions(rt: HostRuntime) {
-    let cases = [
-        (Some("  "), 0, r#"say "hi""#, "\"\"\"\nsay \"hi\"\n\"\"\""),
-        (None, 0, r#"say "hi""#, r#""say \"hi\"""#),
-        (Some("  "), 0, r#"C:\"#, "\"\"\"\nC:\\\n\"\"\""),
-        (Some("  "), 0, "", r#""""#),
-        (Some("  "), 0, "Hi", r#""""Hi""""#),
-        (None, 0, "Hi", r#""Hi""#),
-        (Some("  "), 1, "F", r#""""F""""#),
-        (Some("  "), 0, r#"x\"""y"#, r#""""x\\"""y""""#),
-        (Some("  "), 0, r#"""""x"#, r#""""\""""x""""#),
+fn writes_quoted_values(rt: HostRuntime) {
+    for (value, wanted) in [
+        ("", r#""""#),
+        ("\u{1}\t\u{7F}", "\"\\u0001\t\u{7F}\""),
+        (" \na", r#"" \na""#),
+        ("a\n ", r#""a\n ""#),
+        ("a\n", r#""a\n""#),
+        ("\na", r#""\na""#),
+        ("a\r\nb", r#""a\r\nb""#),
+        ("a\rb\nc", r#""a\rb\nc""#),
+        ("  a\n  b", r#""  a\n  b""#),
+        ("example", r#""example""#),
+        (r#"say "hi" \"#, r#""say \"hi\" \\""#),
         (
-            Some("  "),
-            0,
-            r#"""""""""#,
-            "\"\"\"\n\\\"\"\"\\\"\"\"\"\n\"\"\"",
+            "\u{8}\u{C}\r\u{B}\u{1F}\u{0}",
+            r#""\b\f\r\u000B\u001F\u0000""#,
         ),
-        (Some("  "), 0, r#"""x"#, r#""""""x""""#),
-        (Some("  "), 0, r#"x"""#, "\"\"\"\nx\"\"\n\"\"\""),
-        (Some("  "), 0, r#"a\"b"#, r#""""a\"b""""#),
-        (Some("  "), 0, r#"\\x"#, r#""""\\x""""#),
-        (Some("  "), 0, "x\ny", "\"\"\"\nx\ny\n\"\"\""),
-        (None, 0, "x\ny", r#""x\ny""#),
-        (Some("  "), 0, "  a", r#""  a""#),
-        (Some("  "), 0, "a\rb", r#""a\rb""#),
-        (Some("  "), 0, " \t", "\" \t\""),
-        (Some("  "), 0, "a\u{1}b", "\"\"\"a\u{1}b\"\"\""),
-        (Some("  "), 0, "\u{A0}", "\"\"\"\u{A0}\"\"\""),
-        (Some(" "), 3, "a\nb", "\"\"\"\n   a\n   b\n   \"\"\""),
-    ];
-    for (prefix, level, value, want) in cases {
-        let out = description_page(rt.alloc(), &Place { prefix, level }, value);
-        check_text(&rt, out.text.as_str(), want);
-        assert!(rt; !out.has_fault, "an empty piece");
+    ] {
+        let page = value_page(rt.alloc(), &TWO_SPACES, value);
+        check_page(&rt, &page, wanted);
+    }
+}
+
+#[test]
+fn writes_block_values(rt: HostRuntime) {
+    for (value, wanted) in [
+        ("a\nb", "\"\"\"\na\nb\n\"\"\""),
+        ("a\n\t\nb", "\"\"\"\na\n\t\nb\n\"\"\""),
+        ("\ta\nb", "\"\"\"\n\ta\nb\n\"\"\""),
+        (
+            "\u{E9}\n\u{1F600}\"\u{10FFFF}",
+            "\"\"\"\n\u{E9}\n\u{1F600}\"\u{10FFFF}\n\"\"\"",
+        ),
+        (
+            "a\"\"\"b\n\\\"\"\"\n\"\"\"\"\"\"\"",
+            "\"\"\"\na\\\"\"\"b\n\\\\\"\"\"\n\\\"\"\"\\\"\"\"\"\n\"\"\"",
+        ),
+    ] {
+        let page = value_page(rt.alloc(), &TWO_SPACES, value);
+        check_page(&rt, &page, wanted);
+    }
+}
+
+#[test]
+fn indents_values(rt: HostRuntime) {
+    for (prefix, level, value, wanted) in [
+        ("  ", 1, "a\n\n b", "\"\"\"\n  a\n\n   b\n  \"\"\""),
+        ("\t", 1, "a\n\tb", "\"\"\"\n\ta\n\t\tb\n\t\"\"\""),
+        ("", 9, "a\nb", "\"\"\"\na\nb\n\"\"\""),
+        ("", usize::MAX, "a\nb", "\"\"\"\na\nb\n\"\"\""),
+        (">", 2, "a\nb", "\"\"\"\n>>a\n>>b\n>>\"\"\""),
+    ] {
+        let page = value_page(rt.alloc(), &indented(prefix, level), value);
+        check_page(&rt, &page, wanted);
+    }
+}
+
+#[test]
+fn writes_descriptions_on_one_line(rt: HostRuntime) {
+    for (value, wanted) in [
+        (r#"say "hi""#, r#""say \"hi\"""#),
+        ("Hi", r#""Hi""#),
+        ("x\ny", r#""x\ny""#),
+    ] {
+        let page = description_page(rt.alloc(), &ONE_LINE, value);
+        check_page(&rt, &page, wanted);
+    }
+}
+
+#[test]
+fn writes_short_descriptions(rt: HostRuntime) {
+    for (value, wanted) in [
+        ("", r#""""#),
+        ("Hi", r#""""Hi""""#),
+        (r#"x\"""y"#, r#""""x\\"""y""""#),
+        (r#"""""x"#, r#""""\""""x""""#),
+        (r#"""x"#, r#""""""x""""#),
+        (r#"a\"b"#, r#""""a\"b""""#),
+        (r#"\\x"#, r#""""\\x""""#),
+        ("  a", r#""  a""#),
+        ("a\rb", r#""a\rb""#),
+        (" \t", "\" \t\""),
+        ("a\u{1}b", "\"\"\"a\u{1}b\"\"\""),
+        ("\u{A0}", "\"\"\"\u{A0}\"\"\""),
+        (r#""x"#, r#"""""x""""#),
+        // 70 bytes, counted before they are escaped
+        (
+            r#"aaaaaaaaaaaaaaaaaaaaaaaaaaaaaaaaaa"""aaaaaaaaaaaaaaaaaaaaaaaaaaaaaaaaa"#,
+            r#""""aaaaaaaaaaaaaaaaaaaaaaaaaaaaaaaaaa\"""aaaaaaaaaaaaaaaaaaaaaaaaaaaaaaaaa""""#,
+        ),
+    ] {
+        let page = description_page(rt.alloc(), &TWO_SPACES, value);
+        check_page(&rt, &page, wanted);
+    }
+}
+
+#[test]
+fn writes_descriptions_on_lines_of_their_own(rt: HostRuntime) {
+    for (value, wanted) in [
+        (r#"say "hi""#, "\"\"\"\nsay \"hi\"\n\"\"\""),
+        (r#"C:\"#, "\"\"\"\nC:\\\n\"\"\""),
+        (r#"""""""""#, "\"\"\"\n\\\"\"\"\\\"\"\"\"\n\"\"\""),
+        (r#"x"""#, "\"\"\"\nx\"\"\n\"\"\""),
+        ("x\ny", "\"\"\"\nx\ny\n\"\"\""),
+        (r#"""#, "\"\"\"\n\"\n\"\"\""),
+    ] {
+        let page = description_page(rt.alloc(), &TWO_SPACES, value);
+        check_page(&rt, &page, wanted);
+    }
+}
+
+#[test]
+fn indents_descriptions(rt: HostRuntime) {
+    for (prefix, level, value, wanted) in [
+        ("  ", 1, "F", r#""""F""""#),
+        (" ", 3, "a\nb", "\"\"\"\n   a\n   b\n   \"\"\""),
+    ] {
+        let page = description_page(rt.alloc(), &indented(prefix, level), value);
+        check_page(&rt, &page, wanted);
     }
 }
 

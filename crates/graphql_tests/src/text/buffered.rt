@@ -67,27 +67,32 @@ fn counted(tree: &Value, room: usize) -> Counting {
     sink
 }
 
-/// How many items of one byte a list has, and the room; the calls of `put`, the room that is left, and the faults.
+/// What a sink counted: the calls of `put`, the room that is left, and the faults.
+type Counts = (usize, usize, u64);
+
+fn check_counted(rt: &impl Abort, tree: &Value, room: usize, counts: Counts) {
+    let sink = counted(tree, room);
+    assert_eq!(rt; (sink.calls, sink.room, sink.faults), counts, "{room}");
+    assert_eq!(rt; sink.wrong_calls, 0, "{room}");
+}
+
+/// How many items of one byte a list has, and the room.
+const SMALL: [(usize, usize, Counts); 7] = [
+    (1, 9, (1, 6, 0)),
+    (1, 3, (1, 0, 0)),
+    (1, 2, (1, 2, 1)),
+    (341, 2000, (1, 977, 0)),
+    (342, 2000, (2, 974, 0)),
+    (342, 1000, (1, 1000, 1)),
+    (1000, 3000, (3, 0, 0)),
+];
+
 #[test]
 fn small_pieces_are_gathered(rt: HostRuntime) {
     let item = number(rt.alloc(), 1).expect(&rt, "memory");
-    for (count, room, calls, left, faults) in [
-        (1, 9, 1, 6, 0),
-        (1, 3, 1, 0, 0),
-        (1, 2, 1, 2, 1),
-        (341, 2000, 1, 977, 0),
-        (342, 2000, 2, 974, 0),
-        (342, 1000, 1, 1000, 1),
-        (1000, 3000, 3, 0, 0),
-    ] {
-        let sink = counted(
-            &repeated(rt.alloc(), &item, count).expect(&rt, "memory"),
-            room,
-        );
-        assert_eq!(rt; sink.calls, calls, "{count} {room}");
-        assert_eq!(rt; sink.room, left, "{count} {room}");
-        assert_eq!(rt; sink.faults, faults, "{count} {room}");
-        assert_eq!(rt; sink.wrong_calls, 0, "{count} {room}");
+    for (count, room, counts) in SMALL {
+        let list = repeated(rt.alloc(), &item, count).expect(&rt, "memory");
+        check_counted(&rt, &list, room, counts);
     }
 }
 
@@ -98,19 +103,18 @@ fn long_name(rt: &impl Abort, alloc: Global, length: usize) -> Node<Value> {
     Node::new(alloc, Value::Enum(name)).expect(rt, "memory")
 }
 
-/// How many letters the items of a list of two have, and the room; the calls of `put`, the room that is left, and the faults.
+/// How many letters the items of a list of two have, and the room.
+const LONG: [(usize, usize, Counts); 3] = [
+    (1025, 3000, (5, 946, 0)),
+    (1025, 1000, (2, 999, 1)),
+    (500, 1004, (1, 0, 0)),
+];
+
 #[test]
 fn long_pieces_are_not_copied(rt: HostRuntime) {
-    for (length, room, calls, left, faults) in [
-        (1025, 3000, 5, 946, 0),
-        (1025, 1000, 2, 999, 1),
-        (500, 1004, 1, 0, 0),
-    ] {
+    for (length, room, counts) in LONG {
         let item = long_name(&rt, rt.alloc(), length);
-        let sink = counted(&repeated(rt.alloc(), &item, 2).expect(&rt, "memory"), room);
-        assert_eq!(rt; sink.calls, calls, "{length} {room}");
-        assert_eq!(rt; sink.room, left, "{length} {room}");
-        assert_eq!(rt; sink.faults, faults, "{length} {room}");
-        assert_eq!(rt; sink.wrong_calls, 0, "{length} {room}");
+        let list = repeated(rt.alloc(), &item, 2).expect(&rt, "memory");
+        check_counted(&rt, &list, room, counts);
     }
 }

@@ -7,6 +7,7 @@ use graphql_text::sink::{SinkFault, StreamSink, TextSink, VecSink};
 use graphql_values::value::Value;
 use std::alloc::Global;
 use std::io::{self, ErrorKind, Write};
+use std::process::Abort;
 
 const TEXT: &[u8] = b"[1, 2]";
 
@@ -100,14 +101,48 @@ fn print_to_writer(list: &Value, alloc: Global, answers: [Answer; 3]) -> (bool, 
 
 #[test]
 fn a_vector_takes_all(rt: HostRuntime) {
-    let list = numbers(rt.alloc()).expect(&rt, "memory");
     let mut sink = VecSink::new(rt.alloc());
     assert_eq!(rt; sink.put(TEXT), Ok(6));
     assert_eq!(rt; sink.put(&[]), Ok(0));
-    assert_eq!(rt; list.serialize().no_indent().print_to(&mut sink), Ok(()));
-    assert_eq!(rt; sink.bytes(), b"[1, 2][1, 2]".as_slice());
-    assert_eq!(rt; sink.faults(), 0);
+    assert_eq!(rt; (sink.bytes(), sink.faults()), (TEXT, 0));
+    assert_eq!(rt; sink.into_bytes().len(), 6);
+}
+
+/// Prints the list below its text, and answers whether all of both was taken, and the sink.
+fn print_to_vector(list: &Value, alloc: Global) -> (bool, VecSink) {
+    let mut sink = VecSink::new(alloc);
+    let is_put = sink.put(TEXT).is_ok();
+    let is_printed = list.serialize().no_indent().print_to(&mut sink).is_ok();
+    (is_put && is_printed, sink)
+}
+
+#[test]
+fn a_vector_takes_a_print(rt: HostRuntime) {
+    let list = numbers(rt.alloc()).expect(&rt, "memory");
+    let (is_whole, sink) = print_to_vector(&list, rt.alloc());
+    assert!(rt; is_whole);
+    assert_eq!(rt;
+        (sink.bytes(), sink.faults()),
+        (b"[1, 2][1, 2]".as_slice(), 0)
+    );
     assert_eq!(rt; sink.into_bytes().len(), 12);
+}
+
+/// A print of the list: so many bytes were taken, and if they are not all of it there was one fault.
+fn check_taken(rt: &impl Abort, is_whole: bool, faults: u64, bytes: &[u8], taken: usize) {
+    let wants_whole = taken == TEXT.len();
+    assert_eq!(rt;
+        (is_whole, faults, bytes.len()),
+        (wants_whole, u64::from(!wants_whole), taken)
+    );
+    assert!(rt; TEXT.starts_with(bytes));
+}
+
+/// Prints the list into so much room, and answers whether all of it was taken, and the sink.
+fn print_to_narrow(list: &Value, alloc: Global, room: usize) -> (bool, Narrow) {
+    let mut sink = sink_with_room(alloc, room);
+    let is_whole = list.serialize().no_indent().print_to(&mut sink).is_ok();
+    (is_whole, sink)
 }
 
 /// The sink of so many bytes: at the first that it has no room for all ends, with one fault.
@@ -115,42 +150,49 @@ fn a_vector_takes_all(rt: HostRuntime) {
 fn one_byte_a_call(rt: HostRuntime) {
     let list = numbers(rt.alloc()).expect(&rt, "memory");
     for room in 0..8 {
-        let mut sink = sink_with_room(rt.alloc(), room);
-        let result = list.serialize().no_indent().print_to(&mut sink);
-        let count = room.min(TEXT.len());
-        assert_eq!(rt; result.is_ok(), count == TEXT.len(), "{room}");
-        assert_eq!(rt; sink.bytes.as_slice(), &TEXT[..count], "{room}");
-        assert_eq!(rt; sink.faults, u64::from(result.is_err()), "{room}");
+        let (is_whole, sink) = print_to_narrow(&list, rt.alloc(), room);
+        let taken = room.min(TEXT.len());
+        check_taken(&rt, is_whole, sink.faults, sink.bytes.as_slice(), taken);
     }
+}
+
+/// Prints the list, and answers whether all of it was taken, how many faults there were, and what was taken.
+fn print_to_memory(list: &Value, alloc: Global) -> (bool, u64, Vec<u8>) {
+    let mut sink = StreamSink::new(Vec::new(alloc));
+    let is_whole = list.serialize().no_indent().print_to(&mut sink).is_ok();
+    let is_empty_taken = sink.put(&[]) == Ok(0);
+    let faults = sink.faults();
+    (is_whole && is_empty_taken, faults, sink.into_inner())
 }
 
 #[test]
 fn a_writer_in_memory_takes_all(rt: HostRuntime) {
     let list = numbers(rt.alloc()).expect(&rt, "memory");
-    let mut sink = StreamSink::new(Vec::new(rt.alloc()));
-    assert_eq!(rt; list.serialize().no_indent().print_to(&mut sink), Ok(()));
-    assert_eq!(rt; sink.put(&[]), Ok(0));
-    assert_eq!(rt; sink.faults(), 0);
-    assert_eq!(rt; sink.into_inner().as_slice(), TEXT);
+    let (is_whole, faults, bytes) = print_to_memory(&list, rt.alloc());
+    check_taken(&rt, is_whole, faults, bytes.as_slice(), TEXT.len());
 }
 
-/// What the writer answers, in how many writes all ends, and how many bytes are taken then. Nothing is tried again.
+/// What the writer answers, in how many writes all ends, and how many bytes are taken then.
+const AWKWARD: [([Answer; 3], usize, usize); 6] = [
+    ([Answer::Interrupted, Answer::All, Answer::All], 1, 0),
+    ([Answer::None, Answer::All, Answer::All], 1, 0),
+    ([Answer::One, Answer::One, Answer::Interrupted], 3, 2),
+    ([Answer::One, Answer::None, Answer::All], 2, 1),
+    ([Answer::One, Answer::One, Answer::One], 6, 6),
+    (
+        [Answer::All, Answer::Interrupted, Answer::Interrupted],
+        1,
+        6,
+    ),
+];
+
+/// Nothing is tried again.
 #[test]
 fn awkward_writers(rt: HostRuntime) {
-    use Answer::{All, Interrupted, None, One};
     let list = numbers(rt.alloc()).expect(&rt, "memory");
-    for (answers, writes, taken) in [
-        ([Interrupted, All, All], 1, 0),
-        ([None, All, All], 1, 0),
-        ([One, One, Interrupted], 3, 2),
-        ([One, None, All], 2, 1),
-        ([One, One, One], 6, 6),
-        ([All, Interrupted, Interrupted], 1, 6),
-    ] {
+    for (answers, writes, taken) in AWKWARD {
         let (is_whole, faults, writer) = print_to_writer(&list, rt.alloc(), answers);
-        assert_eq!(rt; is_whole, taken == TEXT.len());
-        assert_eq!(rt; faults, u64::from(!is_whole));
         assert_eq!(rt; writer.writes, writes);
-        assert_eq!(rt; writer.bytes.as_slice(), &TEXT[..taken]);
+        check_taken(&rt, is_whole, faults, writer.bytes.as_slice(), taken);
     }
 }

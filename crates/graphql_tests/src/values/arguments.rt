@@ -7,23 +7,41 @@ use graphql_base::name;
 use graphql_base::name::Name;
 use graphql_base::node::Node;
 use graphql_values::arguments::{ArgumentByNameError, ArgumentValue, SpecifiedArgumentError};
-use graphql_values::definition::DirectiveDefinition;
+use graphql_values::definition::{DirectiveDefinition, InputValueDefinition};
 use graphql_values::directive::Directive;
 use graphql_values::ty;
+use graphql_values::types::Type;
 use graphql_values::value::Value;
 use indexmap::IndexMap;
 use std::alloc::{AllocError, Global};
+use std::process::Abort;
+
+fn argument(
+    alloc: Global,
+    name: Name,
+    ty: Type,
+    default_value: Option<Node<Value>>,
+) -> Result<Node<InputValueDefinition>, AllocError> {
+    let mut argument = input_value(alloc, name, ty)?;
+    argument.default_value = default_value;
+    Node::new(alloc, argument)
+}
+
+// `required: Int!, default: Int! = 1, free: Int`
+fn arguments(alloc: Global) -> Result<Vec<Node<InputValueDefinition>>, AllocError> {
+    let one = number(alloc, 1)?;
+    let arguments = vec![in alloc;
+        argument(alloc, name!(required), ty!(Int!), None)?,
+        argument(alloc, name!(default), ty!(Int!), Some(one))?,
+        argument(alloc, name!(free), ty!(Int), None)?,
+    ]?;
+    Ok(arguments)
+}
 
 // `directive @a(required: Int!, default: Int! = 1, free: Int)`, which may stand nowhere
 fn definition(alloc: Global) -> Result<DirectiveDefinition, AllocError> {
     let mut definition = directive_definition(alloc, name!(a));
-    let required = input_value(alloc, name!(required), ty!(Int!))?;
-    definition.arguments.push(Node::new(alloc, required)?)?;
-    let mut default = input_value(alloc, name!(default), ty!(Int!))?;
-    default.default_value = Some(number(alloc, 1)?);
-    definition.arguments.push(Node::new(alloc, default)?)?;
-    let free = input_value(alloc, name!(free), ty!(Int))?;
-    definition.arguments.push(Node::new(alloc, free)?)?;
+    definition.arguments = arguments(alloc)?;
     Ok(definition)
 }
 
@@ -47,39 +65,49 @@ fn told(answer: Result<ArgumentValue<'_>, ArgumentByNameError>) -> (Option<i32>,
     }
 }
 
+fn check_told(
+    rt: &impl Abort,
+    defined: &IndexMap<Name, Node<DirectiveDefinition>>,
+    directive: &Directive,
+    name: &str,
+    answer: (Option<i32>, &'static str),
+) {
+    assert_eq!(rt;
+        told(directive.argument_by_name(name, defined)),
+        answer,
+        "{name}"
+    );
+}
+
 #[test]
 fn values_by_definition(rt: HostRuntime) {
-    let alloc = rt.alloc();
-    let defined = definitions(alloc, name!(a)).expect(&rt, "memory");
-    let directive = Directive::new(alloc, name!(a));
-    for (name, answer) in [
-        ("other", (None, "no such argument")),
-        ("required", (None, "required")),
-        ("default", (Some(1), "value")),
-        ("free", (None, "implicit null")),
-    ] {
-        assert_eq!(rt;
-            told(directive.argument_by_name(name, &defined)),
-            answer,
-            "{name}"
-        );
-    }
+    let defined = definitions(rt.alloc(), name!(a)).expect(&rt, "memory");
+    let directive = Directive::new(rt.alloc(), name!(a));
+    check_told(
+        &rt,
+        &defined,
+        &directive,
+        "other",
+        (None, "no such argument"),
+    );
+    check_told(&rt, &defined, &directive, "required", (None, "required"));
+    check_told(&rt, &defined, &directive, "default", (Some(1), "value"));
+    check_told(&rt, &defined, &directive, "free", (None, "implicit null"));
 }
 
 #[test]
 fn the_key_defines_the_directive(rt: HostRuntime) {
-    let alloc = rt.alloc();
-    let defined = definitions(alloc, name!(b)).expect(&rt, "memory");
-    let by_name = Directive::new(alloc, name!(a));
-    assert_eq!(rt;
-        told(by_name.argument_by_name("default", &defined)),
-        (None, "undefined directive")
+    let defined = definitions(rt.alloc(), name!(b)).expect(&rt, "memory");
+    let by_name = Directive::new(rt.alloc(), name!(a));
+    check_told(
+        &rt,
+        &defined,
+        &by_name,
+        "default",
+        (None, "undefined directive"),
     );
-    let by_key = Directive::new(alloc, name!(b));
-    assert_eq!(rt;
-        told(by_key.argument_by_name("default", &defined)),
-        (Some(1), "value")
-    );
+    let by_key = Directive::new(rt.alloc(), name!(b));
+    check_told(&rt, &defined, &by_key, "default", (Some(1), "value"));
 }
 
 #[test]
@@ -128,54 +156,73 @@ fn what_is_lent_is_written_in_one_directive(rt: HostRuntime) {
     assert!(rt; other == directive(alloc, 2).expect(&rt, "memory"));
 }
 
+fn is_shared(directive: &mut Directive, place: usize) -> bool {
+    match directive.arguments.get_mut(place) {
+        Some(argument) => argument.get_mut().is_none(),
+        None => false,
+    }
+}
+
 // Whether each argument still is another directive's too.
 fn sharing(directive: &mut Directive) -> [bool; 2] {
-    let mut shared = [false; 2];
-    for (argument, is_shared) in directive.arguments.iter_mut().zip(&mut shared) {
-        *is_shared = argument.get_mut().is_none();
-    }
-    shared
+    [is_shared(directive, 0), is_shared(directive, 1)]
+}
+
+fn lend(directive: &mut Directive, name: &str) -> bool {
+    directive.specified_argument_by_name_mut(name).is_ok()
 }
 
 #[test]
 fn only_what_is_lent_is_copied(rt: HostRuntime) {
-    for (name, left) in [
-        ("x", [false, true]),
-        ("y", [true, false]),
-        ("z", [true, true]),
+    for (name, wanted) in [
+        ("x", (true, [false, true])),
+        ("y", (true, [true, false])),
+        ("z", (false, [true, true])),
     ] {
         let other = directive(rt.alloc(), 2).expect(&rt, "memory");
         let mut lent = other.clone().expect(&rt, "memory");
-        assert_eq!(rt;
-            lent.specified_argument_by_name_mut(name).is_ok(),
-            name != "z"
-        );
-        assert_eq!(rt; sharing(&mut lent), left, "{name}");
+        let is_lent = lend(&mut lent, name);
+        assert_eq!(rt; (is_lent, sharing(&mut lent)), wanted, "{name}");
         assert!(rt; lent == other);
     }
 }
 
-#[test]
-fn the_first_of_a_name_is_answered(rt: HostRuntime) {
-    let alloc = rt.alloc();
-    let mut repeated = directive(alloc, 2).expect(&rt, "memory");
-    for argument in directive(alloc, 3).expect(&rt, "memory").arguments {
-        repeated.arguments.push(argument).expect(&rt, "memory");
+// `@a(x: 1, y: 2, x: 1, y: 3)`
+fn repeated(alloc: Global) -> Result<Directive, AllocError> {
+    let mut directive = Directive::new(alloc, name!(a));
+    for (name, value) in [(name!(x), 1), (name!(y), 2), (name!(x), 1), (name!(y), 3)] {
+        directive = with_argument(alloc, directive, name, number(alloc, value)?)?;
     }
-    let first = repeated
-        .specified_argument_by_name("y")
-        .and_then(|value| value.to_i32());
-    assert_eq!(rt; first, Some(2));
-    set_argument(&mut repeated, "y", number(alloc, 4).expect(&rt, "memory")).expect(&rt, "memory");
-    let numbers: Vec<Option<i32>> = repeated
+    Ok(directive)
+}
+
+fn numbers(alloc: Global, directive: &Directive) -> Result<Vec<Option<i32>>, AllocError> {
+    directive
         .arguments
         .iter()
         .map(|node| node.value.to_i32())
         .collect(alloc)
-        .expect(&rt, "memory");
+}
+
+fn specified(directive: &Directive, name: &str) -> Option<i32> {
+    directive.specified_argument_by_name(name)?.to_i32()
+}
+
+#[test]
+fn the_first_of_a_name_is_answered(rt: HostRuntime) {
+    let repeated = repeated(rt.alloc()).expect(&rt, "memory");
+    assert_eq!(rt; specified(&repeated, "y"), Some(2));
+    assert!(rt; repeated.specified_argument_by_name("z").is_none());
+}
+
+#[test]
+fn the_first_of_a_name_is_written(rt: HostRuntime) {
+    let mut repeated = repeated(rt.alloc()).expect(&rt, "memory");
+    let four = number(rt.alloc(), 4).expect(&rt, "memory");
+    set_argument(&mut repeated, "y", four).expect(&rt, "memory");
+    let numbers = numbers(rt.alloc(), &repeated).expect(&rt, "memory");
     assert_eq!(rt;
         numbers.as_slice(),
         [Some(1), Some(4), Some(1), Some(3)].as_slice()
     );
-    assert!(rt; repeated.specified_argument_by_name("z").is_none());
 }

@@ -6,6 +6,7 @@ ghost use Rattle.graphql_values.specs.NamedDefinitions.{is_input_value_named};
 
 use crate::samples::{directive_definition, input_value};
 use graphql_base::name;
+use graphql_base::name::Name;
 use graphql_base::node::{Node, NodeStr};
 use graphql_values::definition::{DirectiveDefinition, InputValueDefinition};
 use graphql_values::location::DirectiveLocation;
@@ -13,19 +14,27 @@ use graphql_values::types::Type;
 use graphql_values::value::Value;
 use std::alloc::{AllocError, Global};
 use std::collections::HashSet;
+use std::process::Abort;
+
+fn argument(alloc: Global, name: Name, ty: Name) -> Result<Node<InputValueDefinition>, AllocError> {
+    let mut argument = input_value(alloc, name, Type::Named(ty))?;
+    argument.description = Some(NodeStr::new_str(alloc, "é")?);
+    Node::new(alloc, argument)
+}
+
+fn arguments(alloc: Global) -> Result<Vec<Node<InputValueDefinition>>, AllocError> {
+    let arguments = vec![in alloc;
+        argument(alloc, name!(a), name!(A))?,
+        argument(alloc, name!(b), name!(B))?,
+        argument(alloc, name!(a), name!(C))?,
+    ]?;
+    Ok(arguments)
+}
 
 // `directive @d(a: A, b: B, a: C) on FIELD`, with the same description each
 fn definition(alloc: Global) -> Result<DirectiveDefinition, AllocError> {
     let mut definition = directive_definition(alloc, name!(d));
-    for (name, ty) in [
-        (name!(a), name!(A)),
-        (name!(b), name!(B)),
-        (name!(a), name!(C)),
-    ] {
-        let mut input = input_value(alloc, name, Type::Named(ty))?;
-        input.description = Some(NodeStr::new_str(alloc, "é")?);
-        definition.arguments.push(Node::new(alloc, input)?)?;
-    }
+    definition.arguments = arguments(alloc)?;
     definition.locations.push(DirectiveLocation::Field)?;
     Ok(definition)
 }
@@ -34,12 +43,16 @@ fn type_of(node: Option<&Node<InputValueDefinition>>) -> Option<&str> {
     Some(node?.ty.inner_named_type().as_str())
 }
 
+fn check_type(rt: &impl Abort, definition: &DirectiveDefinition, name: &str, wanted: Option<&str>) {
+    assert_eq!(rt; type_of(definition.argument_by_name(name)), wanted);
+}
+
 #[test]
 fn arguments_by_name(rt: HostRuntime) {
     let definition = definition(rt.alloc()).expect(&rt, "memory");
-    assert_eq!(rt; type_of(definition.argument_by_name("a")), Some("A"));
-    assert_eq!(rt; type_of(definition.argument_by_name("b")), Some("B"));
-    assert_eq!(rt; type_of(definition.argument_by_name("c")), None);
+    check_type(&rt, &definition, "a", Some("A"));
+    check_type(&rt, &definition, "b", Some("B"));
+    check_type(&rt, &definition, "c", None);
 }
 
 // What a caller knows of an argument that it wrote.
@@ -63,20 +76,13 @@ fn set_argument(
 
 #[test]
 fn the_first_of_a_name_is_written(rt: HostRuntime) {
-    let alloc = rt.alloc();
-    let mut definition = definition(alloc).expect(&rt, "memory");
+    let mut definition = definition(rt.alloc()).expect(&rt, "memory");
     let other = definition.clone().expect(&rt, "memory");
-    let written = input_value(alloc, name!(c), Type::Named(name!(A))).expect(&rt, "memory");
-    assert!(rt;
-        set_argument(
-            &mut definition,
-            "a",
-            Node::new(alloc, written).expect(&rt, "memory")
-        )
-    );
-    assert_eq!(rt; type_of(definition.argument_by_name("c")), Some("A"));
-    assert_eq!(rt; type_of(definition.argument_by_name("a")), Some("C"));
-    assert_eq!(rt; type_of(other.argument_by_name("a")), Some("A"));
+    let written = argument(rt.alloc(), name!(c), name!(A)).expect(&rt, "memory");
+    assert!(rt; set_argument(&mut definition, "a", written));
+    check_type(&rt, &definition, "c", Some("A"));
+    check_type(&rt, &definition, "a", Some("C"));
+    check_type(&rt, &other, "a", Some("A"));
     assert!(rt; definition.argument_by_name_mut("z").is_none());
 }
 

@@ -1,5 +1,7 @@
 use crate::checks::{check_made, check_text};
 use graphql_values::literal::{FloatValue, IntValue};
+use std::alloc::Global;
+use std::process::Abort;
 
 const CHARACTERS: [&str; 9] = ["0", "1", "-", "+", ".", "e", "E", "a", "_"];
 
@@ -18,55 +20,65 @@ fn is_one_of(texts: &[&str], text: &str) -> bool {
     texts.iter().any(|other| *other == text)
 }
 
+fn check_syntax(rt: &impl Abort, text: &str, is_int: bool, is_float: bool) {
+    assert_eq!(rt; IntValue::valid_syntax(text), is_int, "{text}");
+    assert_eq!(rt; FloatValue::valid_syntax(text), is_float, "{text}");
+}
+
+fn check_short_texts(rt: &impl Abort, alloc: Global, start: &str) {
+    for end in CHARACTERS_OR_NONE {
+        let made = format!(in alloc; "{start}{end}").expect(rt, "memory");
+        let text = made.as_str();
+        let is_int = is_one_of(INTS.as_slice(), text);
+        check_syntax(rt, text, is_int, is_one_of(FLOATS.as_slice(), text));
+    }
+}
+
 #[test]
 fn short_texts(rt: HostRuntime) {
     for a in CHARACTERS {
         for b in CHARACTERS_OR_NONE {
-            for c in CHARACTERS_OR_NONE {
-                let text = format!(in rt.alloc(); "{a}{b}{c}").expect(&rt, "memory");
-                let is_int = is_one_of(INTS.as_slice(), text.as_str());
-                let is_float = is_one_of(FLOATS.as_slice(), text.as_str());
-                assert_eq!(rt; IntValue::valid_syntax(text.as_str()), is_int, "{text}");
-                assert_eq!(rt; FloatValue::valid_syntax(text.as_str()), is_float, "{text}");
-            }
+            let start = format!(in rt.alloc(); "{a}{b}").expect(&rt, "memory");
+            check_short_texts(&rt, rt.alloc(), start.as_str());
         }
     }
 }
 
 /// A text, and whether it is an int and a float.
+const TEXTS: [(&str, bool, bool); 27] = [
+    ("-0", true, false),
+    ("2147483648", true, false),
+    ("-2147483648", true, false),
+    ("120", true, false),
+    ("", false, false),
+    ("-", false, false),
+    ("00", false, false),
+    ("+3", false, false),
+    ("-01", false, false),
+    (" 1", false, false),
+    ("1 ", false, false),
+    ("é", false, false),
+    ("1.5", false, true),
+    ("1.5E-3", false, true),
+    ("1e5", false, true),
+    ("-0.5e+10", false, true),
+    ("0.00", false, true),
+    ("1e", false, false),
+    ("10e", false, false),
+    ("1.5e+", false, false),
+    ("1.", false, false),
+    ("+3.5", false, false),
+    (".5", false, false),
+    ("1.5.5", false, false),
+    ("1e5e5", false, false),
+    ("1.e5", false, false),
+    ("01.5", false, false),
+];
+
 #[test]
 fn syntax(rt: HostRuntime) {
-    for (text, is_int, is_float) in [
-        ("-0", true, false),
-        ("2147483648", true, false),
-        ("-2147483648", true, false),
-        ("120", true, false),
-        ("", false, false),
-        ("-", false, false),
-        ("00", false, false),
-        ("+3", false, false),
-        ("-01", false, false),
-        (" 1", false, false),
-        ("1 ", false, false),
-        ("é", false, false),
-        ("1.5", false, true),
-        ("1.5E-3", false, true),
-        ("1e5", false, true),
-        ("-0.5e+10", false, true),
-        ("0.00", false, true),
-        ("1e", false, false),
-        ("10e", false, false),
-        ("1.5e+", false, false),
-        ("1.", false, false),
-        ("+3.5", false, false),
-        (".5", false, false),
-        ("1.5.5", false, false),
-        ("1e5e5", false, false),
-        ("1.e5", false, false),
-        ("01.5", false, false),
-    ] {
-        assert_eq!(rt; IntValue::valid_syntax(text), is_int, "{text}");
-        assert_eq!(rt; FloatValue::valid_syntax(text), is_float, "{text}");
+    for (text, is_int, is_float) in TEXTS {
+        check_syntax(&rt, text, is_int, is_float);
     }
 }
 

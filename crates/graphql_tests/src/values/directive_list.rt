@@ -44,6 +44,11 @@ fn all_of_a_name(rt: HostRuntime) {
     assert_eq!(rt; all.next().and_then(number), Some(2));
     assert!(rt; all.next().is_none());
     assert!(rt; all.next().is_none());
+}
+
+#[test]
+fn counts_of_a_name(rt: HostRuntime) {
+    let list = list(rt.alloc()).expect(&rt, "memory");
     assert_eq!(rt; list.get_all("a").count(), 2);
     assert_eq!(rt; list.get_all("c").count(), 0);
 }

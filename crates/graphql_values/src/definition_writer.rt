@@ -30,8 +30,8 @@ use graphql_text::place::Place;
 use graphql_text::stack::Stack;
 use graphql_text::target::Target;
 use graphql_text::writers::{
-    ready_comma_lead, write_comma_lead, write_description, write_last_comma, write_name, write_soft,
-    write_tight, write_words,
+    ready_comma_lead, write_comma_lead, write_description, write_last_comma, write_name,
+    write_soft, write_tight, write_words,
 };
 use std::alloc::{AllocError, Global};
 

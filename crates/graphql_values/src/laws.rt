@@ -40,9 +40,9 @@ pub use crate::laws::directives::{
     equal_directives_hash_alike, get_all_ends, specified_argument_errors_compare_by_variant,
 };
 pub use crate::laws::kinds::{
-    layouts_have_the_printed_tokens, printed_tokens_derive_the_tree, syntax_of_directive_definitions,
-    syntax_of_directive_lists, syntax_of_directives, syntax_of_input_value_definitions,
-    syntax_of_values,
+    layouts_have_the_printed_tokens, printed_tokens_derive_the_tree,
+    syntax_of_directive_definitions, syntax_of_directive_lists, syntax_of_directives,
+    syntax_of_input_value_definitions, syntax_of_values,
 };
 pub use crate::laws::readings::{
     refused_numbers, refused_readings, refused_strings, worked_readings, worked_strings,

@@ -1,7 +1,7 @@
 use Rattle.std.proofs.Common.{subst, sym}
 use Rattle.std.proofs.lemmas.Str.{encodes-append}
 use Rattle.graphql_text.specs.Place.{mode_of}
-use Rattle.graphql_tests.proofs.values.type_writer.AloneSyntax.write.Goals as goal
+use Rattle.graphql_values_tests.proofs.values.type_writer.AloneSyntax.write.Goals as goal
 
 pub returns-clause-ok : goal.returns-clause-ok
 returns-clause-ok g c =

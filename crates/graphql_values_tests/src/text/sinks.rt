@@ -99,15 +99,6 @@ fn print_to_writer(list: &Value, alloc: Global, answers: [Answer; 3]) -> (bool, 
     (is_whole, faults, sink.into_inner())
 }
 
-#[test]
-fn a_vector_takes_all(rt: HostRuntime) {
-    let mut sink = VecSink::new(rt.alloc());
-    assert_eq!(rt; sink.put(TEXT), Ok(6));
-    assert_eq!(rt; sink.put(&[]), Ok(0));
-    assert_eq!(rt; (sink.bytes(), sink.faults()), (TEXT, 0));
-    assert_eq!(rt; sink.into_bytes().len(), 6);
-}
-
 /// Prints the list below its text, and answers whether all of both was taken, and the sink.
 fn print_to_vector(list: &Value, alloc: Global) -> (bool, VecSink) {
     let mut sink = VecSink::new(alloc);

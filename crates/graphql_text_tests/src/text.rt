@@ -1,5 +1,4 @@
 //! Strings, writers and sinks.
-mod buffered;
 mod errors;
 mod page;
 mod refusals;

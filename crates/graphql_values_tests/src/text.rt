@@ -1,0 +1,3 @@
+//! Prints into sinks.
+mod buffered;
+mod sinks;

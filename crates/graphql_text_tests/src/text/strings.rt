@@ -1,5 +1,7 @@
 //! Strings as they are written.
 
+ghost use Rattle.std.specs.Prelude.{◌<◌};
+
 use super::page::{Page, blank_page};
 use crate::checks::check_text;
 use graphql_text::place::Place;
@@ -18,7 +20,7 @@ struct OnePiece {
 impl Target for OnePiece {
     ghost wrote = { λ before bytes after. Unit {0} };
 
-    ghost stopped = { λ target. Unit {0} };
+    ghost stopped = { λ target. 0 < target.pieces };
 
     ghost nothing = { λ target. tt };
 

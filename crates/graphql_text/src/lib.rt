@@ -13,6 +13,6 @@ pub mod place;
 mod quoted_string;
 pub mod sink;
 pub mod stack;
-pub mod string;
+mod string;
 pub mod target;
 pub mod writers;

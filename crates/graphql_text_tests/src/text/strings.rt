@@ -5,9 +5,8 @@ ghost use Rattle.std.specs.Prelude.{◌<◌};
 use super::page::{Page, blank_page};
 use crate::checks::check_text;
 use graphql_text::place::Place;
-use graphql_text::string::{write_description, write_string_value};
 use graphql_text::target::Target;
-use graphql_text::writers::write_first_indent;
+use graphql_text::writers::{write_description, write_first_indent, write_string_value};
 use std::alloc::Global;
 use std::process::Abort;
 

@@ -1,8 +1,8 @@
 -- A text that is written in runs: what is passed, and what is still to come.
-use Rattle.std.proofs.Common.{◌≡◌, ℕ, ◌+◌, ◌-◌, ◌<◌, ◌≤◌, Bool, true, false, ◌||◌, List, [], ◌∷◌, ◌++◌, length, take, drop, get_or, refl, ap, ap₂, sym, ◌∙◌, arith, append_assoc, append-nil, length-drop, take_all, flat_map}
+use Rattle.std.proofs.Common.{◌≡◌, ℕ, ◌+◌, ◌-◌, ◌<◌, ◌≤◌, Bool, true, false, ◌||◌, List, [], ◌∷◌, ◌++◌, length, take, drop, get_or, refl, ap, ap₂, sym, ◌∙◌, arith, append_assoc, append-nil, length-drop, take_all, take-append-drop, flat_map}
 use Rattle.std.specs.List.{list_any}
 use Rattle.std.proofs.lemmas.List.{take_more, flat_map_more}
-use Rattle.std.proofs.lemmas.Grind.{common_steps}
+use Rattle.std.proofs.lemmas.Grind.{common_steps, flat_map-append}
 
 -- from one place of a text to another
 abbrev pub run : List ℕ → ℕ → ℕ → List ℕ
@@ -32,6 +32,10 @@ run_plain f t from i h l is e =
 -- one more character that has an escape
 pub run_escape : (f : ℕ → List ℕ) (t escape : List ℕ) (from i : ℕ) → i < length t → escape ≡ f (get_or t i 0) → flat_map f (take i t) ≡ flat_map f (take from t) ++ run t from i → (flat_map f (take from t) ++ run t from i) ++ escape ≡ flat_map f (take (i + 1) t)
 run_escape f t escape from i l is e = ap₂ (λ (x y : List ℕ). x ++ y) (sym e) is ∙ sym (flat_next f t i l)
+
+-- what is taken and what is left, each written out
+pub flat_parted : {X : Type 0} (f : X → List ℕ) (xs : List X) (n : ℕ) → flat_map f (take n xs) ++ flat_map f (drop n xs) ≡ flat_map f xs
+flat_parted f xs n = sym (flat_map-append f (take n xs) (drop n xs)) ∙ ap (flat_map f) (take-append-drop n xs)
 
 pub run_restart : (f : ℕ → List ℕ) (t : List ℕ) (i : ℕ) → flat_map f (take i t) ≡ flat_map f (take i t) ++ run t i i
 run_restart f t i = sym (append-nil (flat_map f (take i t))) ∙ ap (λ x. flat_map f (take i t) ++ x) (sym (run_none t i))

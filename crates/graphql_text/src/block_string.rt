@@ -87,6 +87,9 @@ fn write_runs<O: Target>(out: &mut O, text: &str)
     let mut from = 0;
     let mut i = 0;
     while i < bytes.len() {
+        if out.is_stopped() {
+            return;
+        }
         if begins_with_quotes(&bytes[i..]) {
             write_piece(out, &text[from..i]);
             out.text("\\\"\"\"");
@@ -127,6 +130,9 @@ fn write_over_lines<O: Target>(out: &mut O, prefix: &str, level: usize, value: &
 {
     out.text("\"\"\"");
     for line in value.split('\n') {
+        if out.is_stopped() {
+            return;
+        }
         write_line(out, prefix, level, line);
     }
     line_break(out, prefix, level);

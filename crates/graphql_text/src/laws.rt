@@ -1,12 +1,12 @@
 //! Laws of the definitions in `specs/`. The functions have empty bodies: each stands for what its contract says.
 
-ghost use Rattle.std.specs.Prelude.{◌≡◌, ℕ, Bool, true, false, List, [], ◌∷◌, ◌++◌, ◌↔◌, IsTrue, Option, MatchOption, codes, encode_utf8_all};
+ghost use Rattle.std.specs.Prelude.{◌≡◌, ℕ, Bool, true, false, List, [], ◌∷◌, ◌++◌, ◌↔◌, IsTrue, Option, None, Some, MatchOption, codes, encode_utf8_all};
 ghost use Rattle.std.specs.List.{list_all};
 ghost use Rattle.graphql_base.specs.Names.{begins_in, is_name, is_name_continue};
 ghost use Rattle.graphql_text.specs.BlockForm.{block_text, can_be_block};
 ghost use Rattle.graphql_text.specs.BlockStringValue.{block_string_value, is_blank};
 ghost use Rattle.graphql_text.specs.Characters.{IsSourceText, is_ignored, follows_no_number, is_quote};
-ghost use Rattle.graphql_text.specs.Layout.{IsBlankMode, Item, StringRole, layout, string_text};
+ghost use Rattle.graphql_text.specs.Layout.{AsDescription, Blank, Finish, IsBlankMode, Item, Soft, StringItem, StringRole, Word, comma_group, curly_group, layout, string_text};
 ghost use Rattle.graphql_text.specs.Lines.{LinesAreIndented};
 ghost use Rattle.graphql_text.specs.Literals.{is_float, is_int};
 ghost use Rattle.graphql_text.specs.Printing.{ReadsAlone, print_mode, print_tree};
@@ -74,6 +74,21 @@ pub fn layouts_lex()
         AreApart items → Lexes (layout mode level items) (tokens_of_items items) }
     ensures source { (mode : Option (List ℕ)) (level : ℕ) (items : List Item) → IsBlankMode mode →
         AreApart items → IsSourceText (layout mode level items) }
+{}
+
+/// What layouts give: groups, a description, and a blank between two parts with a line feed at the end.
+#[tactic(auto, unfolding(crate::specs::Layout::text_of_items, crate::specs::Layout::each_after))]
+pub fn worked_layouts()
+    ensures curly_group { layout (Some (codes "  ")) 1 (curly_group ((Word (Name (codes "a")) ∷ []) ∷ (Word (Name (codes "b")) ∷ []) ∷ [])) ≡ codes "  {\n    a\n    b\n  }" }
+    ensures curly_group_on_one_line { layout None 1 (curly_group ((Word (Name (codes "a")) ∷ []) ∷ (Word (Name (codes "b")) ∷ []) ∷ [])) ≡ codes "{ a b }" }
+    ensures empty_curly_group { layout (Some (codes "  ")) 0 (curly_group []) ≡ codes "{}" }
+    ensures comma_group { layout (Some (codes "\t")) 1 (comma_group lbracket rbracket true ((Word (IntValue (codes "1")) ∷ []) ∷ (Word (IntValue (codes "2")) ∷ []) ∷ [])) ≡ codes "\t[\n\t\t1,\n\t\t2,\n\t]" }
+    ensures comma_group_on_one_line { layout None 1 (comma_group lbracket rbracket false ((Word (IntValue (codes "1")) ∷ []) ∷ (Word (IntValue (codes "2")) ∷ []) ∷ [])) ≡ codes "[1, 2]" }
+    ensures empty_comma_group { layout (Some (codes "  ")) 0 (comma_group lbracket rbracket true []) ≡ codes "[]" }
+    ensures description { layout (Some (codes "  ")) 1 (StringItem (codes "d") AsDescription ∷ Soft ∷ Word (Name (codes "a")) ∷ []) ≡ codes "  \"\"\"d\"\"\"\n  a" }
+    ensures description_on_one_line { layout None 0 (StringItem (codes "d") AsDescription ∷ Soft ∷ Word (Name (codes "a")) ∷ []) ≡ codes "\"d\" a" }
+    ensures document { layout (Some (codes "  ")) 1 (Word (Name (codes "a")) ∷ Blank ∷ Word (Name (codes "b")) ∷ Finish ∷ []) ≡ codes "  a\n\n  b\n" }
+    ensures document_on_one_line { layout None 0 (Word (Name (codes "a")) ∷ Blank ∷ Word (Name (codes "b")) ∷ Finish ∷ []) ≡ codes "a b" }
 {}
 
 /// Texts that lex, and what to.

@@ -73,6 +73,9 @@ fn write_runs<O: Target>(out: &mut O, text: &str)
     let mut from = 0;
     for (i, byte) in text.as_bytes().iter().enumerate() {
         if let Some(escape) = escape(*byte) {
+            if out.is_stopped() {
+                return;
+            }
             write_piece(out, &text[from..i]);
             out.text(escape);
             from = i + 1;

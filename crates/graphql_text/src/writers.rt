@@ -2,7 +2,7 @@
 ghost use Rattle.std.specs.Prelude.{◌≡◌, ℕ, ◌≤◌, List, Option, Some, [], ◌∷◌, IsSome, IsTrue, MatchOption, ⊤, codes, encode_utf8_all};
 ghost use Rattle.graphql_base.specs.Name.{name_text};
 ghost use Rattle.graphql_text.specs.Groups.{comma_lead};
-ghost use Rattle.graphql_text.specs.Layout.{Item, Word, Soft, Tight, last_comma, is_broken, first_indent};
+ghost use Rattle.graphql_text.specs.Layout.{Item, Word, Soft, Tight, Blank, Finish, last_comma, is_broken, first_indent};
 ghost use Rattle.graphql_text.specs.Literals.{is_int, is_float};
 ghost use Rattle.graphql_text.specs.Place.{mode_of};
 ghost use Rattle.graphql_text.specs.Tokens.{Name as NameToken, IntValue, FloatValue};
@@ -16,7 +16,8 @@ use graphql_base::name::Name;
 
 /// Writes keywords, punctuators, spaces and commas, which stand alike at every place.
 pub fn write_words<O: Target>(out: &mut O, text: &str)
-    ensures { (mode : Option (List ℕ)) (level : ℕ) (items : List Item) → fixed_text items ≡ Some text.now → WritesItems O.wrote out.old out.new mode level items }
+    ensures bytes { O.wrote out.old text.now out.new }
+    ensures items { (mode : Option (List ℕ)) (level : ℕ) (items : List Item) → fixed_text items ≡ Some text.now → WritesItems O.wrote out.old out.new mode level items }
 {
     out.text(text);
 }
@@ -61,6 +62,29 @@ pub fn write_tight<O: Target>(out: &mut O, place: &Place<'_>)
 {
     match place.prefix {
         Some(prefix) => line_break(out, prefix, place.level),
+        None => {}
+    }
+}
+
+/// Writes an empty line and a break under a prefix, else a space.
+pub fn write_blank<O: Target>(out: &mut O, place: &Place<'_>)
+    ensures { WritesItems O.wrote out.old out.new (mode_of place.now.prefix) place.now.level (Blank ∷ []) }
+{
+    match place.prefix {
+        Some(prefix) => {
+            out.text("\n");
+            line_break(out, prefix, place.level);
+        }
+        None => write_words(out, " "),
+    }
+}
+
+/// Writes a line feed under a prefix, else nothing: the end of a document.
+pub fn write_finish<O: Target>(out: &mut O, place: &Place<'_>)
+    ensures { WritesItems O.wrote out.old out.new (mode_of place.now.prefix) place.now.level (Finish ∷ []) }
+{
+    match place.prefix {
+        Some(_) => out.text("\n"),
         None => {}
     }
 }

@@ -7,8 +7,8 @@ use crate::checks::check_text;
 use graphql_base::name;
 use graphql_text::place::Place;
 use graphql_text::writers::{
-    ready_comma_lead, write_comma_lead, write_first_indent, write_float, write_int,
-    write_last_comma, write_name, write_soft, write_tight, write_words,
+    ready_comma_lead, write_blank, write_comma_lead, write_finish, write_first_indent, write_float,
+    write_int, write_last_comma, write_name, write_soft, write_tight, write_words,
 };
 use std::alloc::Global;
 
@@ -30,18 +30,21 @@ fn page_at(alloc: Global, place: Place<'_>) -> Page
     write_name(&mut out, &name!(a));
     write_soft(&mut out, &place.flat());
     write_words(&mut out, "b");
+    write_blank(&mut out, &place);
+    write_words(&mut out, "c");
+    write_finish(&mut out, &place);
     out
 }
 
-/// A prefix, a level, and the text of a list and two names.
+/// A prefix, a level, and the text of a list and two names, and a third one after a blank.
 #[test]
 fn at_several_places(rt: HostRuntime) {
     for (prefix, level, wanted) in [
-        (Some("  "), 0, "[\n  1,\n  1.5,\n]\na b"),
-        (Some("\t"), 1, "\t[\n\t\t1,\n\t\t1.5,\n\t]\n\ta b"),
-        (Some(""), 7, "[\n1,\n1.5,\n]\na b"),
-        (None, 0, "[1, 1.5] a b"),
-        (None, 7, "[1, 1.5] a b"),
+        (Some("  "), 0, "[\n  1,\n  1.5,\n]\na b\n\nc\n"),
+        (Some("\t"), 1, "\t[\n\t\t1,\n\t\t1.5,\n\t]\n\ta b\n\n\tc\n"),
+        (Some(""), 7, "[\n1,\n1.5,\n]\na b\n\nc\n"),
+        (None, 0, "[1, 1.5] a b c"),
+        (None, 7, "[1, 1.5] a b c"),
     ] {
         let page = page_at(rt.alloc(), Place { prefix, level });
         check_text(&rt, page.text.as_str(), wanted);

@@ -1,14 +1,30 @@
-use Rattle.std.proofs.Common.{◌≡◌, ℕ, ◌∷◌, map, flat_map, List, Bor, lit<}
+use Rattle.std.proofs.Common.{◌≡◌, ℕ, ◌∷◌, ◌++◌, map, flat_map, length, take, drop, List, Bor, lit<, append_assoc}
 use Rattle.std.specs.List.{repeat}
 use Rattle.std.proofs.lemmas.List.{map_push, flat_map_more}
 use Rattle.std.proofs.lemmas.Iterator.Splits.{YieldsList-from_str_split}
-use Rattle.std.proofs.lemmas.Iterator.Consumers.{YieldsList-at, YieldsList-end}
+use Rattle.std.proofs.lemmas.Iterator.Consumers.{YieldsList-at, YieldsList-end, YieldsList-so_far}
 use Rattle.graphql_text.specs.BlockStringValue.{source_lines}
 use Rattle.graphql_text.specs.Characters.{quotes}
 use Rattle.graphql_text.specs.BlockForm.{broken_line}
 use Rattle.graphql_text.proofs.Utf8.{break_in_chars}
+use Rattle.graphql_text.proofs.Runs.{flat_parted}
 use Rattle.graphql_text.proofs.SplitLines.{parts_joined}
 use Rattle.graphql_text.proofs.block_string.write_over_lines.Goals as goal
+
+pub returns-then-is_stopped : goal.returns-then-is_stopped
+returns-then-is_stopped g c =
+    let indent : List ℕ = repeat c.args.level c.args.prefix.now in
+    let lines : List (List ℕ) = source_lines c.args.value.now in
+    let n : ℕ = length c.loop-line.yielded in
+    let front : map (λ (x : Bor (List ℕ)). x.now) c.loop-line.yielded ≡ take n lines = YieldsList-so_far
+    (YieldsList-at c.into_iter-line-iterator.ensures.into_iter_gives
+    (YieldsList-from_str_split 10 c.args.value.now (lit< tt) c.split-line-items.ensures.text c.split-line-items.ensures.has_more c.split-line-items.ensures.pattern))
+    c.loop-line.yielded _ c.loop-line.yielded_by in
+    let done : List ℕ = flat_map (broken_line indent) (take n lines) in
+    let left : List ℕ = flat_map (broken_line indent) (drop n lines) in
+    let idle = g.met.O.Target.idle _ (left ++ ((10 ∷ indent) ++ quotes)) (c.is_stopped.ensures.0 c.if-is_stopped.true) in
+    rw (← flat_parted (broken_line indent) lines n, append_assoc done left ((10 ∷ indent) ++ quotes), ← append_assoc quotes done (left ++ ((10 ∷ indent) ++ quotes)))
+    (g.met.O.Target.more _ _ _ _ _ (rw front at c.loop-line.invariant) idle)
 
 pub loop-line-preserved : goal.loop-line-preserved
 loop-line-preserved g c =

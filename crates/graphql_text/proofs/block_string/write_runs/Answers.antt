@@ -15,6 +15,11 @@ loop-i-init g c = record {
   left = refl;
 }
 
+pub returns-then-is_stopped : goal.returns-then-is_stopped
+returns-then-is_stopped g c =
+    let I = c.loop-i.invariant in
+    rw (← I.left) (g.met.O.Target.more _ _ _ _ _ I.wrote (g.met.O.Target.idle _ _ (c.is_stopped.ensures.0 c.if-is_stopped.true)))
+
 pub loop-i-preserved-then-begins_with_quotes : goal.loop-i-preserved-then-begins_with_quotes
 loop-i-preserved-then-begins_with_quotes g c =
     let t : List ℕ = c.args.text.now in

@@ -1,12 +1,18 @@
 use Rattle.std.proofs.Common.{◌≡◌, ℕ, ◌+◌, ◌<◌, List, [], ◌∷◌, get_or, length, ap, arith, refl}
 use Rattle.std.proofs.lemmas.Str.{IsCharBoundary-start, IsCharBoundary-after_ascii}
 use Rattle.graphql_text.specs.QuotedForm.{quoted_character}
-use Rattle.graphql_text.proofs.Runs.{run_plain, run_escape, run_restart}
+use Rattle.graphql_text.proofs.Runs.{flat_parted, run_plain, run_escape, run_restart}
 use Rattle.graphql_text.proofs.quoted_string.write_runs.Goals as goal
-use Rattle.graphql_text.proofs.quoted_string.write_runs.Goals.{in-Some, in_default}
+use Rattle.graphql_text.proofs.quoted_string.write_runs.Goals.{in-Some+else-is_stopped, in_default}
 
 pub loop-i-init : goal.loop-i-init
 loop-i-init g c = record { order = omega arith; boundary = IsCharBoundary-start c.args.text.now c.utf8.text; plain = refl; wrote = g.met.O.Target.nothing _ }
+
+pub returns-then-is_stopped : goal.returns-then-is_stopped
+returns-then-is_stopped g c =
+    let I = c.loop-i.invariant in
+    rw (← flat_parted quoted_character c.args.text.now c.loop-i.from)
+    (g.met.O.Target.more _ _ _ _ _ I.wrote (g.met.O.Target.idle _ _ (c.is_stopped.ensures.0 c.if-is_stopped.true)))
 
 pub loop-i-preserved : goal.loop-i-preserved
 loop-i-preserved g c =
@@ -15,7 +21,7 @@ loop-i-preserved g c =
     let I = c.loop-i.invariant in
     let within : i < length t = omega (arith, ap length c.as_bytes-byte-items.ensures.value) in
     elim c.match-escape.branch [
-      | in-Some w ↦
+      | in-Some+else-is_stopped w ↦
           let is = rw c.as_bytes-byte-items.ensures.value at w.in-Some.ensures in
           rw (w.from-is, w.out-is) (record {
             order = omega arith;

@@ -1,5 +1,5 @@
 use Rattle.graphql_text.proofs.FixedText.{writes_fixed}
 use Rattle.graphql_text.proofs.writers.write_words.Goals as goal
 
-pub returns : goal.returns
-returns g c = λ mode level items is. writes_fixed mode level items is c.text.ensures
+pub returns-clause-items : goal.returns-clause-items
+returns-clause-items g c = λ mode level items is. writes_fixed mode level items is c.text.ensures

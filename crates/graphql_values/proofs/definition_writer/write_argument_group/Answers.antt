@@ -22,7 +22,7 @@ loop-argument-init g c =
     let broken = is_broken (mode_of c.args.place.now.prefix) in
     let shapes = map (input_value_shape broken) (input_value_trees c.args.arguments.now) in
     let opened = argument_group_opened broken c.args.arguments.now c.requires.some in
-    let bracket = c.write_words.ensures (mode_of c.args.place.now.prefix) c.args.place.now.level (Word (Punctuation lparen) ∷ []) refl in
+    let bracket = c.write_words.ensures.items (mode_of c.args.place.now.prefix) c.args.place.now.level (Word (Punctuation lparen) ∷ []) refl in
     record {
       nesting = omega arith;
       depth = omega arith;
@@ -60,5 +60,5 @@ returns-clause-written g c =
     let broken = is_broken mode in
     let none = ap (λ arguments. comma_rest rparen broken c.loop-argument.is_first (map (input_value_shape broken) (input_value_trees arguments))) (drop_of_length-le c.args.arguments.now c.loop-argument-test.false) in
     let comma = rw c.inner-inner.ensures.prefix at c.write_last_comma.ensures in
-    let bracket = c.write_words-2.ensures mode c.args.place.now.level (Word (Punctuation rparen) ∷ []) refl in
+    let bracket = c.write_words-2.ensures.items mode c.args.place.now.level (Word (Punctuation rparen) ∷ []) refl in
     comma_closed g.met.O.Target.nothing g.met.O.Target.more rparen broken c.loop-argument.invariant.written none c.inner-inner.ensures.level comma c.write_tight.ensures bracket

@@ -11,7 +11,7 @@ unfolding input_value_shape
 returns-clause-written g c =
     let more = g.met.O.Target.more in
     let description = rw c.as_ref.ensures.value at c.write_leading_description.ensures in
-    let name = writes_then more {xs = Word (Name (name_text c.args.input.now.name)) ∷ []} (c.write_name.ensures _ _) (c.write_words.ensures _ _ (Word (Punctuation colon) ∷ Space ∷ []) refl) in
+    let name = writes_then more {xs = Word (Name (name_text c.args.input.now.name)) ∷ []} (c.write_name.ensures _ _) (c.write_words.ensures.items _ _ (Word (Punctuation colon) ∷ Space ∷ []) refl) in
     let type = rw c.deref.ensures at c.write_type.ensures.written _ _ in
     let value = rw c.as_ref-2.ensures.value at c.write_default_value.ensures.written in
     let directives = rw c.deref-2.ensures.value at c.write_directives.ensures.written in

@@ -19,8 +19,8 @@ pub loop-location-init : goal.loop-location-init
 loop-location-init g c = λ mode level.
     let first = location_tree c.in-Some.first.now in
     let all = ap (λ locations. directive_locations_shape (map location_tree locations)) c.in-Some.ensures.cases.0 ∙ locations_opened first (map location_tree c.in-Some.rest.now) in
-    let on = c.write_words.ensures mode level (Space ∷ Word (Name (codes "on")) ∷ Space ∷ []) refl in
-    let name = c.write_words-2.ensures mode level (Word (Name (location_name first)) ∷ []) (location_fixed first ∙ ap Some (sym c.name.ensures)) in
+    let on = c.write_words.ensures.items mode level (Space ∷ Word (Name (codes "on")) ∷ Space ∷ []) refl in
+    let name = c.write_words-2.ensures.items mode level (Word (Name (location_name first)) ∷ []) (location_fixed first ∙ ap Some (sym c.name.ensures)) in
     front_next g.met.O.Target.more (front_none g.met.O.Target.nothing) all (writes_levels (writes_then g.met.O.Target.more on name))
 
 pub returns-then-is_stopped : goal.returns-then-is_stopped
@@ -33,8 +33,8 @@ loop-location-preserved g c = λ mode level.
     let location = location_tree item in
     let step = drop_more c.in-Some.rest.now c.loop-location.location-index Query c.loop-location-test.true in
     let left = ap (λ locations. further_locations (map location_tree locations)) step ∙ locations_next location (map location_tree (drop (c.loop-location.location-index + 1) c.in-Some.rest.now)) in
-    let between = c.write_words-in-loop-location.ensures mode level (Space ∷ Word (Punctuation bar) ∷ Space ∷ []) refl in
-    let name = c.write_words-in-loop-location-2.ensures mode level (Word (Name (location_name location)) ∷ []) (location_fixed location ∙ ap Some (sym c.name-in-loop-location.ensures)) in
+    let between = c.write_words-in-loop-location.ensures.items mode level (Space ∷ Word (Punctuation bar) ∷ Space ∷ []) refl in
+    let name = c.write_words-in-loop-location-2.ensures.items mode level (Word (Name (location_name location)) ∷ []) (location_fixed location ∙ ap Some (sym c.name-in-loop-location.ensures)) in
     front_next g.met.O.Target.more (c.loop-location.invariant mode level) left (writes_levels (writes_then g.met.O.Target.more between name))
 
 pub returns : goal.returns

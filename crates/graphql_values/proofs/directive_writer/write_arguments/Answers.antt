@@ -21,7 +21,7 @@ loop-argument-init g c =
     let more = g.met.O.Target.more in
     let all = c.in-Some.ensures.cases.0 in
     let inner = c.inner-inner.ensures.level ∙ ap (λ level. level + 1) c.flat.ensures.level in
-    let bracket = c.write_words.ensures None c.args.place.now.level (Word (Punctuation lparen) ∷ []) refl in
+    let bracket = c.write_words.ensures.items None c.args.place.now.level (Word (Punctuation lparen) ∷ []) refl in
     let opened = flat_opened g.met.O.Target.nothing more lparen rparen (argument_items (argument_tree c.in-Some.first.now.value)) (map argument_items (argument_trees c.in-Some.rest.now)) inner bracket in
     let first = rw c.deref.ensures at c.write_argument.ensures.written in
     record {
@@ -42,7 +42,7 @@ loop-argument-preserved g c =
     let rest = drop (c.loop-argument.argument-index + 1) c.in-Some.rest.now in
     let step = next_item c.in-Some.rest.now c.loop-argument.argument-index c.argument-item.result c.loop-argument-test.true c.argument-item.is in
     let left = ap (λ arguments. comma_rest rparen false false (map argument_items (argument_trees arguments))) step in
-    let comma = c.write_words-in-loop-argument.ensures None c.inner-inner.result.level (Comma ∷ Space ∷ []) refl in
+    let comma = c.write_words-in-loop-argument.ensures.items None c.inner-inner.result.level (Comma ∷ Space ∷ []) refl in
     let item = rw c.deref-in-loop-argument.ensures at c.write_argument-in-loop-argument.ensures.written in
     record {
       nesting = omega (arith, i.nesting, ap (λ arguments. arguments_nesting (argument_trees arguments)) step);
@@ -55,6 +55,6 @@ returns-clause-written g c =
     let all = c.in-Some.ensures.cases.0 in
     let inner = c.inner-inner.ensures.level ∙ ap (λ level. level + 1) c.flat.ensures.level in
     let none = ap (λ arguments. comma_rest rparen false false (map argument_items (argument_trees arguments))) (drop_of_length-le c.in-Some.rest.now c.loop-argument-test.false) in
-    let bracket = c.write_words-2.ensures None c.args.place.now.level (Word (Punctuation rparen) ∷ []) refl in
+    let bracket = c.write_words-2.ensures.items None c.args.place.now.level (Word (Punctuation rparen) ∷ []) refl in
     let group = flat_closed g.met.O.Target.nothing g.met.O.Target.more rparen c.loop-argument.invariant.written none inner bracket in
     rw all (writes_flat (mode_of c.args.place.now.prefix) (rw all at group))

@@ -11,4 +11,4 @@ unfolding directive_shape
 returns-clause-written g c =
     let more = g.met.O.Target.more in
     let arguments = rw c.deref.ensures.value at c.write_arguments.ensures.written in
-    writes_then more {xs = Word (Punctuation at) ∷ []} (c.write_words.ensures _ _ _ refl) (writes_then more {xs = Word (Name (name_text c.args.directive.now.name)) ∷ []} (c.write_name.ensures _ _) arguments)
+    writes_then more {xs = Word (Punctuation at) ∷ []} (c.write_words.ensures.items _ _ _ refl) (writes_then more {xs = Word (Name (name_text c.args.directive.now.name)) ∷ []} (c.write_name.ensures _ _) arguments)

@@ -24,5 +24,5 @@ loop-directive-preserved g c =
     record {
       nesting = omega (arith, i.nesting, ap (λ directives. directives_nesting (directive_node_trees directives)) step);
       kept = kept_twice i.kept c.write_directive.ensures.kept;
-      written = front_next more i.written (ap (λ directives. directives_shape (directive_node_trees directives)) step) (writes_levels (writes_then more {xs = Space ∷ []} (c.write_words.ensures _ _ _ refl) directive));
+      written = front_next more i.written (ap (λ directives. directives_shape (directive_node_trees directives)) step) (writes_levels (writes_then more {xs = Space ∷ []} (c.write_words.ensures.items _ _ _ refl) directive));
     }

@@ -21,7 +21,7 @@ loop-inner-preserved-in-List g c =
       need = omega (arith, opened.need, c.loop-inner.invariant.need, c.push.ensures.room);
       room = omega (arith, c.loop-inner.invariant.room, c.push.ensures.room);
       written = λ after mode level rest.
-          c.loop-inner.invariant.written after mode level (rw opened.left (writes_then g.met.O.Target.more (c.write_words-in-List.ensures mode level (Word (Punctuation lbracket) ∷ []) refl) rest));
+          c.loop-inner.invariant.written after mode level (rw opened.left (writes_then g.met.O.Target.more (c.write_words-in-List.ensures.items mode level (Word (Punctuation lbracket) ∷ []) refl) rest));
     }
 
 pub loop-inner-preserved : goal.loop-inner-preserved
@@ -31,7 +31,7 @@ loop-inner-preserved g c =
       need = omega (arith, opened.need, c.loop-inner.invariant.need, c.push-in-NonNullList.ensures.room);
       room = omega (arith, c.loop-inner.invariant.room, c.push-in-NonNullList.ensures.room);
       written = λ after mode level rest.
-          c.loop-inner.invariant.written after mode level (rw opened.left (writes_then g.met.O.Target.more (c.write_words-in-NonNullList.ensures mode level (Word (Punctuation lbracket) ∷ []) refl) rest));
+          c.loop-inner.invariant.written after mode level (rw opened.left (writes_then g.met.O.Target.more (c.write_words-in-NonNullList.ensures.items mode level (Word (Punctuation lbracket) ∷ []) refl) rest));
     }
 
 pub returns-clause-written : goal.returns-clause-written
@@ -45,6 +45,6 @@ returns-clause-written g c = λ mode level.
           rw shape (writes_then g.met.O.Target.more name (rw (← w.out-is) ends))
       | in-NonNullNamed w ↦
           let shape = ap (λ ty. type_shape (type_tree ty)) w.in-NonNullNamed.is ∙ non_null_named_shape w.in-NonNullNamed.name in
-          let name = writes_then g.met.O.Target.more (w.write_name-in-NonNullNamed.ensures mode level) (w.write_words.ensures mode level (Word (Punctuation bang) ∷ []) refl) in
+          let name = writes_then g.met.O.Target.more (w.write_name-in-NonNullNamed.ensures mode level) (w.write_words.ensures.items mode level (Word (Punctuation bang) ∷ []) refl) in
           rw shape (writes_then g.met.O.Target.more name (rw (← w.out-is) ends))
     ])

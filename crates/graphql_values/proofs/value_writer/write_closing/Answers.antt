@@ -8,4 +8,4 @@ returns-clause-written g c = λ items is.
     let more = g.met.O.Target.more in
     levels_then more (writes_levels c.write_last_comma.ensures)
     (levels_then more (levels_lower g.met.O.Target.nothing (omega (arith, c.requires)))
-    (writes_levels (writes_then more {xs = Tight ∷ []} c.write_tight.ensures (c.write_words.ensures _ _ items is))))
+    (writes_levels (writes_then more {xs = Tight ∷ []} c.write_tight.ensures (c.write_words.ensures.items _ _ items is))))

@@ -21,7 +21,7 @@ loop-field-preserved g c =
     let broken = is_broken (mode_of c.args.here.now.prefix) in
     let i = c.loop-field.invariant in
     let split = c.in-Some.ensures.cases.0 in
-    let name = writes_then more {xs = Word (Name (name_text c.in-Some.field.now.0)) ∷ []} (c.write_name.ensures _ _) (c.write_words.ensures _ _ (Word (Punctuation colon) ∷ Space ∷ []) refl) in
+    let name = writes_then more {xs = Word (Name (name_text c.in-Some.field.now.0)) ∷ []} (c.write_name.ensures _ _) (c.write_words.ensures.items _ _ (Word (Punctuation colon) ∷ Space ∷ []) refl) in
     let leaf = rw c.deref-in-Some.ensures at c.write_leaf.ensures in
     let lead = front_next more i.written (ap (λ fields. comma_rest rbrace broken c.loop-field.first (object_fields_shapes broken (object_field_trees fields))) split) (writes_levels c.write_comma_lead.ensures) in
     record {

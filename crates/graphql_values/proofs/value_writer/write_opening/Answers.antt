@@ -20,7 +20,7 @@ returns-clause-written g c =
       | in-Some w ↦
           let parted = c.put_inner.ensures.items b ∙ ap (λ word. word ++ later) (group_opening b tree w.in-Some.ensures.0) in
           rw (w.out-is, w.here-is)
-          (front_next more (front_none nothing) parted (levels_then more (writes_levels (w.write_words.ensures _ _ (opening_word tree) w.in-Some.ensures.1)) (levels_raise nothing refl)))
+          (front_next more (front_none nothing) parted (levels_then more (writes_levels (w.write_words.ensures.items _ _ (opening_word tree) w.in-Some.ensures.1)) (levels_raise nothing refl)))
       | in-None w ↦
           let parted = c.put_inner.ensures.items b ∙ ap (λ word. word ++ later) (leaf_opening b tree w.in-None.ensures) in
           rw (w.out-is, w.here-is) (front_next more (front_none nothing) parted (writes_levels w.write_leaf.ensures))

@@ -1,0 +1,12 @@
+use Rattle.std.proofs.Common.{refl}
+use Rattle.std.proofs.Math.Utf8.{encode}
+use Rattle.graphql_text.proofs.WritingLaws.{writes_item}
+use Rattle.graphql_text.proofs.writers.write_blank.Goals as goal
+
+pub returns-in-Some : goal.returns-in-Some
+unfolding encode
+returns-in-Some g c = rw c.in-Some.is (writes_item refl (g.met.O.Target.more _ _ _ _ _ c.text.ensures c.line_break.ensures))
+
+pub returns-in-None : goal.returns-in-None
+unfolding encode
+returns-in-None g c = rw c.in-None.is (writes_item refl c.write_words.ensures.bytes)

@@ -319,7 +319,7 @@ pub fn run_vectors<W: Write, E: Write>(
     ensures unknown { (result.0 ≡ 2) ↔ (name_a_vector words.now ≡ false) }
     ensures untouched { result.0 ≡ 2 → W.contents result.1 ≡ W.contents out }
 
-    // A whole print: a value's layout and a line feed are written on `out`, and nothing on `err`.
+    // A whole print: a tree's layout and a line feed are written on `out`, and nothing on `err`.
     ensures printed { result.0 ≡ 0 → GrowsByLine (W.contents out) (W.contents result.1) }
     ensures silent { result.0 ≡ 0 → result.2 ≡ err }
 {

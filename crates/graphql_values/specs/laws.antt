@@ -1,4 +1,4 @@
--- Lemmas, no definitions: what the laws of the kinds follow from.
+-- What the laws of the kinds follow from: lemmas, and helper definitions that no contract cites.
 pub mod ValueReading
 pub mod DirectiveReading
 pub mod TypeReading

@@ -78,6 +78,43 @@ fn nodes_are_made_or_refused(rt: HostRuntime) {
     check_placed(&rt, &node, "old");
 }
 
+fn placed_text(alloc: Global) -> Result<NodeStr, AllocError> {
+    match SourceSpan::new(FileId::new(5), 10, 14) {
+        Some(span) => NodeStr::new_str_parsed(alloc, "text", span),
+        None => NodeStr::new_str(alloc, "text"),
+    }
+}
+
+fn check_placed_text(rt: &impl Abort, node: &NodeStr) {
+    assert_eq!(rt;
+        (node.as_str(), node.location()),
+        ("text", SourceSpan::new(FileId::new(5), 10, 14))
+    );
+}
+
+#[test]
+fn texts_are_placed_or_refused(rt: HostRuntime) {
+    let Ok(text) = placed_text(rt.alloc()) else {
+        return;
+    };
+    if let Ok(beside) = text.same_location(rt.alloc(), 1u8) {
+        assert_eq!(rt; *beside, 1);
+        assert_eq!(rt; beside.location(), text.location());
+    }
+    check_placed_text(&rt, &text);
+}
+
+#[test]
+fn texts_are_cloned_or_refused(rt: HostRuntime) {
+    let Ok(text) = placed_text(rt.alloc()) else {
+        return;
+    };
+    if let Ok(copy) = text.clone() {
+        check_placed_text(&rt, &copy);
+    }
+    check_placed_text(&rt, &text);
+}
+
 fn check_refusal(rt: &impl Abort, error: &NameError, text: &str) {
     if let NameError::Invalid(InvalidNameError { name, location }) = error {
         assert_eq!(rt; (name.as_str(), *location), (text, None));
@@ -128,4 +165,52 @@ fn texts_of_names_are_shared_or_refused(rt: HostRuntime) {
         Ok(text) => assert_eq!(rt; text.as_str(), "abc"),
         Err(AllocError) => assert!(rt; false, "a shared text takes no memory"),
     }
+}
+
+fn placed_name(alloc: Global) -> Result<Name, NameError> {
+    let name = Name::new(alloc, "abc")?;
+    match SourceSpan::new(FileId::new(5), 10, 13) {
+        Some(span) => Ok(name.with_location(span)),
+        None => Ok(name),
+    }
+}
+
+fn check_placed_name(rt: &impl Abort, name: &Name) {
+    assert_eq!(rt;
+        (name.as_str(), name.location()),
+        ("abc", SourceSpan::new(FileId::new(5), 10, 13))
+    );
+    assert!(rt; name.as_static_str().is_none());
+}
+
+#[test]
+fn names_are_cloned_or_refused(rt: HostRuntime) {
+    let Ok(name) = placed_name(rt.alloc()) else {
+        return;
+    };
+    if let Ok(copy) = name.clone() {
+        check_placed_name(&rt, &copy);
+    }
+    check_placed_name(&rt, &name);
+}
+
+#[test]
+fn static_names_are_cloned_without_memory(rt: HostRuntime) {
+    let name = Name::new_static_unchecked("abc");
+    match name.clone() {
+        Ok(copy) => assert_eq!(rt; copy.as_static_str(), Some("abc")),
+        Err(AllocError) => assert!(rt; false, "a static text takes no memory"),
+    }
+}
+
+#[test]
+fn errors_of_names_are_cloned_or_refused(rt: HostRuntime) {
+    let Err(error) = Name::new(rt.alloc(), "1nvalid") else {
+        assert!(rt; false, "no name");
+        return;
+    };
+    if let Ok(copy) = error.clone() {
+        assert_eq!(rt; copy, error);
+    }
+    check_refusal(&rt, &error, "1nvalid");
 }

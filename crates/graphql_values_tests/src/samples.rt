@@ -1,4 +1,5 @@
 //! Small trees of which the examples are made.
+use graphql_base::name;
 use graphql_base::name::Name;
 use graphql_base::node::Node;
 use graphql_values::definition::{DirectiveDefinition, InputValueDefinition};
@@ -19,6 +20,17 @@ pub(crate) fn one(alloc: Global) -> Result<Value, AllocError> {
 /// `[1, 2]`
 pub(crate) fn numbers(alloc: Global) -> Result<Value, AllocError> {
     let items = vec![in alloc; number(alloc, 1)?, number(alloc, 2)?]?;
+    Ok(Value::List(items))
+}
+
+/// `[1, EXAMPLE, true, null]`
+pub(crate) fn items(alloc: Global) -> Result<Value, AllocError> {
+    let items = vec![in alloc;
+        number(alloc, 1)?,
+        Node::new(alloc, Value::Enum(name!(EXAMPLE)))?,
+        Node::new(alloc, Value::from(true))?,
+        Node::new(alloc, Value::Null)?,
+    ]?;
     Ok(Value::List(items))
 }
 

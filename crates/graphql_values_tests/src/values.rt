@@ -7,6 +7,7 @@ mod directive_definition_syntax;
 mod directive_list;
 mod directive_syntax;
 mod displays;
+mod growths;
 mod input_value_syntax;
 mod literal;
 mod location;

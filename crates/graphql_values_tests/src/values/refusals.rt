@@ -20,7 +20,7 @@ use std::alloc::{AllocError, Global};
 use std::io::Cursor;
 
 // `@a(x: true, y: false)`
-fn directive(alloc: Global) -> Result<Directive, AllocError> {
+pub(crate) fn directive(alloc: Global) -> Result<Directive, AllocError> {
     let bare = Directive::new(alloc, name!(a));
     let x = Node::new(alloc, Value::from(true))?;
     let with_x = with_argument(alloc, bare, name!(x), x)?;
@@ -186,7 +186,7 @@ fn no_memory_is_asked_without_lists(rt: HostRuntime) {
 }
 
 // `a: [[I!]] = [[], 1.5]`
-fn input(alloc: Global) -> Result<InputValueDefinition, AllocError> {
+pub(crate) fn input(alloc: Global) -> Result<InputValueDefinition, AllocError> {
     let mut input = input_value(alloc, name!(a), ty!(in alloc; [[I!]])?)?;
     input.default_value = Some(Node::new(alloc, list(alloc)?)?);
     Ok(input)

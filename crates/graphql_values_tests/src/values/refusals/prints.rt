@@ -1,27 +1,12 @@
 //! Trees that are printed or refused.
 use super::{definition, directive, directives, input, list};
 use crate::checks::{check_print_or_refused, check_text_or_refused};
-use crate::samples::number;
-use graphql_base::name;
-use graphql_base::node::Node;
+use crate::samples::items;
 use graphql_text::engine::PrintError;
 use graphql_text::sink::{TextSink, VecSink};
-use graphql_values::value::Value;
-use std::alloc::{AllocError, Global};
 use std::process::Abort;
 
 const DEFINITION: &str = "directive @d(a: [[I!]] = [[], 1.5])";
-
-// `[1, EXAMPLE, true, null]`
-fn items(alloc: Global) -> Result<Value, AllocError> {
-    let items = vec![in alloc;
-        number(alloc, 1)?,
-        Node::new(alloc, Value::Enum(name!(EXAMPLE)))?,
-        Node::new(alloc, Value::from(true))?,
-        Node::new(alloc, Value::Null)?,
-    ]?;
-    Ok(Value::List(items))
-}
 
 #[test]
 fn items_are_printed_or_none_is(rt: HostRuntime) {

@@ -1,0 +1,112 @@
+//! How often calls ask for memory. A test `NAME_built` makes what a call is given, and `NAME_then_CALL_takes_COUNT` makes it and
+//! calls. Each fails where any of its growths is refused, and `tools/growths.sh` compares how many those are.
+use crate::samples::items;
+use crate::values::refusals::{directive, input};
+use graphql_text::engine::{Serialize, Syntax};
+use graphql_text::sink::StreamSink;
+use graphql_values::arguments::SpecifiedArgumentError;
+use graphql_values::directive::Directive;
+use std::alloc::{AllocError, Global};
+use std::io::Cursor;
+use std::process::Abort;
+
+// A print on one line into a writer that asks for no memory.
+fn check_printed<T: Syntax>(rt: &impl Abort, tree: &T) {
+    let mut sink = StreamSink::new(Cursor::new([0; 32]));
+    let result = Serialize::new(tree).no_indent().print_to(&mut sink);
+    assert!(rt; result.is_ok());
+}
+
+#[test]
+fn list_built(rt: HostRuntime) {
+    let _list = items(rt.alloc()).expect(&rt, "memory");
+}
+
+#[test]
+fn list_then_printed_takes_1(rt: HostRuntime) {
+    let list = items(rt.alloc()).expect(&rt, "memory");
+    check_printed(&rt, &list);
+}
+
+#[test]
+fn directive_built(rt: HostRuntime) {
+    let _directive = directive(rt.alloc()).expect(&rt, "memory");
+}
+
+#[test]
+fn directive_then_printed_takes_1(rt: HostRuntime) {
+    let directive = directive(rt.alloc()).expect(&rt, "memory");
+    check_printed(&rt, &directive);
+}
+
+#[test]
+fn input_value_built(rt: HostRuntime) {
+    let _input = input(rt.alloc()).expect(&rt, "memory");
+}
+
+#[test]
+fn input_value_then_printed_takes_2(rt: HostRuntime) {
+    let input = input(rt.alloc()).expect(&rt, "memory");
+    check_printed(&rt, &input);
+}
+
+// `@a(x: true, y: false)` twice, which share both arguments.
+fn all_shared(alloc: Global) -> Result<(Directive, Directive), AllocError> {
+    let directive = directive(alloc)?;
+    let copy = directive.clone()?;
+    Ok((directive, copy))
+}
+
+fn check_lent(rt: &impl Abort, directive: &mut Directive, name: &str) {
+    assert!(rt; directive.specified_argument_by_name_mut(name).is_ok());
+}
+
+#[test]
+fn all_shared_built(rt: HostRuntime) {
+    let _both = all_shared(rt.alloc()).expect(&rt, "memory");
+}
+
+#[test]
+fn all_shared_then_x_lent_takes_1(rt: HostRuntime) {
+    let (_directive, mut lent) = all_shared(rt.alloc()).expect(&rt, "memory");
+    check_lent(&rt, &mut lent, "x");
+}
+
+#[test]
+fn all_shared_then_y_lent_takes_1(rt: HostRuntime) {
+    let (_directive, mut lent) = all_shared(rt.alloc()).expect(&rt, "memory");
+    check_lent(&rt, &mut lent, "y");
+}
+
+#[test]
+fn all_shared_then_z_not_lent_takes_0(rt: HostRuntime) {
+    let (_directive, mut lent) = all_shared(rt.alloc()).expect(&rt, "memory");
+    let error = lent.specified_argument_by_name_mut("z").err();
+    assert_eq!(rt; error, Some(SpecifiedArgumentError::NotSpecified));
+}
+
+#[test]
+fn only_x_shared_built(rt: HostRuntime) {
+    let (_directive, mut lent) = all_shared(rt.alloc()).expect(&rt, "memory");
+    check_lent(&rt, &mut lent, "y");
+}
+
+#[test]
+fn only_x_shared_then_x_lent_takes_1(rt: HostRuntime) {
+    let (_directive, mut lent) = all_shared(rt.alloc()).expect(&rt, "memory");
+    check_lent(&rt, &mut lent, "y");
+    check_lent(&rt, &mut lent, "x");
+}
+
+#[test]
+fn only_y_shared_built(rt: HostRuntime) {
+    let (_directive, mut lent) = all_shared(rt.alloc()).expect(&rt, "memory");
+    check_lent(&rt, &mut lent, "x");
+}
+
+#[test]
+fn only_y_shared_then_y_lent_takes_1(rt: HostRuntime) {
+    let (_directive, mut lent) = all_shared(rt.alloc()).expect(&rt, "memory");
+    check_lent(&rt, &mut lent, "x");
+    check_lent(&rt, &mut lent, "y");
+}

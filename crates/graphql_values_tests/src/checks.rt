@@ -1,9 +1,11 @@
-//! What the examples compare.
+//! What the examples compare, and the writers and sinks that they print into.
+ghost use Rattle.std.specs.Prelude.{◌≡◌, None};
+
 use graphql_text::engine::{PrintError, Serialize, Syntax};
-use graphql_text::sink::{StreamSink, TextSink};
+use graphql_text::sink::{SinkFault, StreamSink, TextSink};
 use std::alloc::Global;
-use std::fmt::Debug;
-use std::io::Cursor;
+use std::fmt::{self, Debug, Display, Write};
+use std::io::{self, Cursor};
 use std::process::Abort;
 
 pub(crate) fn check_text(rt: &impl Abort, found: &str, wanted: &str) {
@@ -42,14 +44,105 @@ pub(crate) fn check_text_or_refused<T: Syntax>(
     }
 }
 
-/// A print on one line into a writer that asks for no memory: all of it, or nothing where memory is refused.
-pub(crate) fn check_print_or_refused<T: Syntax>(rt: &impl Abort, tree: &T, wanted: &str) {
+// The print on one line into a writer that asks for no memory, and what the writer took.
+fn printed<T: Syntax>(rt: &impl Abort, tree: &T) -> (Result<(), PrintError>, Cursor<[u8; 48]>) {
     let mut sink = StreamSink::new(Cursor::new([0; 48]));
     let result = Serialize::new(tree).no_indent().print_to(&mut sink);
-    assert!(rt; result == Ok(()) || result == Err(PrintError::Memory));
     assert_eq!(rt; sink.faults(), 0);
-    let wanted = if result.is_ok() { wanted } else { "" };
-    let writer = sink.into_inner();
-    assert_eq!(rt; writer.position(), wanted.len() as u64);
-    assert!(rt; writer.into_inner().starts_with(wanted.as_bytes()));
+    (result, sink.into_inner())
+}
+
+fn check_taken(rt: &impl Abort, taken: Cursor<[u8; 48]>, wanted: &str) {
+    assert_eq!(rt; taken.position(), wanted.len() as u64);
+    assert!(rt; taken.into_inner().starts_with(wanted.as_bytes()));
+}
+
+/// All of the print, even where memory is refused.
+pub(crate) fn check_printed<T: Syntax>(rt: &impl Abort, tree: &T, wanted: &str) {
+    let (result, taken) = printed(rt, tree);
+    assert_eq!(rt; result, Ok(()));
+    check_taken(rt, taken, wanted);
+}
+
+/// All of the print, or nothing where memory is refused.
+pub(crate) fn check_print_or_refused<T: Syntax>(rt: &impl Abort, tree: &T, wanted: &str) {
+    let (result, taken) = printed(rt, tree);
+    assert!(rt; result == Ok(()) || result == Err(PrintError::Memory));
+    check_taken(rt, taken, if result.is_ok() { wanted } else { "" });
+}
+
+/// A formatter over 48 bytes.
+#[derive(Drop)]
+pub(crate) struct Page {
+    pub(crate) bytes: Cursor<[u8; 48]>,
+}
+
+impl Page {
+    pub(crate) fn new() -> Page {
+        Page {
+            bytes: Cursor::new([0; 48]),
+        }
+    }
+}
+
+impl fmt::Write for Page {
+    fn write_str(&mut self, text: &str) -> fmt::Result {
+        match io::Write::write(&mut self.bytes, text.as_bytes()) {
+            Ok(count) if count == text.len() => Ok(()),
+            _ => Err(fmt::Error),
+        }
+    }
+}
+
+// All of it is displayed, or nothing where memory is refused.
+pub(crate) fn check_displayed_or_refused<T: Display>(rt: &impl Abort, tree: &T, wanted: &str) {
+    let mut page = Page::new();
+    let result = write!(page, "{tree}");
+    check_taken(rt, page.bytes, if result.is_ok() { wanted } else { "" });
+}
+
+/// A sink with room for so many bytes, which takes all of a call or none, and then faults. It counts its calls, those with no
+/// byte, and those after a fault.
+#[derive(Drop)]
+pub(crate) struct Counting {
+    pub(crate) room: usize,
+    pub(crate) faults: u64,
+    pub(crate) calls: usize,
+    pub(crate) wrong_calls: usize,
+}
+
+impl Counting {
+    pub(crate) fn with_room(room: usize) -> Counting
+        ensures { result.faults ≡ 0 }
+    {
+        Counting {
+            room,
+            faults: 0,
+            calls: 0,
+            wrong_calls: 0,
+        }
+    }
+}
+
+impl TextSink for Counting {
+    ghost taken = { λ sink. None };
+
+    ghost fault_count = { λ sink. sink.faults };
+
+    fn put(&mut self, bytes: &[u8]) -> Result<usize, SinkFault> {
+        self.calls = self.calls.saturating_add(1);
+        if bytes.is_empty() || self.faults > 0 {
+            self.wrong_calls = self.wrong_calls.saturating_add(1);
+        }
+        if bytes.len() <= self.room {
+            self.room -= bytes.len();
+            return Ok(bytes.len());
+        }
+        self.faults += 1;
+        Err(SinkFault)
+    }
+
+    fn faults(&self) -> u64 {
+        self.faults
+    }
 }

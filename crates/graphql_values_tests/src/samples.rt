@@ -4,6 +4,8 @@ use graphql_base::name::Name;
 use graphql_base::node::Node;
 use graphql_values::definition::{DirectiveDefinition, InputValueDefinition};
 use graphql_values::directive::{Argument, Directive, DirectiveList};
+use graphql_values::literal::FloatValue;
+use graphql_values::ty;
 use graphql_values::types::Type;
 use graphql_values::value::Value;
 use std::alloc::{AllocError, Global};
@@ -80,4 +82,46 @@ pub(crate) fn directive_definition(alloc: Global, name: Name) -> DirectiveDefini
         repeatable: false,
         locations: Vec::new(alloc),
     }
+}
+
+/// `@a(x: true, y: false)`
+pub(crate) fn directive(alloc: Global) -> Result<Directive, AllocError> {
+    let bare = Directive::new(alloc, name!(a));
+    let x = Node::new(alloc, Value::from(true))?;
+    let with_x = with_argument(alloc, bare, name!(x), x)?;
+    let y = Node::new(alloc, Value::from(false))?;
+    with_argument(alloc, with_x, name!(y), y)
+}
+
+/// `@a @b`
+pub(crate) fn directives(alloc: Global) -> Result<DirectiveList, AllocError> {
+    let nodes = vec![in alloc;
+        Node::new(alloc, Directive::new(alloc, name!(a)))?,
+        Node::new(alloc, Directive::new(alloc, name!(b)))?,
+    ]?;
+    Ok(DirectiveList(nodes))
+}
+
+/// `[[], 1.5]`
+pub(crate) fn nested(alloc: Global) -> Result<Value, AllocError> {
+    let float = FloatValue::new_parsed(alloc, "1.5")?;
+    let items = vec![in alloc;
+        Node::new(alloc, Value::List(Vec::new(alloc)))?,
+        Node::new(alloc, Value::Float(float))?,
+    ]?;
+    Ok(Value::List(items))
+}
+
+/// `a: [[I!]] = [[], 1.5]`
+pub(crate) fn input(alloc: Global) -> Result<InputValueDefinition, AllocError> {
+    let mut input = input_value(alloc, name!(a), ty!(in alloc; [[I!]])?)?;
+    input.default_value = Some(Node::new(alloc, nested(alloc)?)?);
+    Ok(input)
+}
+
+/// `directive @d(a: [[I!]] = [[], 1.5])`
+pub(crate) fn definition(alloc: Global) -> Result<DirectiveDefinition, AllocError> {
+    let mut definition = directive_definition(alloc, name!(d));
+    definition.arguments.push(Node::new(alloc, input(alloc)?)?)?;
+    Ok(definition)
 }

@@ -18,54 +18,38 @@ use crate::directive::{Directive, DirectiveList};
 use crate::value::Value;
 use graphql_text::engine::Syntax;
 
-/// What `Syntax` of values says: their trees, layouts, nesting, side conditions and grammar, and how many parts wait on stacks.
-pub fn syntax_of_values()
-    ensures tree { ⟦<Value as Syntax>⟧.tree ≡ value_tree }
-    ensures shape { ⟦<Value as Syntax>⟧.shape ≡ (λ broken is_front. value_shape broken) }
-    ensures nesting { ⟦<Value as Syntax>⟧.nesting ≡ value_nesting }
-    ensures parts { ⟦<Value as Syntax>⟧.parts ≡ value_nesting }
-    ensures obeys { (tree : ValueTree) → ⟦<Value as Syntax>⟧.obeys tree ↔ IsTrue (value_obeys NonConst tree) }
-    ensures derives { (tree : ValueTree) (tokens rest : List Token) → ⟦<Value as Syntax>⟧.derives tree tokens rest ↔ value_form NonConst tree tokens rest }
-{}
-
-/// What `Syntax` of directives says: their trees, layouts, nesting, side conditions and grammar, and how many parts wait on stacks.
-pub fn syntax_of_directives()
-    ensures tree { ⟦<Directive as Syntax>⟧.tree ≡ directive_tree }
-    ensures shape { ⟦<Directive as Syntax>⟧.shape ≡ (λ broken is_front. directive_shape) }
-    ensures nesting { ⟦<Directive as Syntax>⟧.nesting ≡ directive_nesting }
-    ensures parts { ⟦<Directive as Syntax>⟧.parts ≡ directive_nesting }
-    ensures obeys { (tree : DirectiveTree) → ⟦<Directive as Syntax>⟧.obeys tree ↔ IsTrue (directive_obeys NonConst tree) }
-    ensures derives { (tree : DirectiveTree) (tokens rest : List Token) → ⟦<Directive as Syntax>⟧.derives tree tokens rest ↔ directive_form NonConst tree tokens rest }
-{}
-
-/// What `Syntax` of lists of directives says: their trees, layouts, nesting, side conditions and grammar, and how many parts wait on stacks.
-pub fn syntax_of_directive_lists()
-    ensures tree { ⟦<DirectiveList as Syntax>⟧.tree ≡ directive_trees }
-    ensures shape { ⟦<DirectiveList as Syntax>⟧.shape ≡ (λ broken is_front. directives_shape) }
-    ensures nesting { ⟦<DirectiveList as Syntax>⟧.nesting ≡ directives_nesting }
-    ensures parts { ⟦<DirectiveList as Syntax>⟧.parts ≡ directives_nesting }
-    ensures obeys { (tree : List DirectiveTree) → ⟦<DirectiveList as Syntax>⟧.obeys tree ↔ IsTrue (directives_obey NonConst tree) }
-    ensures derives { (tree : List DirectiveTree) (tokens rest : List Token) → ⟦<DirectiveList as Syntax>⟧.derives tree tokens rest ↔ directives_form NonConst tree tokens rest }
-{}
-
-/// What `Syntax` of input value definitions says: their trees, layouts, nesting, side conditions and grammar, and how many parts wait on stacks.
-pub fn syntax_of_input_value_definitions()
-    ensures tree { ⟦<InputValueDefinition as Syntax>⟧.tree ≡ input_value_tree }
-    ensures shape { ⟦<InputValueDefinition as Syntax>⟧.shape ≡ (λ broken is_front. input_value_shape broken) }
-    ensures nesting { ⟦<InputValueDefinition as Syntax>⟧.nesting ≡ input_value_nesting }
-    ensures parts { ⟦<InputValueDefinition as Syntax>⟧.parts ≡ input_value_parts }
-    ensures obeys { (tree : InputValueTree) → ⟦<InputValueDefinition as Syntax>⟧.obeys tree ↔ IsTrue (input_value_obeys tree) }
-    ensures derives { (tree : InputValueTree) (tokens rest : List Token) → ⟦<InputValueDefinition as Syntax>⟧.derives tree tokens rest ↔ input_value_form tree tokens rest }
-{}
-
-/// What `Syntax` of directive definitions says: their trees, layouts, nesting, side conditions and grammar, and how many parts wait on stacks.
-pub fn syntax_of_directive_definitions()
-    ensures tree { ⟦<DirectiveDefinition as Syntax>⟧.tree ≡ directive_definition_tree }
-    ensures shape { ⟦<DirectiveDefinition as Syntax>⟧.shape ≡ (λ broken is_front. directive_definition_shape broken) }
-    ensures nesting { ⟦<DirectiveDefinition as Syntax>⟧.nesting ≡ directive_definition_nesting }
-    ensures parts { ⟦<DirectiveDefinition as Syntax>⟧.parts ≡ directive_definition_parts }
-    ensures obeys { (tree : DirectiveDefinitionTree) → ⟦<DirectiveDefinition as Syntax>⟧.obeys tree ↔ IsTrue (directive_definition_obeys tree) }
-    ensures derives { (tree : DirectiveDefinitionTree) (tokens rest : List Token) → ⟦<DirectiveDefinition as Syntax>⟧.derives tree tokens rest ↔ directive_definition_form tree tokens rest }
+/// What `Syntax` of each kind says: its tree, layout, nesting, side conditions and grammar, and how many parts wait on stacks.
+pub fn syntax_of_each_kind()
+    ensures tree_of_values { ⟦<Value as Syntax>⟧.tree ≡ value_tree }
+    ensures shape_of_values { ⟦<Value as Syntax>⟧.shape ≡ (λ broken is_front. value_shape broken) }
+    ensures nesting_of_values { ⟦<Value as Syntax>⟧.nesting ≡ value_nesting }
+    ensures parts_of_values { ⟦<Value as Syntax>⟧.parts ≡ value_nesting }
+    ensures obeys_of_values { (tree : ValueTree) → ⟦<Value as Syntax>⟧.obeys tree ↔ IsTrue (value_obeys NonConst tree) }
+    ensures derives_of_values { (tree : ValueTree) (tokens rest : List Token) → ⟦<Value as Syntax>⟧.derives tree tokens rest ↔ value_form NonConst tree tokens rest }
+    ensures tree_of_directives { ⟦<Directive as Syntax>⟧.tree ≡ directive_tree }
+    ensures shape_of_directives { ⟦<Directive as Syntax>⟧.shape ≡ (λ broken is_front. directive_shape) }
+    ensures nesting_of_directives { ⟦<Directive as Syntax>⟧.nesting ≡ directive_nesting }
+    ensures parts_of_directives { ⟦<Directive as Syntax>⟧.parts ≡ directive_nesting }
+    ensures obeys_of_directives { (tree : DirectiveTree) → ⟦<Directive as Syntax>⟧.obeys tree ↔ IsTrue (directive_obeys NonConst tree) }
+    ensures derives_of_directives { (tree : DirectiveTree) (tokens rest : List Token) → ⟦<Directive as Syntax>⟧.derives tree tokens rest ↔ directive_form NonConst tree tokens rest }
+    ensures tree_of_directive_lists { ⟦<DirectiveList as Syntax>⟧.tree ≡ directive_trees }
+    ensures shape_of_directive_lists { ⟦<DirectiveList as Syntax>⟧.shape ≡ (λ broken is_front. directives_shape) }
+    ensures nesting_of_directive_lists { ⟦<DirectiveList as Syntax>⟧.nesting ≡ directives_nesting }
+    ensures parts_of_directive_lists { ⟦<DirectiveList as Syntax>⟧.parts ≡ directives_nesting }
+    ensures obeys_of_directive_lists { (tree : List DirectiveTree) → ⟦<DirectiveList as Syntax>⟧.obeys tree ↔ IsTrue (directives_obey NonConst tree) }
+    ensures derives_of_directive_lists { (tree : List DirectiveTree) (tokens rest : List Token) → ⟦<DirectiveList as Syntax>⟧.derives tree tokens rest ↔ directives_form NonConst tree tokens rest }
+    ensures tree_of_input_values { ⟦<InputValueDefinition as Syntax>⟧.tree ≡ input_value_tree }
+    ensures shape_of_input_values { ⟦<InputValueDefinition as Syntax>⟧.shape ≡ (λ broken is_front. input_value_shape broken) }
+    ensures nesting_of_input_values { ⟦<InputValueDefinition as Syntax>⟧.nesting ≡ input_value_nesting }
+    ensures parts_of_input_values { ⟦<InputValueDefinition as Syntax>⟧.parts ≡ input_value_parts }
+    ensures obeys_of_input_values { (tree : InputValueTree) → ⟦<InputValueDefinition as Syntax>⟧.obeys tree ↔ IsTrue (input_value_obeys tree) }
+    ensures derives_of_input_values { (tree : InputValueTree) (tokens rest : List Token) → ⟦<InputValueDefinition as Syntax>⟧.derives tree tokens rest ↔ input_value_form tree tokens rest }
+    ensures tree_of_directive_definitions { ⟦<DirectiveDefinition as Syntax>⟧.tree ≡ directive_definition_tree }
+    ensures shape_of_directive_definitions { ⟦<DirectiveDefinition as Syntax>⟧.shape ≡ (λ broken is_front. directive_definition_shape broken) }
+    ensures nesting_of_directive_definitions { ⟦<DirectiveDefinition as Syntax>⟧.nesting ≡ directive_definition_nesting }
+    ensures parts_of_directive_definitions { ⟦<DirectiveDefinition as Syntax>⟧.parts ≡ directive_definition_parts }
+    ensures obeys_of_directive_definitions { (tree : DirectiveDefinitionTree) → ⟦<DirectiveDefinition as Syntax>⟧.obeys tree ↔ IsTrue (directive_definition_obeys tree) }
+    ensures derives_of_directive_definitions { (tree : DirectiveDefinitionTree) (tokens rest : List Token) → ⟦<DirectiveDefinition as Syntax>⟧.derives tree tokens rest ↔ directive_definition_form tree tokens rest }
 {}
 
 /// The tokens that are printed of a part that obeys the side conditions derive it, before whatever follows.

@@ -1,47 +1,12 @@
 //! What reaches a sink, and in how many calls.
-
-ghost use Rattle.std.specs.Prelude.{None};
-
+use crate::checks::Counting;
 use crate::samples::number;
 use graphql_base::name::Name;
 use graphql_base::node::Node;
 use graphql_text::engine::Syntax;
-use graphql_text::sink::{SinkFault, TextSink};
 use graphql_values::value::Value;
 use std::alloc::{AllocError, Global};
 use std::process::Abort;
-
-/// Takes so many bytes, all of a call or none, and then faults. It counts its calls, those with no byte, and those after a fault.
-#[derive(Drop)]
-struct Counting {
-    room: usize,
-    faults: u64,
-    calls: usize,
-    wrong_calls: usize,
-}
-
-impl TextSink for Counting {
-    ghost taken = { λ sink. None };
-
-    ghost fault_count = { λ sink. sink.faults };
-
-    fn put(&mut self, bytes: &[u8]) -> Result<usize, SinkFault> {
-        self.calls = self.calls.saturating_add(1);
-        if bytes.is_empty() || self.faults > 0 {
-            self.wrong_calls = self.wrong_calls.saturating_add(1);
-        }
-        if bytes.len() <= self.room {
-            self.room -= bytes.len();
-            return Ok(bytes.len());
-        }
-        self.faults += 1;
-        Err(SinkFault)
-    }
-
-    fn faults(&self) -> u64 {
-        self.faults
-    }
-}
 
 /// A list that has one item so many times.
 fn repeated(alloc: Global, item: &Node<Value>, count: usize) -> Result<Value, AllocError> {
@@ -54,12 +19,7 @@ fn repeated(alloc: Global, item: &Node<Value>, count: usize) -> Result<Value, Al
 
 /// Prints on one line into so much room.
 fn counted(tree: &Value, room: usize) -> Counting {
-    let mut sink = Counting {
-        room,
-        faults: 0,
-        calls: 0,
-        wrong_calls: 0,
-    };
+    let mut sink = Counting::with_room(room);
     let printed = tree.serialize().no_indent().print_to(&mut sink);
     if printed.is_ok() != (sink.faults == 0) {
         sink.wrong_calls = sink.wrong_calls.saturating_add(1);

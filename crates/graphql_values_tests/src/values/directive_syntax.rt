@@ -1,38 +1,14 @@
 //! Worked prints of directives and lists of directives.
-ghost use Rattle.std.specs.Prelude.{None};
-
-use crate::checks::check_made;
+use crate::checks::{Counting, check_made};
 use crate::samples::{number, numbers, push, with_argument};
 use graphql_base::name;
 use graphql_base::name::Name;
 use graphql_base::node::Node;
 use graphql_text::engine::{PrintError, Serialize, Syntax};
-use graphql_text::sink::{SinkFault, TextSink};
 use graphql_values::directive::{Directive, DirectiveList};
 use graphql_values::value::Value;
 use graphql_values::well_formed::{Constness, are_directives_well_formed};
 use std::alloc::{AllocError, Global};
-
-/// A sink that counts how often it is asked to take bytes.
-#[derive(Drop)]
-struct Counting {
-    puts: usize,
-}
-
-impl TextSink for Counting {
-    ghost taken = { λ _. None };
-
-    ghost fault_count = { λ _. 0 };
-
-    fn put(&mut self, bytes: &[u8]) -> Result<usize, SinkFault> {
-        self.puts = self.puts.saturating_add(1);
-        Ok(bytes.len())
-    }
-
-    fn faults(&self) -> u64 {
-        0
-    }
-}
 
 // `@a` with arguments
 fn directive(alloc: Global, arguments: [(Name, Node<Value>); 2]) -> Result<Directive, AllocError> {
@@ -81,9 +57,9 @@ fn the_empty_list(rt: HostRuntime) {
     let list = DirectiveList::new(rt.alloc());
     for print in [list.serialize(), list.serialize().no_indent()] {
         check_made(&rt, print.to_text(rt.alloc()), "");
-        let mut sink = Counting { puts: 0 };
+        let mut sink = Counting::with_room(usize::MAX);
         print.print_to(&mut sink).expect(&rt, "memory");
-        assert_eq!(rt; sink.puts, 0);
+        assert_eq!(rt; sink.calls, 0);
     }
 }
 
@@ -165,7 +141,7 @@ fn what_is_lent_is_printed_of_one_directive(rt: HostRuntime) {
 
 // How its print ends on one line from a level on: with bytes, or with an error.
 fn told<T: Syntax>(tree: &T, level: usize) -> Result<(), PrintError> {
-    let mut sink = Counting { puts: 0 };
+    let mut sink = Counting::with_room(usize::MAX);
     Serialize::new(tree)
         .no_indent()
         .initial_indent_level(level)

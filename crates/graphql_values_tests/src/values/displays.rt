@@ -1,24 +1,7 @@
 //! Prints into formatters that are padded, that take little, or where the level does not fit.
-use crate::checks::check_made;
+use crate::checks::{Page, check_made};
 use crate::samples::one;
-use graphql_values::value::Value;
 use std::fmt::{self, Write};
-use std::io::{self, Cursor};
-
-/// Takes three bytes.
-#[derive(Drop)]
-struct Narrow {
-    bytes: Cursor<[u8; 3]>,
-}
-
-impl Write for Narrow {
-    fn write_str(&mut self, text: &str) -> fmt::Result {
-        match io::Write::write(&mut self.bytes, text.as_bytes()) {
-            Ok(count) if count == text.len() => Ok(()),
-            _ => Err(fmt::Error),
-        }
-    }
-}
 
 #[test]
 fn padding_does_not_reach_a_list(rt: HostRuntime) {
@@ -39,8 +22,8 @@ fn a_level_that_overflows_displays_nothing(rt: HostRuntime) {
 
 #[test]
 fn a_writer_that_refuses_ends_the_print(rt: HostRuntime) {
-    let mut narrow = Narrow {
-        bytes: Cursor::new([0; 3]),
-    };
-    assert_eq!(rt; write!(narrow, "{}", Value::from(true)), Err(fmt::Error));
+    let value = one(rt.alloc()).expect(&rt, "memory");
+    let mut page = Page::new();
+    let print = value.serialize().initial_indent_level(24);
+    assert_eq!(rt; write!(page, "{print}"), Err(fmt::Error));
 }

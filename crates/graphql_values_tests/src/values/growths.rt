@@ -1,21 +1,11 @@
 //! How often calls ask for memory. A test `NAME_built` makes what a call is given, and `NAME_then_CALL_takes_COUNT` makes it and
 //! calls. Each fails where any of its growths is refused, and `tools/growths.sh` compares how many those are.
-use crate::samples::items;
-use crate::values::refusals::{directive, input};
-use graphql_text::engine::{Serialize, Syntax};
-use graphql_text::sink::StreamSink;
+use crate::checks::check_printed;
+use crate::samples::{directive, input, items};
 use graphql_values::arguments::SpecifiedArgumentError;
 use graphql_values::directive::Directive;
 use std::alloc::{AllocError, Global};
-use std::io::Cursor;
 use std::process::Abort;
-
-// A print on one line into a writer that asks for no memory.
-fn check_printed<T: Syntax>(rt: &impl Abort, tree: &T) {
-    let mut sink = StreamSink::new(Cursor::new([0; 32]));
-    let result = Serialize::new(tree).no_indent().print_to(&mut sink);
-    assert!(rt; result.is_ok());
-}
 
 #[test]
 fn list_built(rt: HostRuntime) {
@@ -25,7 +15,7 @@ fn list_built(rt: HostRuntime) {
 #[test]
 fn list_then_printed_takes_1(rt: HostRuntime) {
     let list = items(rt.alloc()).expect(&rt, "memory");
-    check_printed(&rt, &list);
+    check_printed(&rt, &list, "[1, EXAMPLE, true, null]");
 }
 
 #[test]
@@ -36,7 +26,7 @@ fn directive_built(rt: HostRuntime) {
 #[test]
 fn directive_then_printed_takes_1(rt: HostRuntime) {
     let directive = directive(rt.alloc()).expect(&rt, "memory");
-    check_printed(&rt, &directive);
+    check_printed(&rt, &directive, "@a(x: true, y: false)");
 }
 
 #[test]
@@ -47,7 +37,7 @@ fn input_value_built(rt: HostRuntime) {
 #[test]
 fn input_value_then_printed_takes_2(rt: HostRuntime) {
     let input = input(rt.alloc()).expect(&rt, "memory");
-    check_printed(&rt, &input);
+    check_printed(&rt, &input, "a: [[I!]] = [[], 1.5]");
 }
 
 // `@a(x: true, y: false)` twice, which share both arguments.

@@ -1,6 +1,6 @@
 //! What is made or copied, or refused.
-use super::{definition, input};
 use crate::checks::{check_cloned_or_refused, check_text};
+use crate::samples::{definition, directives, input, nested};
 use graphql_values::literal::{FloatValue, IntValue};
 use graphql_values::ty;
 
@@ -41,5 +41,19 @@ fn an_input_value_is_copied_or_refused(rt: HostRuntime) {
 fn a_definition_is_copied_or_refused(rt: HostRuntime) {
     if let Ok(definition) = definition(rt.alloc()) {
         check_cloned_or_refused(&rt, &definition);
+    }
+}
+
+#[test]
+fn a_value_is_copied_or_refused(rt: HostRuntime) {
+    if let Ok(value) = nested(rt.alloc()) {
+        check_cloned_or_refused(&rt, &value);
+    }
+}
+
+#[test]
+fn directives_are_copied_or_refused(rt: HostRuntime) {
+    if let Ok(directives) = directives(rt.alloc()) {
+        check_cloned_or_refused(&rt, &directives);
     }
 }

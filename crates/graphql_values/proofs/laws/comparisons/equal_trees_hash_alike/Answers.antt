@@ -1,0 +1,29 @@
+use Rattle.graphql_values.specs.contracts.value.ValueHash.TheImpl.Laws as value
+use Rattle.graphql_values.specs.contracts.types.TypeHash.TheImpl.Laws as type_reference
+use Rattle.graphql_values.specs.contracts.directive.ArgumentHash.TheImpl.Laws as argument
+use Rattle.graphql_values.specs.contracts.directive.DirectiveHash.TheImpl.Laws as directive
+use Rattle.graphql_values.specs.contracts.directive.DirectiveListHash.TheImpl.Laws as directive_list
+use Rattle.graphql_values.specs.contracts.definition.InputValueDefinitionHash.TheImpl.Laws as input_value
+use Rattle.graphql_values.specs.contracts.definition.DirectiveDefinitionHash.TheImpl.Laws as directive_definition
+use Rattle.graphql_values.proofs.laws.comparisons.equal_trees_hash_alike.Goals as goal
+
+pub returns-clause-values : goal.returns-clause-values
+returns-clause-values c = value.respects_eq-law
+
+pub returns-clause-types : goal.returns-clause-types
+returns-clause-types c = type_reference.respects_eq-law
+
+pub returns-clause-arguments : goal.returns-clause-arguments
+returns-clause-arguments c = argument.respects_eq-law
+
+pub returns-clause-directives : goal.returns-clause-directives
+returns-clause-directives c = directive.respects_eq-law
+
+pub returns-clause-directive_lists : goal.returns-clause-directive_lists
+returns-clause-directive_lists c = directive_list.respects_eq-law
+
+pub returns-clause-input_values : goal.returns-clause-input_values
+returns-clause-input_values c = input_value.respects_eq-law
+
+pub returns-clause-directive_definitions : goal.returns-clause-directive_definitions
+returns-clause-directive_definitions c = directive_definition.respects_eq-law

@@ -1,6 +1,6 @@
 //! Block strings.
 
-ghost use Rattle.std.specs.Prelude.{◌≡◌, ◌==◌, ◌<◌, ℕ, true, nat_lt, Decides, length, drop, ◌∷◌, [], flat_map, chars, encode_utf8_all};
+ghost use Rattle.std.specs.Prelude.{◌≡◌, ◌==◌, ◌<◌, ℕ, true, nat_lt, Decides, length, drop, [], chars, encode_utf8_all};
 ghost use Rattle.std.specs.List.{list_any, repeat};
 ghost use Rattle.graphql_text.specs.Characters.{begins_with, is_space_or_tab, quotes};
 ghost use Rattle.graphql_text.specs.BlockStringValue.{is_blank as holds_only_blanks};

@@ -1,6 +1,6 @@
 //! Laws of the definitions in `specs/`. The functions have empty bodies: each stands for what its contract says.
 
-ghost use Rattle.std.specs.Prelude.{◌≡◌, ℕ, Bool, true, false, List, [], ◌∷◌, ◌++◌, ◌↔◌, IsTrue, Option, None, Some, MatchOption, codes, encode_utf8_all};
+ghost use Rattle.std.specs.Prelude.{◌≡◌, ℕ, true, false, List, [], ◌∷◌, ◌++◌, ◌↔◌, IsTrue, Option, None, Some, MatchOption, codes, encode_utf8_all};
 ghost use Rattle.std.specs.List.{list_all};
 ghost use Rattle.graphql_base.specs.Names.{begins_in, is_name, is_name_continue};
 ghost use Rattle.graphql_text.specs.BlockForm.{block_text, can_be_block};

@@ -1,6 +1,6 @@
 //! Quoted strings.
 
-ghost use Rattle.std.specs.Prelude.{◌≡◌, ◌<◌, ℕ, false, nat_lt, MatchOption, length, ◌∷◌, [], flat_map, chars, encode_utf8_all};
+ghost use Rattle.std.specs.Prelude.{◌≡◌, ◌<◌, false, nat_lt, MatchOption, length, ◌∷◌, [], flat_map, chars, encode_utf8_all};
 ghost use Rattle.std.specs.List.{list_any};
 ghost use Rattle.graphql_text.specs.QuotedForm.{quoted_character, quoted_form};
 

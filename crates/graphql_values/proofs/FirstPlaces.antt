@@ -1,7 +1,7 @@
 -- What stands at the place that `position` answers.
-use Rattle.std.proofs.Common.{◌≡◌, ℕ, suc, ◌+◌, ◌<◌, ◌≤◌, Bool, true, false, cond, not, List, [], ◌∷◌, length, Some, None, position, slice_set, slice_index_or, nat_lt, refl, sym, ap, ◌∙◌, arith}
-use Rattle.std.specs.List.{find, position_or_len, HoldsAt}
-use Rattle.std.specs.Option.{option_map}
+use Rattle.std.proofs.Common.{◌≡◌, ℕ, suc, ◌+◌, ◌<◌, ◌≤◌, Bool, true, false, cond, not, ◌||◌, List, [], ◌∷◌, length, Bor, Option, Some, None, position, slice_set, slice_index_or, nat_lt, refl, sym, ap, ◌∙◌, arith}
+use Rattle.std.specs.List.{find, list_any, position_or_len, HoldsAt}
+use Rattle.std.specs.Option.{is_some, option_copied, option_map}
 use Rattle.std.proofs.lemmas.Bool.Decides.{nat_tests}
 use Rattle.std.proofs.lemmas.List.Folds.{find_at}
 use Rattle.std.proofs.lemmas.Option.{slice_get-get_or, slice_get_past}
@@ -27,6 +27,19 @@ module _ {X : Type 0} (test : X → Bool) where
   is_found (x ∷ xs) place e none =
       let found = found_at_position (x ∷ xs) place e x in
       cc
+
+  some_or : (x : X) (found : Option X) (b any : Bool) → is_some found ≡ any → is_some (cond b (Some x) found) ≡ (b || any)
+  some_or x found true any e = refl
+  some_or x found false any e = e
+
+  -- an item is found exactly if any passes
+  pub found_if_any : (xs : List X) → is_some (find test xs) ≡ list_any test xs
+  found_if_any [] = refl
+  found_if_any (x ∷ xs) = some_or x (find test xs) (test x) (list_any test xs) (found_if_any xs)
+
+  pub copied_if_any : (found : Option (Bor X)) (xs : List X) → option_copied found ≡ find test xs → is_some found ≡ list_any test xs
+  copied_if_any None xs e = ap is_some e ∙ found_if_any xs
+  copied_if_any (Some x) xs e = ap is_some e ∙ found_if_any xs
 
   -- what is read at the place of `position` is read of the first item that passes
   pub read_at_position : {Y : Type 0} (f : X → Y) (xs : List X) (place : ℕ) (y : Y) → position test xs ≡ Some place → HoldsAt (λ x. y ≡ f x) xs place → option_map f (find test xs) ≡ Some y

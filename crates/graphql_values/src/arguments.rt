@@ -75,14 +75,6 @@ fn find_definition<'a>(
 }
 
 impl Directive {
-    fn specified_argument(&self, name: &str) -> Option<&Node<Argument>>
-        ensures { option_copied result ≡ first_argument_named name.now self.now.arguments.items }
-    {
-        self.arguments
-            .iter()
-            .find(|node| node.name.as_str() == name)
-    }
-
     fn specified_argument_position(&self, name: &str) -> Option<usize>
         ensures place { result ≡ position (is_argument_named name.now) self.now.arguments.items }
         ensures within { IfSome result (λ place. place < length self.now.arguments.items) }
@@ -96,10 +88,8 @@ impl Directive {
     pub fn specified_argument_by_name(&self, name: &str) -> Option<&Node<Value>>
         ensures { option_copied result ≡ option_map argument_value (first_argument_named name.now self.now.arguments.items) }
     {
-        match self.specified_argument(name) {
-            Some(node) => Some(&node.value),
-            None => None,
-        }
+        let place = self.specified_argument_position(name)?;
+        Some(&self.arguments[place].value)
     }
 
     /// The value of the argument of that name: the value of the first one that the directive specifies, whatever the definitions
@@ -115,8 +105,8 @@ impl Directive {
     ) -> Result<ArgumentValue<'a>, ArgumentByNameError>
         ensures { argument_answer result ≡ argument_by_name self.now name.now definitions.now.entries }
     {
-        if let Some(argument) = self.specified_argument(name) {
-            return Ok(ArgumentValue::Value(&argument.value));
+        if let Some(value) = self.specified_argument_by_name(name) {
+            return Ok(ArgumentValue::Value(value));
         }
         let Some(definition) = find_definition(definitions, &self.name) else {
             return Err(ArgumentByNameError::UndefinedDirective);

@@ -52,9 +52,8 @@ impl DirectiveDefinition {
     pub fn argument_by_name(&self, name: &str) -> Option<&Node<InputValueDefinition>>
         ensures { option_copied result ≡ first_input_value_named name.now self.now.arguments.items }
     {
-        self.arguments
-            .iter()
-            .find(|node| node.name.as_str() == name)
+        let place = self.argument_position(name)?;
+        Some(&self.arguments[place])
     }
 
     fn argument_position(&self, name: &str) -> Option<usize>

@@ -1,7 +1,5 @@
 //! Directive definitions are printed.
-ghost use Rattle.std.specs.Prelude.{◌≡◌, Some, IsOk, IsTrue, OnOk, OnErr, codes, encode_utf8_all};
-ghost use Rattle.graphql_text.specs.Levels.{Fits};
-ghost use Rattle.graphql_text.specs.Place.{mode_of};
+ghost use Rattle.std.specs.Prelude.{◌≡◌, Some, IsTrue, codes, encode_utf8_all};
 ghost use Rattle.graphql_text.specs.Reading.{layout_of};
 ghost use Rattle.graphql_text.specs.Printing.{print_tree, print_mode, print_level};
 ghost use Rattle.graphql_values.specs.DefinitionParts.{directive_definition_parts};
@@ -40,27 +38,6 @@ impl DirectiveDefinition {
     }
 }
 
-/// Writes the whole layout of a directive definition.
-fn write_layout<O: Target>(
-    definition: &DirectiveDefinition,
-    out: &mut O,
-    place: &Place<'_>,
-    nesting: usize,
-) -> Result<(), AllocError>
-    requires fits { Fits place.now.level nesting }
-    requires nesting { nesting ≡ directive_definition_nesting (directive_definition_tree definition.now) }
-    ensures ok { OnOk result (O.wrote out.old (encode_utf8_all (layout_of (λ broken is_front. directive_definition_shape broken) (mode_of place.now.prefix) place.now.level (directive_definition_tree definition.now))) out.new) }
-    ensures err { OnErr result (out.new ≡ out.old) }
-    ensures free { directive_definition_parts (directive_definition_tree definition.now) ≡ 0 → IsOk result }
-{
-    let alloc = *definition.arguments.allocator();
-    let list_depth = find_arguments_list_depth(&definition.arguments).ok_or(AllocError)?;
-    let mut stacks = DefinitionStacks::reserve(alloc, nesting, list_depth)?;
-    write_first_indent(out, place);
-    write_directive_definition(out, place, &mut stacks, definition);
-    Ok(())
-}
-
 impl Syntax for DirectiveDefinition {
     ghost Tree = { DirectiveDefinitionTree };
 
@@ -92,7 +69,12 @@ impl Syntax for DirectiveDefinition {
         place: &Place<'_>,
         depth: usize,
     ) -> Result<(), AllocError> {
-        write_layout(self, out, place, depth)
+        let alloc = *self.arguments.allocator();
+        let list_depth = find_arguments_list_depth(&self.arguments).ok_or(AllocError)?;
+        let mut stacks = DefinitionStacks::reserve(alloc, depth, list_depth)?;
+        write_first_indent(out, place);
+        write_directive_definition(out, place, &mut stacks, self);
+        Ok(())
     }
 }
 

@@ -29,14 +29,15 @@ impl DirectiveList {
     pub fn get(&self, name: &str) -> Option<&Node<Directive>>
         ensures { option_copied result ≡ first_directive_named name.now self.now.0.items }
     {
-        self.0.iter().find(|node| node.name.as_str() == name)
+        let place = first_position(&self.0, name)?;
+        Some(&self.0[place])
     }
 
     /// Whether there is a directive of that name.
     pub fn has(&self, name: &str) -> bool
         ensures { result ≡ has_directive_named name.now self.now.0.items }
     {
-        self.0.iter().any(|node| node.name.as_str() == name)
+        self.get(name).is_some()
     }
 
     /// The directives of that name, in order.

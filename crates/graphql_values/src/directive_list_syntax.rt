@@ -1,7 +1,5 @@
 //! Lists of directives are printed.
-ghost use Rattle.std.specs.Prelude.{◌≡◌, List, Some, IsOk, IsTrue, OnOk, OnErr, codes, encode_utf8_all};
-ghost use Rattle.graphql_text.specs.Levels.{Fits};
-ghost use Rattle.graphql_text.specs.Place.{mode_of};
+ghost use Rattle.std.specs.Prelude.{◌≡◌, List, Some, IsTrue, codes, encode_utf8_all};
 ghost use Rattle.graphql_text.specs.Reading.{layout_of};
 ghost use Rattle.graphql_text.specs.Printing.{print_tree, print_mode, print_level};
 ghost use Rattle.graphql_values.specs.Directives.{DirectiveTree, directives_form, directives_nesting, directives_obey, directives_shape};
@@ -40,26 +38,6 @@ impl DirectiveList {
     }
 }
 
-/// Writes the whole layout of a list.
-fn write_layout<'a, O: Target>(
-    list: &'a DirectiveList,
-    out: &mut O,
-    place: &Place<'_>,
-    depth: usize,
-) -> Result<(), AllocError>
-    requires fits { Fits place.now.level depth }
-    requires depth { depth ≡ directives_nesting (directive_trees list.now) }
-    ensures ok { OnOk result (O.wrote out.old (encode_utf8_all (layout_of (λ broken is_front. directives_shape) (mode_of place.now.prefix) place.now.level (directive_trees list.now))) out.new) }
-    ensures err { OnErr result (out.new ≡ out.old) }
-    ensures free { directives_nesting (directive_trees list.now) ≡ 0 → IsOk result }
-{
-    let alloc = *list.0.allocator();
-    let mut stack: Stack<ValuePart<'a>> = Stack::reserve(Some(alloc), depth)?;
-    write_first_indent(out, place);
-    write_directives(out, place, &mut stack, &list.0);
-    Ok(())
-}
-
 impl Syntax for DirectiveList {
     ghost Tree = { List DirectiveTree };
 
@@ -91,7 +69,11 @@ impl Syntax for DirectiveList {
         place: &Place<'_>,
         depth: usize,
     ) -> Result<(), AllocError> {
-        write_layout(self, out, place, depth)
+        let alloc = *self.0.allocator();
+        let mut stack: Stack<ValuePart<'_>> = Stack::reserve(Some(alloc), depth)?;
+        write_first_indent(out, place);
+        write_directives(out, place, &mut stack, &self.0);
+        Ok(())
     }
 }
 

@@ -1,7 +1,5 @@
 //! Directives are printed.
-ghost use Rattle.std.specs.Prelude.{◌≡◌, Some, IsOk, IsTrue, OnOk, OnErr, codes, encode_utf8_all};
-ghost use Rattle.graphql_text.specs.Levels.{Fits};
-ghost use Rattle.graphql_text.specs.Place.{mode_of};
+ghost use Rattle.std.specs.Prelude.{◌≡◌, Some, IsTrue, codes, encode_utf8_all};
 ghost use Rattle.graphql_text.specs.Reading.{layout_of};
 ghost use Rattle.graphql_text.specs.Printing.{print_tree, print_mode, print_level};
 ghost use Rattle.graphql_values.specs.Directives.{DirectiveTree, directive_form, directive_nesting, directive_obeys, directive_shape};
@@ -39,26 +37,6 @@ impl Directive {
     }
 }
 
-/// Writes the whole layout of a directive.
-fn write_layout<'a, O: Target>(
-    directive: &'a Directive,
-    out: &mut O,
-    place: &Place<'_>,
-    depth: usize,
-) -> Result<(), AllocError>
-    requires fits { Fits place.now.level depth }
-    requires depth { depth ≡ directive_nesting (directive_tree directive.now) }
-    ensures ok { OnOk result (O.wrote out.old (encode_utf8_all (layout_of (λ broken is_front. directive_shape) (mode_of place.now.prefix) place.now.level (directive_tree directive.now))) out.new) }
-    ensures err { OnErr result (out.new ≡ out.old) }
-    ensures free { directive_nesting (directive_tree directive.now) ≡ 0 → IsOk result }
-{
-    let alloc = *directive.arguments.allocator();
-    let mut stack: Stack<ValuePart<'a>> = Stack::reserve(Some(alloc), depth)?;
-    write_first_indent(out, place);
-    write_directive(out, place, &mut stack, directive);
-    Ok(())
-}
-
 impl Syntax for Directive {
     ghost Tree = { DirectiveTree };
 
@@ -90,7 +68,11 @@ impl Syntax for Directive {
         place: &Place<'_>,
         depth: usize,
     ) -> Result<(), AllocError> {
-        write_layout(self, out, place, depth)
+        let alloc = *self.arguments.allocator();
+        let mut stack: Stack<ValuePart<'_>> = Stack::reserve(Some(alloc), depth)?;
+        write_first_indent(out, place);
+        write_directive(out, place, &mut stack, self);
+        Ok(())
     }
 }
 

@@ -1,7 +1,5 @@
 //! Input value definitions are printed.
-ghost use Rattle.std.specs.Prelude.{◌≡◌, Some, IsOk, IsTrue, OnOk, OnErr, codes, encode_utf8_all};
-ghost use Rattle.graphql_text.specs.Levels.{Fits};
-ghost use Rattle.graphql_text.specs.Place.{mode_of};
+ghost use Rattle.std.specs.Prelude.{◌≡◌, Some, IsTrue, codes, encode_utf8_all};
 ghost use Rattle.graphql_text.specs.Reading.{layout_of};
 ghost use Rattle.graphql_text.specs.Printing.{print_tree, print_mode, print_level};
 ghost use Rattle.graphql_values.specs.DefinitionParts.{input_value_parts};
@@ -39,27 +37,6 @@ impl InputValueDefinition {
     }
 }
 
-/// Writes the whole layout of an input value definition.
-fn write_layout<O: Target>(
-    input: &InputValueDefinition,
-    out: &mut O,
-    place: &Place<'_>,
-    nesting: usize,
-) -> Result<(), AllocError>
-    requires fits { Fits place.now.level nesting }
-    requires nesting { nesting ≡ input_value_nesting (input_value_tree input.now) }
-    ensures ok { OnOk result (O.wrote out.old (encode_utf8_all (layout_of (λ broken is_front. input_value_shape broken) (mode_of place.now.prefix) place.now.level (input_value_tree input.now))) out.new) }
-    ensures err { OnErr result (out.new ≡ out.old) }
-    ensures free { input_value_parts (input_value_tree input.now) ≡ 0 → IsOk result }
-{
-    let alloc = *input.directives.0.allocator();
-    let list_depth = find_list_depth(&input.ty).ok_or(AllocError)?;
-    let mut stacks = DefinitionStacks::reserve(alloc, nesting, list_depth)?;
-    write_first_indent(out, place);
-    write_input_value(out, place, &mut stacks, input);
-    Ok(())
-}
-
 impl Syntax for InputValueDefinition {
     ghost Tree = { InputValueTree };
 
@@ -91,7 +68,12 @@ impl Syntax for InputValueDefinition {
         place: &Place<'_>,
         depth: usize,
     ) -> Result<(), AllocError> {
-        write_layout(self, out, place, depth)
+        let alloc = *self.directives.0.allocator();
+        let list_depth = find_list_depth(&self.ty).ok_or(AllocError)?;
+        let mut stacks = DefinitionStacks::reserve(alloc, depth, list_depth)?;
+        write_first_indent(out, place);
+        write_input_value(out, place, &mut stacks, self);
+        Ok(())
     }
 }
 

@@ -1,5 +1,5 @@
 //! A text that has one owner, seen as its bytes.
-ghost use Rattle.std.specs.Prelude.{◌≡◌, Some, string_bytes, nat_eq};
+ghost use Rattle.std.specs.Prelude.{◌≡◌, string_bytes, nat_eq};
 ghost use Rattle.std.specs.Cmp.{partial_equiv_from_equiv};
 ghost use Rattle.std.specs.Cmp.Lexicographic.{pointwise, nat_list_eq_equiv};
 ghost use Rattle.std.specs.Cmp.Rules.{hashing};

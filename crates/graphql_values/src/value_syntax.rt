@@ -1,7 +1,5 @@
 //! Values are printed.
-ghost use Rattle.std.specs.Prelude.{◌≡◌, ℕ, ◌≤◌, ◌↔◌, Some, IsNone, IsOk, IsTrue, OnOk, OnErr, codes, encode_utf8_all};
-ghost use Rattle.graphql_text.specs.Levels.{Fits};
-ghost use Rattle.graphql_text.specs.Place.{mode_of};
+ghost use Rattle.std.specs.Prelude.{◌≡◌, Some, IsNone, IsTrue, codes, encode_utf8_all};
 ghost use Rattle.graphql_text.specs.Reading.{layout_of};
 ghost use Rattle.graphql_text.specs.Printing.{print_tree, print_mode, print_level};
 ghost use Rattle.graphql_values.specs.Values.{NonConst, ValueTree, value_form, value_nesting, value_obeys, value_shape};
@@ -47,25 +45,6 @@ impl Value {
     }
 }
 
-/// Writes the whole layout of a value.
-fn write_layout<'a, O: Target>(
-    value: &'a Value,
-    out: &mut O,
-    place: &Place<'_>,
-    depth: usize,
-) -> Result<(), AllocError>
-    requires fits { Fits place.now.level depth }
-    requires depth { depth ≡ value_nesting (value_tree value.now) }
-    ensures ok { OnOk result (O.wrote out.old (encode_utf8_all (layout_of (λ broken is_front. value_shape broken) (mode_of place.now.prefix) place.now.level (value_tree value.now))) out.new) }
-    ensures err { OnErr result (out.new ≡ out.old) }
-    ensures free { value_nesting (value_tree value.now) ≡ 0 → IsOk result }
-{
-    let mut stack: Stack<ValuePart<'a>> = Stack::reserve(value.allocator(), depth)?;
-    write_first_indent(out, place);
-    write_value(value, out, place, &mut stack);
-    Ok(())
-}
-
 impl Syntax for Value {
     ghost Tree = { ValueTree };
 
@@ -97,7 +76,10 @@ impl Syntax for Value {
         place: &Place<'_>,
         depth: usize,
     ) -> Result<(), AllocError> {
-        write_layout(self, out, place, depth)
+        let mut stack: Stack<ValuePart<'_>> = Stack::reserve(self.allocator(), depth)?;
+        write_first_indent(out, place);
+        write_value(self, out, place, &mut stack);
+        Ok(())
     }
 }
 

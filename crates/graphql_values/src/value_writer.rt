@@ -1,5 +1,5 @@
 //! The loop that writes a value.
-ghost use Rattle.std.specs.Prelude.{◌≡◌, Some, ℕ, ◌+◌, ◌≤◌, ◌<◌, ◌++◌, ◌^◌, List, ◌∷◌, Bool, length, MatchOption, max};
+ghost use Rattle.std.specs.Prelude.{◌≡◌, Some, ◌+◌, ◌≤◌, ◌<◌, ◌++◌, ◌^◌, List, ◌∷◌, Bool, length, MatchOption, max};
 ghost use Rattle.graphql_text.specs.Layout.{Item, Lower, Tight, last_comma, is_broken};
 ghost use Rattle.graphql_text.specs.Levels.{Fits};
 ghost use Rattle.graphql_text.specs.Place.{mode_of};

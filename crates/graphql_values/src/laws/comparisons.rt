@@ -53,6 +53,8 @@ pub fn errors_compare_by_variant()
 
 /// What is equal hashes alike.
 pub fn equal_trees_hash_alike()
+    ensures ints { (a b : IntValue) → IsTrue (⟦<IntValue as PartialEq>⟧.eq a b) → ⟦<IntValue as Hash>⟧.hash_input a ≡ ⟦<IntValue as Hash>⟧.hash_input b }
+    ensures floats { (a b : FloatValue) → IsTrue (⟦<FloatValue as PartialEq>⟧.eq a b) → ⟦<FloatValue as Hash>⟧.hash_input a ≡ ⟦<FloatValue as Hash>⟧.hash_input b }
     ensures values { (a b : Value) → IsTrue (⟦<Value as PartialEq>⟧.eq a b) → ⟦<Value as Hash>⟧.hash_input a ≡ ⟦<Value as Hash>⟧.hash_input b }
     ensures types { (a b : «Type») → IsTrue (⟦<Type as PartialEq>⟧.eq a b) → ⟦<Type as Hash>⟧.hash_input a ≡ ⟦<Type as Hash>⟧.hash_input b }
     ensures arguments { (a b : Argument) → IsTrue (⟦<Argument as PartialEq>⟧.eq a b) → ⟦<Argument as Hash>⟧.hash_input a ≡ ⟦<Argument as Hash>⟧.hash_input b }
@@ -60,10 +62,14 @@ pub fn equal_trees_hash_alike()
     ensures directive_lists { (a b : DirectiveList) → IsTrue (⟦<DirectiveList as PartialEq>⟧.eq a b) → ⟦<DirectiveList as Hash>⟧.hash_input a ≡ ⟦<DirectiveList as Hash>⟧.hash_input b }
     ensures input_values { (a b : InputValueDefinition) → IsTrue (⟦<InputValueDefinition as PartialEq>⟧.eq a b) → ⟦<InputValueDefinition as Hash>⟧.hash_input a ≡ ⟦<InputValueDefinition as Hash>⟧.hash_input b }
     ensures directive_definitions { (a b : DirectiveDefinition) → IsTrue (⟦<DirectiveDefinition as PartialEq>⟧.eq a b) → ⟦<DirectiveDefinition as Hash>⟧.hash_input a ≡ ⟦<DirectiveDefinition as Hash>⟧.hash_input b }
+    ensures operation_types { (a b : OperationType) → IsTrue (⟦<OperationType as PartialEq>⟧.eq a b) → ⟦<OperationType as Hash>⟧.hash_input a ≡ ⟦<OperationType as Hash>⟧.hash_input b }
+    ensures locations { (a b : DirectiveLocation) → IsTrue (⟦<DirectiveLocation as PartialEq>⟧.eq a b) → ⟦<DirectiveLocation as Hash>⟧.hash_input a ≡ ⟦<DirectiveLocation as Hash>⟧.hash_input b }
 {}
 
 /// A clone has the same tree, and the very names, nodes and other parts, at the same locations.
 pub fn clones_are_the_same()
+    ensures ints { (a b : IntValue) → ⟦<IntValue as Clone>⟧.is_clone a b → b ≡ a }
+    ensures floats { (a b : FloatValue) → ⟦<FloatValue as Clone>⟧.is_clone a b → b ≡ a }
     ensures values { (a b : Value) → ⟦<Value as Clone>⟧.is_clone a b → IsCloneOf a b × (value_tree b ≡ value_tree a) }
     ensures types { (a b : «Type») → ⟦<Type as Clone>⟧.is_clone a b → (type_wrapping b ≡ type_wrapping a) × (type_tree b ≡ type_tree a) }
     ensures arguments { (a b : Argument) → ⟦<Argument as Clone>⟧.is_clone a b → b ≡ a }
@@ -75,4 +81,6 @@ pub fn clones_are_the_same()
     ensures directive_definitions { (a b : DirectiveDefinition) → ⟦<DirectiveDefinition as Clone>⟧.is_clone a b →
         (b.description ≡ a.description) × (b.name ≡ a.name) × (b.arguments.items ≡ a.arguments.items) × (b.repeatable ≡ a.repeatable) × (b.locations.items ≡ a.locations.items)
         × (directive_definition_tree b ≡ directive_definition_tree a) }
+    ensures operation_types { (a b : OperationType) → ⟦<OperationType as Clone>⟧.is_clone a b → b ≡ a }
+    ensures locations { (a b : DirectiveLocation) → ⟦<DirectiveLocation as Clone>⟧.is_clone a b → b ≡ a }
 {}

@@ -1,5 +1,5 @@
 //! Texts that are read, and texts that are not. Not all of the first are printed of any tree.
-ghost use Rattle.std.specs.Prelude.{List, [], ◌∷◌, codes, Some, None, true, false, ◌≡◌, refl};
+ghost use Rattle.std.specs.Prelude.{[], ◌∷◌, codes, Some, None, true, false, ◌≡◌, refl};
 ghost use Rattle.graphql_text.specs.Reading.{ReadsAs};
 ghost use Rattle.graphql_values.specs.DirectiveDefinitions.{DirectiveDefinitionTree, directive_definition_form};
 ghost use Rattle.graphql_values.specs.DirectiveLocations as location;

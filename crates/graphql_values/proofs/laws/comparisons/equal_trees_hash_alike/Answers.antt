@@ -1,3 +1,5 @@
+use Rattle.graphql_values.specs.contracts.literal.IntValueHash.TheImpl.Laws as int
+use Rattle.graphql_values.specs.contracts.literal.FloatValueHash.TheImpl.Laws as float
 use Rattle.graphql_values.specs.contracts.value.ValueHash.TheImpl.Laws as value
 use Rattle.graphql_values.specs.contracts.types.TypeHash.TheImpl.Laws as type_reference
 use Rattle.graphql_values.specs.contracts.directive.ArgumentHash.TheImpl.Laws as argument
@@ -5,7 +7,15 @@ use Rattle.graphql_values.specs.contracts.directive.DirectiveHash.TheImpl.Laws a
 use Rattle.graphql_values.specs.contracts.directive.DirectiveListHash.TheImpl.Laws as directive_list
 use Rattle.graphql_values.specs.contracts.definition.InputValueDefinitionHash.TheImpl.Laws as input_value
 use Rattle.graphql_values.specs.contracts.definition.DirectiveDefinitionHash.TheImpl.Laws as directive_definition
+use Rattle.graphql_values.specs.contracts.operation_type.OperationTypeHash.TheImpl.Laws as operation_type
+use Rattle.graphql_values.specs.contracts.location.DirectiveLocationHash.TheImpl.Laws as location
 use Rattle.graphql_values.proofs.laws.comparisons.equal_trees_hash_alike.Goals as goal
+
+pub returns-clause-ints : goal.returns-clause-ints
+returns-clause-ints c = int.respects_eq-law
+
+pub returns-clause-floats : goal.returns-clause-floats
+returns-clause-floats c = float.respects_eq-law
 
 pub returns-clause-values : goal.returns-clause-values
 returns-clause-values c = value.respects_eq-law
@@ -27,3 +37,9 @@ returns-clause-input_values c = input_value.respects_eq-law
 
 pub returns-clause-directive_definitions : goal.returns-clause-directive_definitions
 returns-clause-directive_definitions c = directive_definition.respects_eq-law
+
+pub returns-clause-operation_types : goal.returns-clause-operation_types
+returns-clause-operation_types c = operation_type.respects_eq-law
+
+pub returns-clause-locations : goal.returns-clause-locations
+returns-clause-locations c = location.respects_eq-law

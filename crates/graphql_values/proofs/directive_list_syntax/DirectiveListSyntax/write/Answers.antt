@@ -1,6 +1,6 @@
 use Rattle.std.proofs.Common.{subst, sym}
 use Rattle.std.proofs.lemmas.Str.{encodes-append}
-use Rattle.graphql_values.proofs.directive_list_syntax.write_layout.Goals as goal
+use Rattle.graphql_values.proofs.directive_list_syntax.DirectiveListSyntax.write.Goals as goal
 
 pub returns-clause-ok : goal.returns-clause-ok
 returns-clause-ok g c =

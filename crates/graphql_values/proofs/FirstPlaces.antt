@@ -1,4 +1,4 @@
--- What stands at the place that `position` answers.
+-- What stands at the place that `position` answers, and whether `find` finds anything.
 use Rattle.std.proofs.Common.{◌≡◌, ℕ, suc, ◌+◌, ◌<◌, ◌≤◌, Bool, true, false, cond, not, ◌||◌, List, [], ◌∷◌, length, Bor, Option, Some, None, position, slice_set, slice_index_or, nat_lt, refl, sym, ap, ◌∙◌, arith}
 use Rattle.std.specs.List.{find, list_any, position_or_len, HoldsAt}
 use Rattle.std.specs.Option.{is_some, option_copied, option_map}
@@ -33,10 +33,11 @@ module _ {X : Type 0} (test : X → Bool) where
   some_or x found false any e = e
 
   -- an item is found exactly if any passes
-  pub found_if_any : (xs : List X) → is_some (find test xs) ≡ list_any test xs
+  found_if_any : (xs : List X) → is_some (find test xs) ≡ list_any test xs
   found_if_any [] = refl
   found_if_any (x ∷ xs) = some_or x (find test xs) (test x) (list_any test xs) (found_if_any xs)
 
+  -- so of what is found and lent
   pub copied_if_any : (found : Option (Bor X)) (xs : List X) → option_copied found ≡ find test xs → is_some found ≡ list_any test xs
   copied_if_any None xs e = ap is_some e ∙ found_if_any xs
   copied_if_any (Some x) xs e = ap is_some e ∙ found_if_any xs

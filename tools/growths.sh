@@ -21,7 +21,7 @@ fail() {
 refused=1
 for ((growth = 1; refused > 0; growth++)); do
     if [ "$growth" -gt 100 ]; then
-        echo "a test fails still at growth 100"
+        echo "a test still fails at growth 100"
         exit 1
     fi
     said=$(rt try --test --fail-alloc "$growth" 2>&1)

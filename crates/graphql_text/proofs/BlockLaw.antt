@@ -3,7 +3,7 @@ use Rattle.std.proofs.Common.{◌≡◌, ℕ, zero, suc, ◌-◌, Bool, true, fa
 use Rattle.std.specs.List.{list_any, list_all, repeat}
 use Rattle.graphql_base.specs.Names.{begins_in}
 use Rattle.graphql_text.specs.Characters.{is_space_or_tab, is_quote, quotes, escaped_quotes, begins_with}
-use Rattle.graphql_text.specs.BlockStringValue.{source_lines, is_blank}
+use Rattle.graphql_text.specs.BlockStringValue.{lines_of, is_blank}
 use Rattle.graphql_text.specs.Strings.{IsBlockRest, closing, escaped, itself, IsBlock}
 use Rattle.graphql_text.specs.BlockForm.{escape_quotes, begins_unindented, can_be_block, would_join_closing_quotes, broken_line, block_on_one_line, block_over_lines, block_form}
 use Rattle.std.proofs.lemmas.Bool.{and_parts}
@@ -205,14 +205,14 @@ conditions a b c d h = grind arith
 over_lines_is : (p v : List ℕ) → is_blank p ≡ true → can_be_block v ≡ true →
     IsBlock (block_over_lines p v) v
 over_lines_is p v h k =
-    let ls = source_lines v in
+    let ls = lines_of v in
     let (cr, first, last, bare) = conditions (list_all (λ c. not (c == 0xD)) v) (is_blank (get_or ls 0 [])) (is_blank (get_or ls (length ls - 1) [])) (list_any begins_unindented ls) k in
     (flat_map (broken_line p) ls ++ (0xA ∷ p ++ quotes), raw_lines p ls, refl, over_lines_rest p ls h, sym (many_value p v h cr first last bare))
 
 on_one_line_is : (v : List ℕ) → can_be_block v ≡ true → list_any (λ c. c == 0xA) v ≡ false →
     would_join_closing_quotes v ≡ false → IsBlock (block_on_one_line v) v
 on_one_line_is v k lf open_end =
-    let ls = source_lines v in
+    let ls = lines_of v in
     let (cr, first, last, bare) = conditions (list_all (λ c. not (c == 0xD)) v) (is_blank (get_or ls 0 [])) (is_blank (get_or ls (length ls - 1) [])) (list_any begins_unindented ls) k in
     (escape_quotes v ++ quotes, v, refl, escaped_closed v open_end, sym (one_value v cr lf first))
 

@@ -1,7 +1,7 @@
 -- The value of the raw value of a block form.
 use Rattle.std.proofs.Common.{◌≡◌, ℕ, zero, suc, ◌+◌, ◌-◌, ◌≤◌, min, Bool, true, false, not, ◌&&◌, ◌==◌, if◌then◌else◌, List, [], ◌∷◌, ◌++◌, map, filter, fold, length, drop, get_or, flat_map, ◌⊎◌, inl, inr, arith, refl, ap, sym, ◌∙◌, append_assoc, append-nil, true≢false, ap₂}
 use Rattle.std.specs.List.{list_any, list_all, onto_first, join_with_byte, prefix_len}
-use Rattle.graphql_text.specs.BlockStringValue.{source_lines, is_blank, with_lf, least, common_indent, unindented, without_first_blank, without_last_blank, block_string_value}
+use Rattle.graphql_text.specs.BlockStringValue.{lines_of, is_blank, with_lf, least, common_indent, unindented, without_first_blank, without_last_blank, block_string_value}
 use Rattle.graphql_text.specs.Characters.{is_space_or_tab}
 use Rattle.std.proofs.lemmas.List.Splits.{join_with_byte-slice_split}
 use Rattle.graphql_text.specs.BlockForm.{begins_unindented}
@@ -34,7 +34,7 @@ abbrev on_first : List ℕ → List (List ℕ) → List (List ℕ)
 on_first l [] = l ∷ []
 on_first l (m ∷ ms) = (l ++ m) ∷ ms
 
-on_first_none : (text : List ℕ) → on_first [] (source_lines text) ≡ source_lines text
+on_first_none : (text : List ℕ) → on_first [] (lines_of text) ≡ lines_of text
 on_first_none [] = refl
 on_first_none (c ∷ text) = grind arith
 
@@ -44,12 +44,12 @@ before_on_first c l [] = refl
 before_on_first c l (m ∷ ms) = refl
 
 lines_clean : (l t : List ℕ) → clean l ≡ true →
-    source_lines (with_lf (l ++ t)) ≡ on_first l (source_lines (with_lf t))
+    lines_of (with_lf (l ++ t)) ≡ on_first l (lines_of (with_lf t))
 lines_clean [] t h = sym (on_first_none (with_lf t))
 lines_clean (c ∷ l) t h =
     let lf : (c == 10) ≡ false = grind arith in
     let cr : (c == 13) ≡ false = grind arith in
-    rw (cr, lf) (ap (onto_first c) (lines_clean l t (grind arith)) ∙ before_on_first c l (source_lines (with_lf t)))
+    rw (cr, lf) (ap (onto_first c) (lines_clean l t (grind arith)) ∙ before_on_first c l (lines_of (with_lf t)))
 
 blank_clean : (p : List ℕ) → is_blank p ≡ true → clean p ≡ true
 blank_clean [] h = refl
@@ -69,18 +69,18 @@ indented_clean p [] h k = refl
 indented_clean p (c ∷ l) h k = clean_append p (c ∷ l) (blank_clean p h) k
 
 pub lines_are_clean : (v : List ℕ) → list_all (λ c. not (c == 13)) v ≡ true →
-    list_all clean (source_lines v) ≡ true
+    list_all clean (lines_of v) ≡ true
 lines_are_clean [] h = refl
 lines_are_clean (c ∷ v) h =
-    let r : list_all clean (source_lines v) ≡ true = lines_are_clean v (grind arith) in grind arith
+    let r : list_all clean (lines_of v) ≡ true = lines_are_clean v (grind arith) in grind arith
 
 raw_lines_are : (p : List ℕ) (ls : List (List ℕ)) → is_blank p ≡ true → list_all clean ls ≡ true →
-    source_lines (with_lf (raw_lines p ls)) ≡ [] ∷ (map (indented p) ls ++ p ∷ [])
+    lines_of (with_lf (raw_lines p ls)) ≡ [] ∷ (map (indented p) ls ++ p ∷ [])
 raw_lines_are p [] h k =
-    ap (λ (x : List ℕ). [] ∷ source_lines (with_lf x)) (sym (append-nil p)) ∙
+    ap (λ (x : List ℕ). [] ∷ lines_of (with_lf x)) (sym (append-nil p)) ∙
     ap (λ (x : List (List ℕ)). [] ∷ x) (lines_clean p [] (blank_clean p h) ∙ ap (λ (x : List ℕ). x ∷ []) (append-nil p))
 raw_lines_are p (l ∷ ls) h k =
-    ap (λ (x : List ℕ). [] ∷ source_lines (with_lf x)) (append_assoc (indented p l) (flat_map (raw_line p) ls) (10 ∷ p)) ∙
+    ap (λ (x : List ℕ). [] ∷ lines_of (with_lf x)) (append_assoc (indented p l) (flat_map (raw_line p) ls) (10 ∷ p)) ∙
     ap (λ (x : List (List ℕ)). [] ∷ x) (
     lines_clean (indented p l) (raw_lines p ls) (indented_clean p l h (grind arith)) ∙
     ap (on_first (indented p l)) (raw_lines_are p ls h (grind arith)) ∙
@@ -215,10 +215,10 @@ first_kept (l ∷ ls) h = rw h refl
 -- The value
 
 pub many_value : (p v : List ℕ) → is_blank p ≡ true → list_all (λ c. not (c == 13)) v ≡ true →
-    is_blank (get_or (source_lines v) 0 []) ≡ false → is_blank (get_or (source_lines v) (length (source_lines v) - 1) []) ≡ false → list_any begins_unindented (source_lines v) ≡ true →
-    block_string_value (raw_lines p (source_lines v)) ≡ v
+    is_blank (get_or (lines_of v) 0 []) ≡ false → is_blank (get_or (lines_of v) (length (lines_of v) - 1) []) ≡ false → list_any begins_unindented (lines_of v) ≡ true →
+    block_string_value (raw_lines p (lines_of v)) ≡ v
 many_value p v h cr f l b =
-    let ls = source_lines v in
+    let ls = lines_of v in
     ap (λ (x : List (List ℕ)). join_with_byte 10 (without_last_blank (without_first_blank (unindented x)))) (raw_lines_are p ls h (lines_are_clean v cr)) ∙
     ap (λ (n : ℕ). join_with_byte 10 (without_last_blank (without_first_blank ([] ∷ map (drop n) (map (indented p) ls ++ p ∷ []))))) (indent_found p ls h b) ∙
     ap (λ (x : List (List ℕ)). join_with_byte 10 (without_last_blank (without_first_blank ([] ∷ x)))) (drop_all p ls) ∙
@@ -226,7 +226,7 @@ many_value p v h cr f l b =
     ap (join_with_byte 10) (lines_kept ls l) ∙
     join_with_byte-slice_split 10 v
 
-lines_one : (v : List ℕ) → list_any (λ c. c == 10) v ≡ false → source_lines v ≡ v ∷ []
+lines_one : (v : List ℕ) → list_any (λ c. c == 10) v ≡ false → lines_of v ≡ v ∷ []
 lines_one [] h = refl
 lines_one (c ∷ v) h =
     let e : (c == 10) ≡ false = grind arith in
@@ -244,9 +244,9 @@ one_kept v h = rw (h, h) refl
 
 pub one_value : (v : List ℕ) → list_all (λ c. not (c == 13)) v ≡ true →
     list_any (λ c. c == 10) v ≡ false →
-    is_blank (get_or (source_lines v) 0 []) ≡ false → block_string_value v ≡ v
+    is_blank (get_or (lines_of v) 0 []) ≡ false → block_string_value v ≡ v
 one_value v cr lf f =
     let e = lines_one v lf in
-    ap (λ (x : List ℕ). join_with_byte 10 (without_last_blank (without_first_blank (unindented (source_lines x))))) (with_lf_same v cr) ∙
+    ap (λ (x : List ℕ). join_with_byte 10 (without_last_blank (without_first_blank (unindented (lines_of x))))) (with_lf_same v cr) ∙
     ap (λ (x : List (List ℕ)). join_with_byte 10 (without_last_blank (without_first_blank (unindented x)))) e ∙
     one_kept v (sym (ap (λ (x : List (List ℕ)). is_blank (get_or x 0 [])) e) ∙ f)

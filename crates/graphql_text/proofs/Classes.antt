@@ -65,9 +65,6 @@ token_not_comment c start = grind (arith, nat_tests)
 pub terminator_ignored : (c : ℕ) → is_line_terminator c ≡ true → is_ignored c ≡ true
 terminator_ignored c ends = grind (arith, nat_tests)
 
-pub start_punctuator : (c : ℕ) → is_punctuator c ≡ true → is_token_start c ≡ true
-start_punctuator c h = rw h refl
-
 pub start_name : (c : ℕ) → is_name_start c ≡ true → is_token_start c ≡ true
 start_name c h = grind (arith, nat_tests)
 

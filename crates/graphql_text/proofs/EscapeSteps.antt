@@ -1,9 +1,8 @@
 -- What escaping quotes does, step by step.
-use Rattle.std.proofs.Common.{◌≡◌, ℕ, zero, suc, ◌-◌, ◌==◌, ◌||◌, length, get_or, arith, Bool, true, false, ◌&&◌, if◌then◌else◌, List, [], ◌∷◌, ◌++◌, drop, length, get_or, arith, refl, ap, sym, ◌∙◌, eqb-true, true≢false}
+use Rattle.std.proofs.Common.{◌≡◌, ℕ, zero, suc, Bool, true, false, ◌&&◌, if◌then◌else◌, List, [], ◌∷◌, ◌++◌, drop, refl, ap, sym, ◌∙◌, eqb-true, true≢false}
 use Rattle.graphql_text.specs.Characters.{is_quote, quotes, escaped_quotes, begins_with}
-use Rattle.graphql_text.proofs.Quotes.{begins_cut}
 use Rattle.graphql_text.proofs.Tests.{all_three, and-false}
-use Rattle.graphql_text.specs.BlockForm.{escape_quotes, would_join_closing_quotes}
+use Rattle.graphql_text.specs.BlockForm.{escape_quotes}
 
 -- both ways to say that three characters are quotes
 three_same : (a b c : ℕ) (text : List ℕ) →
@@ -21,9 +20,6 @@ one_is_none a = and-false (is_quote a)
 
 pub two_are_none : (a b : ℕ) → begins_with quotes (a ∷ b ∷ []) ≡ false
 two_are_none a b = ap (λ x. is_quote a && x) (and-false (is_quote b)) ∙ and-false (is_quote a)
-
-pub quotes_front : (text : List ℕ) → begins_with quotes text ≡ true → text ≡ quotes ++ drop 3 text
-quotes_front = begins_cut quotes
 
 -- where `"""` begins, it is escaped, and what follows it is what is escaped next
 pub escape_here : (text : List ℕ) → begins_with quotes text ≡ true →
@@ -64,9 +60,3 @@ escape_from_is (a ∷ b ∷ c ∷ text) =
         let same : escaped_quotes ++ escape_quotes text ≡ 92 ∷ a ∷ b ∷ c ∷ escape_from 0 text = cc (eqb-true a 0x22 p, eqb-true b 0x22 q, eqb-true c 0x22 r, past) in
         rw (three_same a b c text ∙ h) same
     go false h past next = rw (three_same a b c text ∙ h) (ap (λ (l : List ℕ). a ∷ l) next)
-
--- only the last character decides whether closing quotes can stand right after a text
-pub joins_later : (c d : ℕ) (text : List ℕ) → would_join_closing_quotes (c ∷ d ∷ text) ≡ would_join_closing_quotes (d ∷ text)
-joins_later c d text =
-    let place : length (c ∷ d ∷ text) - 1 ≡ suc (length (d ∷ text) - 1) = omega arith in
-    ap (λ n. let last = get_or (c ∷ d ∷ text) n 0 in is_quote last || (last == 0x5C)) place

@@ -5,7 +5,7 @@ use Rattle.std.proofs.lemmas.Str.{encodes_same}
 use Rattle.graphql_text.specs.Tokens.{Token}
 use Rattle.graphql_text.specs.Forms.{Form}
 use Rattle.graphql_text.specs.Layout.{Item, IsBlankMode, is_broken, is_front}
-use Rattle.graphql_text.specs.PrintedTokens.{Tail}
+use Rattle.graphql_text.proofs.PrintedTokens.{Tail}
 use Rattle.graphql_text.proofs.Spelling.{Gives, Spelling, apart_gives, gives_apart, spelt_alone}
 use Rattle.graphql_text.specs.Spelling.{tokens_of_items}
 use Rattle.graphql_text.specs.Reading.{ReadsAs, layout_of, Laws}

@@ -17,6 +17,7 @@ pub mod BlockValue
 pub mod EscapeSteps
 pub mod BlockLaw
 pub mod Such
+pub mod PrintedTokens
 pub mod Spelling
 pub mod Valid
 pub mod LayoutLexes

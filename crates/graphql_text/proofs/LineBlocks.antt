@@ -3,7 +3,7 @@ use Rattle.std.proofs.lemmas.Bool.{and_parts, and_from, or_parts}
 use Rattle.std.proofs.Common.{ℕ, ◌+◌, ◌-◌, ◌≡◌, Bool, true, false, not, if◌then◌else◌, ◌&&◌, ◌||◌, ◌==◌, List, [], ◌∷◌, ◌++◌, flat_map, length, get_or, refl, ap, sym, ◌∙◌, arith, append_assoc, subst}
 use Rattle.std.specs.List.{list_any, list_all, repeat, onto_first}
 use Rattle.graphql_text.specs.Characters.{is_quote, quotes, begins_with}
-use Rattle.graphql_text.specs.BlockStringValue.{source_lines, is_blank}
+use Rattle.graphql_text.specs.BlockStringValue.{lines_of, is_blank}
 use Rattle.graphql_text.specs.BlockForm.{escape_quotes, would_join_closing_quotes, block_on_one_line, broken_line, block_over_lines, block_form}
 use Rattle.graphql_text.specs.Lines.{ScanState, Outside, OneQuote, TwoQuotes, InBlock}
 use Rattle.graphql_text.proofs.EscapeSteps.{escape_from, escape_from_is}
@@ -157,13 +157,13 @@ onto_no_lf : (c : ℕ) (lines : List (List ℕ)) → not (c == 10) ≡ true → 
 onto_no_lf c [] h k = and_from (not (c == 10) && true) true (and_from (not (c == 10)) true h refl) refl
 onto_no_lf c (line ∷ lines) h k = let (here, more) = and_parts (has_no_lf line) (list_all has_no_lf lines) k in and_from (has_no_lf (c ∷ line)) (list_all has_no_lf lines) (and_from (not (c == 10)) (has_no_lf line) h here) more
 
-lines_are_lines : (text : List ℕ) → list_all has_no_lf (source_lines text) ≡ true
+lines_are_lines : (text : List ℕ) → list_all has_no_lf (lines_of text) ≡ true
 lines_are_lines [] = refl
 lines_are_lines (c ∷ text) = go (c == 10) refl (lines_are_lines text)
   where
-    go : (b : Bool) → (c == 10) ≡ b → list_all has_no_lf (source_lines text) ≡ true → list_all has_no_lf (source_lines (c ∷ text)) ≡ true
+    go : (b : Bool) → (c == 10) ≡ b → list_all has_no_lf (lines_of text) ≡ true → list_all has_no_lf (lines_of (c ∷ text)) ≡ true
     go true e more = rw e more
-    go false e more = rw e (onto_no_lf c (source_lines text) (ap not e) more)
+    go false e more = rw e (onto_no_lf c (lines_of text) (ap not e) more)
 
 without_line_feed : (value : List ℕ) → list_any (λ c. c == 10) value ≡ false → has_no_lf value ≡ true
 without_line_feed [] h = refl
@@ -187,7 +187,7 @@ module _ (prefix : List ℕ) (level depth times : ℕ) (rest : List ℕ) (blank 
   abbrev Left : List (List ℕ) → List ℕ
   Left lines = flat_map (broken_line indent) lines ++ (10 ∷ (indent ++ (quotes ++ rest)))
 
-  left_begins : (lines : List (List ℕ)) → first_is_indented prefix level (InBlock false 0) depth (source_lines (Left lines)) ≡ true
+  left_begins : (lines : List (List ℕ)) → first_is_indented prefix level (InBlock false 0) depth (lines_of (Left lines)) ≡ true
   left_begins [] = refl
   left_begins ([] ∷ lines) = refl
   left_begins ((c ∷ line) ∷ lines) = refl
@@ -211,8 +211,8 @@ module _ (prefix : List ℕ) (level depth times : ℕ) (rest : List ℕ) (blank 
 
   over_lines : (value : List ℕ) → stays_indented prefix level Outside depth (block_over_lines indent value ++ rest) ≡ true
   over_lines value =
-      let parts : block_over_lines indent value ++ rest ≡ quotes ++ Left (source_lines value) = simp append_assoc in
-      ap (stays_indented prefix level Outside depth) parts ∙ opening (Left (source_lines value)) ∙ left_step false 0 (source_lines value) (lines_are_lines value)
+      let parts : block_over_lines indent value ++ rest ≡ quotes ++ Left (lines_of value) = simp append_assoc in
+      ap (stays_indented prefix level Outside depth) parts ∙ opening (Left (lines_of value)) ∙ left_step false 0 (lines_of value) (lines_are_lines value)
 
   on_one_line : (value : List ℕ) → list_any (λ c. c == 10) value ≡ false → would_join_closing_quotes value ≡ false → stays_indented prefix level Outside depth (block_on_one_line value ++ rest) ≡ true
   on_one_line value h k =

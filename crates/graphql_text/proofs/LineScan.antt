@@ -5,7 +5,7 @@ use Rattle.std.proofs.lemmas.Bool.Decides.{nat_tests}
 use Rattle.std.specs.List.{list_any, list_all, repeat, onto_first}
 use Rattle.graphql_base.specs.Names.{begins_in}
 use Rattle.graphql_text.specs.Characters.{is_space_or_tab, is_quote, begins_with}
-use Rattle.graphql_text.specs.BlockStringValue.{source_lines, is_blank}
+use Rattle.graphql_text.specs.BlockStringValue.{lines_of, is_blank}
 use Rattle.graphql_text.proofs.BlockLaw.{blank_repeat}
 use Rattle.graphql_text.specs.Lines.{ScanState, Outside, InBlock, is_outside, next_state, next_depth, state_behind, depth_behind, opens_bracket, closes_bracket, closes_at_front, line_level, is_indented, lines_are_indented}
 
@@ -36,7 +36,7 @@ later_lines_are_indented prefix level state depth (line ∷ lines) = lines_are_i
 
 -- Within a line: the lines that the text has behind it are indented.
 abbrev pub stays_indented : List ℕ → ℕ → ScanState → ℕ → List ℕ → Bool
-stays_indented prefix level state depth text = later_lines_are_indented prefix level state depth (source_lines text)
+stays_indented prefix level state depth text = later_lines_are_indented prefix level state depth (lines_of text)
 
 -- the first of the lines is indented
 abbrev pub first_is_indented : List ℕ → ℕ → ScanState → ℕ → List (List ℕ) → Bool
@@ -46,7 +46,7 @@ first_is_indented prefix level state depth (line ∷ lines) = is_indented prefix
 -- THE FIRST LINE OF A TEXT
 
 abbrev HasLines : List ℕ → List ℕ → List (List ℕ) → Type 0
-HasLines text line lines = source_lines text ≡ line ∷ lines
+HasLines text line lines = lines_of text ≡ line ∷ lines
 
 onto_has : (c : ℕ) (lines : List (List ℕ)) → (line : List ℕ) × (others : List (List ℕ)) × (onto_first c lines ≡ (c ∷ line) ∷ others)
 onto_has c [] = ([], [], refl)
@@ -58,8 +58,8 @@ first_line [] = ([], [], refl)
 first_line (c ∷ text) = go (c == 10) refl
   where
     go : (b : Bool) → (c == 10) ≡ b → (line : List ℕ) × (lines : List (List ℕ)) × HasLines (c ∷ text) line lines
-    go true e = ([], source_lines text, rw e refl)
-    go false e = let (line, lines, is) = onto_has c (source_lines text) in (c ∷ line, lines, rw e is)
+    go true e = ([], lines_of text, rw e refl)
+    go false e = let (line, lines, is) = onto_has c (lines_of text) in (c ∷ line, lines, rw e is)
 
 front_lines : (front text line : List ℕ) (lines : List (List ℕ)) → has_no_lf front ≡ true → HasLines text line lines → HasLines (front ++ text) (front ++ line) lines
 front_lines [] text line lines h is = is
@@ -71,7 +71,7 @@ pub closing_line : (text line : List ℕ) (lines : List (List ℕ)) → begins_i
 closing_line [] line lines h is = cc
 closing_line (c ∷ text) line lines h is =
     let (no_lf, no_blank) = closing_parts c h in
-    let (others, more, onto) = onto_has c (source_lines text) in
+    let (others, more, onto) = onto_has c (lines_of text) in
     let same : (c ∷ others) ∷ more ≡ line ∷ lines = sym onto ∙ (rw no_lf at is) in
     let front : line ≡ c ∷ others = cc in
     rw (front, no_blank) h
@@ -88,10 +88,6 @@ blank_no_lf (c ∷ blank) h =
     let (here, more) = and_parts (is_space_or_tab c) (is_blank blank) h in
     let (no_lf, _, _, _) = quiet_parts c (blank_quiet c here) in
     rw no_lf (blank_no_lf blank more)
-
-begins_itself : (text more : List ℕ) → begins_with text (text ++ more) ≡ true
-begins_itself [] more = refl
-begins_itself (c ∷ text) more = rw (eq-eqb c c refl) (begins_itself text more)
 
 begins_more : (text front more : List ℕ) → begins_with front more ≡ true → begins_with (text ++ front) (text ++ more) ≡ true
 begins_more [] front more h = h
@@ -115,7 +111,7 @@ module _ (prefix : List ℕ) (level : ℕ) where
 
   pub step : (state : ScanState) (depth c : ℕ) (text : List ℕ) → (c == 10) ≡ false →
       stays_indented prefix level state depth (c ∷ text) ≡ stays_indented prefix level (next_state state c) (next_depth state depth c) text
-  step state depth c text e = rw e (step_lines state depth c (source_lines text))
+  step state depth c text e = rw e (step_lines state depth c (lines_of text))
 
   -- the first line, and those behind it
   lines_from : (state : ScanState) (depth : ℕ) (lines : List (List ℕ)) → first_is_indented prefix level state depth lines ≡ true → later_lines_are_indented prefix level state depth lines ≡ true →
@@ -123,9 +119,9 @@ module _ (prefix : List ℕ) (level : ℕ) where
   lines_from state depth [] h k = refl
   lines_from state depth (line ∷ lines) h k = and_from (is_indented prefix (line_level level state depth line) line) _ h k
 
-  pub line_feed : (state : ScanState) (depth : ℕ) (text : List ℕ) → first_is_indented prefix level (next_state state 10) depth (source_lines text) ≡ true →
+  pub line_feed : (state : ScanState) (depth : ℕ) (text : List ℕ) → first_is_indented prefix level (next_state state 10) depth (lines_of text) ≡ true →
       stays_indented prefix level (next_state state 10) depth text ≡ true → stays_indented prefix level state depth (10 ∷ text) ≡ true
-  line_feed state depth text h k = lines_from (next_state state 10) depth (source_lines text) h k
+  line_feed state depth text h k = lines_from (next_state state 10) depth (lines_of text) h k
 
   -- whether blanks leave the state as it is
   abbrev pub rests : ScanState → Bool
@@ -159,7 +155,7 @@ module _ (prefix : List ℕ) (level : ℕ) where
   -- a line that begins with the prefix often enough
   pub line_begins : (state : ScanState) (depth times : ℕ) (text : List ℕ) → is_blank prefix ≡ true →
       ((line : List ℕ) (lines : List (List ℕ)) → HasLines text line lines → line_level level state depth line ≤ times) →
-      first_is_indented prefix level state depth (source_lines (repeat times prefix ++ text)) ≡ true
+      first_is_indented prefix level state depth (lines_of (repeat times prefix ++ text)) ≡ true
   line_begins state depth times text blank low =
       let (line, lines, is) = first_line text in
       let front = blank_repeat times prefix blank in
@@ -177,7 +173,7 @@ module _ (prefix : List ℕ) (level : ℕ) where
       (blank_text (next_state state 10) depth (repeat times prefix) text rest (blank_repeat times prefix blank) ∙ more)
 
   -- a whole text, of which the first line is indented to the level
-  pub whole_text : (text : List ℕ) → is_blank prefix ≡ true → stays_indented prefix level Outside 0 text ≡ true → lines_are_indented prefix level Outside 0 (source_lines (repeat level prefix ++ text)) ≡ true
+  pub whole_text : (text : List ℕ) → is_blank prefix ≡ true → stays_indented prefix level Outside 0 text ≡ true → lines_are_indented prefix level Outside 0 (lines_of (repeat level prefix ++ text)) ≡ true
   whole_text text blank more =
-      lines_from Outside 0 (source_lines (repeat level prefix ++ text)) (line_begins Outside 0 level text blank (λ line lines is. omega arith))
+      lines_from Outside 0 (lines_of (repeat level prefix ++ text)) (line_begins Outside 0 level text blank (λ line lines is. omega arith))
       (blank_text Outside 0 (repeat level prefix) text refl (blank_repeat level prefix blank) ∙ more)

@@ -47,11 +47,11 @@ abbrev pub Opening : List TokenClass → Bool → List Token → List Token → 
 Opening hs n ts r = ((begins hs ts ≡ true) × (length r < length ts)) ⊎ ((n ≡ true) × (ts ≡ r))
 
 -- the parser finds the tree of the form, with this tree and these tokens after it, on at most `k` tokens, where the
--- next token isn't one of `after`; the form begins with one of `heads`, or may be nothing
-pub record Reads {A : Type 0} (k : ℕ) (p : Parser A) (a : A) (f : Form) (after heads : List TokenClass) (n : Bool) : Type 0 where
-  pub finds : (ts r : List Token) → f ts r → length ts ≤ k → begins after r ≡ false →
+-- next token isn't one of `excluded`; the form begins with one of `first_tokens`, or may be nothing
+pub record Reads {A : Type 0} (k : ℕ) (p : Parser A) (a : A) (f : Form) (excluded first_tokens : List TokenClass) (n : Bool) : Type 0 where
+  pub finds : (ts r : List Token) → f ts r → length ts ≤ k → begins excluded r ≡ false →
       p ts ≡ Some (a, r)
-  pub opens : (ts r : List Token) → f ts r → Opening heads n ts r
+  pub opens : (ts r : List Token) → f ts r → Opening first_tokens n ts r
 
 abbrev pub also : List TokenClass → List TokenClass → List TokenClass
 also [] ks = ks
@@ -64,18 +64,18 @@ joined hs false ks = hs
 -- what may not follow the first part isn't what the second begins with, and is among what may not follow the second
 -- where the second may be nothing
 abbrev pub fits : List TokenClass → List TokenClass → Bool → List TokenClass → Bool
-fits after heads true then = all_apart after heads && within after then
-fits after heads false then = all_apart after heads
+fits excluded first_tokens true then = all_apart excluded first_tokens && within excluded then
+fits excluded first_tokens false then = all_apart excluded first_tokens
 
 -- what stands between the first part and the rest, where the second part begins or is nothing
-fits-none : (after heads : List TokenClass) (n : Bool) (then : List TokenClass) (m r : List Token) →
-    fits after heads n then ≡ true → Opening heads n m r → begins then r ≡ false → begins after m ≡ false
-fits-none after heads true then m r e (inl x) g =
-    apart-begins after heads m (and-0 (all_apart after heads) (within after then) e) x.0
-fits-none after heads true then m r e (inr y) g =
-    subst (λ z. begins after z ≡ false) (sym y.1) (within-none after then r (and-1 (all_apart after heads) (within after then) e) g)
-fits-none after heads false then m r e (inl x) g = apart-begins after heads m e x.0
-fits-none after heads false then m r e (inr y) g = cc (y.0)
+fits-none : (excluded first_tokens : List TokenClass) (n : Bool) (then : List TokenClass) (m r : List Token) →
+    fits excluded first_tokens n then ≡ true → Opening first_tokens n m r → begins then r ≡ false → begins excluded m ≡ false
+fits-none excluded first_tokens true then m r e (inl x) g =
+    apart-begins excluded first_tokens m (and-0 (all_apart excluded first_tokens) (within excluded then) e) x.0
+fits-none excluded first_tokens true then m r e (inr y) g =
+    subst (λ z. begins excluded z ≡ false) (sym y.1) (within-none excluded then r (and-1 (all_apart excluded first_tokens) (within excluded then) e) g)
+fits-none excluded first_tokens false then m r e (inl x) g = apart-begins excluded first_tokens m e x.0
+fits-none excluded first_tokens false then m r e (inr y) g = cc (y.0)
 
 also-0 : (hs ks : List TokenClass) (t : Token) → any_admits hs t ≡ true →
     any_admits (also hs ks) t ≡ true

@@ -1,12 +1,12 @@
 -- The scan of a text for `"""`.
-use Rattle.std.proofs.Common.{◌≡◌, ℕ, suc, ◌+◌, ◌-◌, ◌<◌, ◌≤◌, Bool, true, false, ◌||◌, ◌&&◌, ◌==◌, List, [], ◌∷◌, ◌++◌, length, take, drop, get_or, refl, ap, ap₂, sym, ◌∙◌, arith, append_assoc, append-nil, length-drop, drop-drop, drop_of_length-le, drop-cons, add-one, take_all, Decides, ◌⊎◌, inl, inr, IsUtf8, eqb-true}
+use Rattle.std.proofs.Common.{◌≡◌, ℕ, suc, ◌+◌, ◌-◌, ◌<◌, ◌≤◌, Bool, true, false, ◌||◌, ◌&&◌, ◌==◌, List, [], ◌∷◌, ◌++◌, length, take, drop, get_or, refl, ap, sym, ◌∙◌, arith, append_assoc, length-drop, drop-drop, drop-cons, add-one, take_all, Decides, ◌⊎◌, inl, inr, IsUtf8, eqb-true}
 use Rattle.std.specs.Str.{IsCharBoundary}
 use Rattle.std.proofs.lemmas.Str.{IsCharBoundary-after_ascii}
 use Rattle.graphql_text.specs.Characters.{begins_with, quotes, escaped_quotes}
 use Rattle.graphql_text.specs.BlockForm.{escape_quotes, broken_line}
 use Rattle.graphql_text.proofs.EscapeSteps.{escape_here, escape_not_here}
 use Rattle.graphql_text.proofs.Quotes.{begins_cut}
-use Rattle.graphql_text.proofs.Runs.{run, run_none, run_more, run_rest}
+use Rattle.graphql_text.proofs.Runs.{run, run_none, run_more}
 
 -- WHETHER THEY STAND THERE
 
@@ -74,11 +74,6 @@ scan_plain t from i h l q =
 pub scan_quotes : (t : List ℕ) (i : ℕ) → begins_with quotes (drop i t) ≡ true → escape_quotes (drop i t) ≡ escaped_quotes ++ escape_quotes (drop (i + 3) t)
 scan_quotes t i q =
     escape_here (drop i t) q ∙ ap (λ (x : List ℕ). escaped_quotes ++ escape_quotes x) (drop-drop 3 i t)
-
-pub scan_end : (t : List ℕ) (from i : ℕ) → from ≤ i → i ≡ length t → run t from i ++ escape_quotes (drop i t) ≡ drop from t
-scan_end t from i h e =
-    let d : drop i t ≡ [] = drop_of_length-le t (omega (arith, e)) in
-    ap₂ (λ (x y : List ℕ). x ++ escape_quotes y) (run_rest t from i (omega (arith, e))) d ∙ append-nil (drop from t)
 
 pub scan_more : (t done : List ℕ) (from i : ℕ) → begins_with quotes (drop i t) ≡ true → ((done ++ run t from i) ++ escaped_quotes) ++ (run t (i + 3) (i + 3) ++ escape_quotes (drop (i + 3) t)) ≡ done ++ (run t from i ++ escape_quotes (drop i t))
 scan_more t done from i q =

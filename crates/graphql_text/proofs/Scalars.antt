@@ -5,7 +5,7 @@ use Rattle.std.proofs.Math.Utf8.{scalar, low_scalar}
 use Rattle.std.specs.Str.{all_scalars}
 use Rattle.std.specs.List.{list_any, list_all, repeat, onto_first}
 use Rattle.graphql_text.specs.Characters.{is_quote, quotes, escaped_quotes, is_space_or_tab}
-use Rattle.graphql_text.specs.BlockStringValue.{is_blank, source_lines}
+use Rattle.graphql_text.specs.BlockStringValue.{is_blank, lines_of}
 use Rattle.graphql_text.specs.BlockForm.{escape_quotes, broken_line, block_over_lines, block_on_one_line, would_join_closing_quotes, can_be_block, block_form}
 use Rattle.graphql_text.specs.QuotedForm.{upper_hex_digit, written, quoted_character, quoted_form}
 use Rattle.graphql_text.specs.Tokens.{Punctuator, bang, dollar, amp, lparen, rparen, spread, colon, equals, at, lbracket, rbracket, lbrace, bar, rbrace, punctuator_text, Token, Punctuation, Name, IntValue, FloatValue, StringValue}
@@ -112,16 +112,16 @@ before_scalars c (line ∷ lines) h k =
     and_from (scalar c && all_scalars line) (list_all all_scalars lines) (and_from (scalar c) (all_scalars line) h parts.0) parts.1
 
 lines_scalars : (text : List ℕ) → all_scalars text ≡ true →
-    list_all all_scalars (source_lines text) ≡ true
+    list_all all_scalars (lines_of text) ≡ true
 lines_scalars [] h = refl
 lines_scalars (c ∷ text) h =
     let parts = and_parts (scalar c) (all_scalars text) h in
     go (c == 10) parts.0 (lines_scalars text parts.1)
   where
-    go : (b : Bool) → scalar c ≡ true → list_all all_scalars (source_lines text) ≡ true →
-        list_all all_scalars (cond b ([] ∷ source_lines text) (onto_first c (source_lines text))) ≡ true
+    go : (b : Bool) → scalar c ≡ true → list_all all_scalars (lines_of text) ≡ true →
+        list_all all_scalars (cond b ([] ∷ lines_of text) (onto_first c (lines_of text))) ≡ true
     go true one more = more
-    go false one more = before_scalars c (source_lines text) one more
+    go false one more = before_scalars c (lines_of text) one more
 
 broken_scalars : (indent : List ℕ) (lines : List (List ℕ)) → all_scalars indent ≡ true →
     list_all all_scalars lines ≡ true → all_scalars (flat_map (broken_line indent) lines) ≡ true
@@ -139,7 +139,7 @@ block_scalars indent long value h k =
     go : (b : Bool) →
         all_scalars (if b then block_over_lines indent value else block_on_one_line value) ≡ true
     go true =
-        scalars_append (flat_map (broken_line indent) (source_lines value)) (10 ∷ indent ++ quotes) (broken_scalars indent (source_lines value) h (lines_scalars value k)) (scalars_append indent quotes h refl)
+        scalars_append (flat_map (broken_line indent) (lines_of value)) (10 ∷ indent ++ quotes) (broken_scalars indent (lines_of value) h (lines_scalars value k)) (scalars_append indent quotes h refl)
     go false = scalars_append (escape_quotes value) quotes (escape_scalars value k) refl
 
 -- LAYOUTS

@@ -1,10 +1,10 @@
 -- How what parts spell follows on.
-use Rattle.std.proofs.Common.{◌≡◌, ℕ, Bool, true, false, List, [], ◌∷◌, ◌++◌, refl, sym, ◌∙◌, subst, append-nil, append_assoc, map}
-use Rattle.graphql_text.specs.Literals.{NameText, IntText, FloatText, StringText}
+use Rattle.std.proofs.Common.{◌≡◌, ℕ, Bool, true, false, List, [], ◌∷◌, ◌++◌, refl, sym, ap, ◌∙◌, subst, append-nil, append_assoc, map}
+use Rattle.graphql_text.specs.Literals.{IntText, FloatText, StringText}
 use Rattle.graphql_base.specs.Names.{is_name}
 use Rattle.graphql_text.specs.Tokens.{Punctuator, lbrace, rbrace, Token, Punctuation, Name, IntValue, FloatValue, StringValue}
 use Rattle.graphql_text.specs.Layout.{Item, Word, StringItem, StringRole, Space, Comma, Soft, Tight, Blank, Finish, Raise, Lower, flat, enclosed, each_after, last_comma, comma_group, curly_group}
-use Rattle.graphql_text.specs.PrintedTokens.{Tail, list_tokens}
+use Rattle.graphql_text.proofs.PrintedTokens.{Tail, list_tokens}
 use Rattle.graphql_text.specs.Spelling.{tokens_of_items, punctuator_leaves_room, leaves_room, StandsBefore, AreApart}
 
 -- The items give the tokens: its words and strings in order, each of which may stand before what follows it.
@@ -18,9 +18,24 @@ Gives (StringItem value role ∷ items) (token ∷ tokens) =
     (token ≡ StringValue value) × StandsBefore (StringValue value) items × Gives items tokens
 Gives (_ ∷ items) tokens = Gives items tokens
 
--- The items of a part spell its tokens, put in front of those that follow, before all items that leave room.
+-- The words and strings of items that stand behind one another.
+joined_items : (xs ys : List Item) → tokens_of_items (xs ++ ys) ≡ tokens_of_items xs ++ tokens_of_items ys
+joined_items [] ys = refl
+joined_items (Word token ∷ xs) ys = ap (λ ts. token ∷ ts) (joined_items xs ys)
+joined_items (StringItem value role ∷ xs) ys = ap (λ ts. StringValue value ∷ ts) (joined_items xs ys)
+joined_items (Space ∷ xs) ys = joined_items xs ys
+joined_items (Comma ∷ xs) ys = joined_items xs ys
+joined_items (Soft ∷ xs) ys = joined_items xs ys
+joined_items (Tight ∷ xs) ys = joined_items xs ys
+joined_items (Blank ∷ xs) ys = joined_items xs ys
+joined_items (Finish ∷ xs) ys = joined_items xs ys
+joined_items (Raise ∷ xs) ys = joined_items xs ys
+joined_items (Lower ∷ xs) ys = joined_items xs ys
+
+-- The items of a part have its tokens, in front of those that follow, and spell them before all items that leave room.
 -- `opens` says that the part leaves room itself, or is nothing.
-pub record Spelling (items : List Item) (tokens : List Token → List Token) (opens : Bool) : Type 0 where
+pub record Spelling (items : List Item) (tokens : Tail) (opens : Bool) : Type 0 where
+  pub lists : (others : List Token) → tokens_of_items items ++ others ≡ tokens others
   pub gives : (rest : List Item) (others : List Token) → leaves_room rest ≡ true →
       Gives rest others → Gives (items ++ rest) (tokens others)
   pub room : opens ≡ true → (rest : List Item) → leaves_room rest ≡ true →
@@ -61,12 +76,14 @@ gives_apart (Lower ∷ items) tokens given = gives_apart items tokens given
 
 -- nothing
 pub spelt_nothing : Spelling [] (λ ts. ts) true
-spelt_nothing = record { gives = λ rest ts r g. g; room = λ o rest r. r }
+spelt_nothing = record { lists = λ ts. refl; gives = λ rest ts r g. g; room = λ o rest r. r }
 
 -- one part and then another
 pub spelt_then : {xs ys : List Item} {v w : Tail} {o : Bool} → Spelling xs v o →
     Spelling ys w true → Spelling (xs ++ ys) (λ ts. v (w ts)) o
 spelt_then {xs} {ys} {v} {w} a b = record {
+  lists = λ ts.
+      ap (λ l. l ++ ts) (joined_items xs ys) ∙ append_assoc (tokens_of_items xs) (tokens_of_items ys) ts ∙ ap (λ l. tokens_of_items xs ++ l) (b.lists ts) ∙ a.lists (w ts);
   gives =
       λ rest ts r g. subst (λ l. Gives l (v (w ts))) (sym (append_assoc xs ys rest)) (a.gives (ys ++ rest) (w ts) (b.room refl rest r) (b.gives rest ts r g));
   room =
@@ -77,70 +94,66 @@ spelt_then {xs} {ys} {v} {w} a b = record {
 pub spelt_mark : {xs : List Item} {w : Tail} {o : Bool} (mark : Punctuator) → Spelling xs w o →
     Spelling (Word (Punctuation mark) ∷ xs) (λ ts. Punctuation mark ∷ w ts) (punctuator_leaves_room mark)
 spelt_mark mark a =
-    record { gives = λ rest ts r g. (refl, tt, a.gives rest ts r g); room = λ o rest r. o }
+    record { lists = λ ts. ap (λ l. Punctuation mark ∷ l) (a.lists ts); gives = λ rest ts r g. (refl, tt, a.gives rest ts r g); room = λ o rest r. o }
 
 -- a word or a name before a part
 pub spelt_word : {xs : List Item} {w : Tail} (text : List ℕ) → is_name text ≡ true →
     Spelling xs w true → Spelling (Word (Name text) ∷ xs) (λ ts. Name text ∷ w ts) false
 spelt_word text is a =
-    record { gives = λ rest ts r g. (refl, (is, a.room refl rest r), a.gives rest ts r g); room = λ o rest r. cc }
-
-pub spelt_name : {xs : List Item} {w : Tail} (name : NameText) → Spelling xs w true →
-    Spelling (Word (Name name.text) ∷ xs) (λ ts. Name name.text ∷ w ts) false
-spelt_name name a = spelt_word name.text name.valid a
+    record { lists = λ ts. ap (λ l. Name text ∷ l) (a.lists ts); gives = λ rest ts r g. (refl, (is, a.room refl rest r), a.gives rest ts r g); room = λ o rest r. cc }
 
 pub spelt_int : {xs : List Item} {w : Tail} (int : IntText) → Spelling xs w true →
     Spelling (Word (IntValue int.text) ∷ xs) (λ ts. IntValue int.text ∷ w ts) false
 spelt_int int a =
-    record { gives = λ rest ts r g. (refl, (int.valid, a.room refl rest r), a.gives rest ts r g); room = λ o rest r. cc }
+    record { lists = λ ts. ap (λ l. IntValue int.text ∷ l) (a.lists ts); gives = λ rest ts r g. (refl, (int.valid, a.room refl rest r), a.gives rest ts r g); room = λ o rest r. cc }
 
 pub spelt_float : {xs : List Item} {w : Tail} (float : FloatText) → Spelling xs w true →
     Spelling (Word (FloatValue float.text) ∷ xs) (λ ts. FloatValue float.text ∷ w ts) false
 spelt_float float a =
-    record { gives = λ rest ts r g. (refl, (float.valid, a.room refl rest r), a.gives rest ts r g); room = λ o rest r. cc }
+    record { lists = λ ts. ap (λ l. FloatValue float.text ∷ l) (a.lists ts); gives = λ rest ts r g. (refl, (float.valid, a.room refl rest r), a.gives rest ts r g); room = λ o rest r. cc }
 
 pub spelt_string : {xs : List Item} {w : Tail} (value : StringText) (role : StringRole) →
     Spelling xs w true →
     Spelling (StringItem value.text role ∷ xs) (λ ts. StringValue value.text ∷ w ts) false
 spelt_string value role a =
-    record { gives = λ rest ts r g. (refl, (value.valid, a.room refl rest r), a.gives rest ts r g); room = λ o rest r. cc }
+    record { lists = λ ts. ap (λ l. StringValue value.text ∷ l) (a.lists ts); gives = λ rest ts r g. (refl, (value.valid, a.room refl rest r), a.gives rest ts r g); room = λ o rest r. cc }
 
 -- a separator or a mark before a part
 pub spelt_space : {xs : List Item} {w : Tail} {o : Bool} → Spelling xs w o →
     Spelling (Space ∷ xs) w true
-spelt_space a = record { gives = a.gives; room = λ o rest r. refl }
+spelt_space a = record { lists = a.lists; gives = a.gives; room = λ o rest r. refl }
 
 pub spelt_comma : {xs : List Item} {w : Tail} {o : Bool} → Spelling xs w o →
     Spelling (Comma ∷ xs) w true
-spelt_comma a = record { gives = a.gives; room = λ o rest r. refl }
+spelt_comma a = record { lists = a.lists; gives = a.gives; room = λ o rest r. refl }
 
 pub spelt_soft : {xs : List Item} {w : Tail} {o : Bool} → Spelling xs w o →
     Spelling (Soft ∷ xs) w true
-spelt_soft a = record { gives = a.gives; room = λ o rest r. refl }
+spelt_soft a = record { lists = a.lists; gives = a.gives; room = λ o rest r. refl }
 
 pub spelt_blank : {xs : List Item} {w : Tail} {o : Bool} → Spelling xs w o →
     Spelling (Blank ∷ xs) w true
-spelt_blank a = record { gives = a.gives; room = λ o rest r. refl }
+spelt_blank a = record { lists = a.lists; gives = a.gives; room = λ o rest r. refl }
 
 pub spelt_tight : {xs : List Item} {w : Tail} {o : Bool} → Spelling xs w o →
     Spelling (Tight ∷ xs) w o
-spelt_tight a = record { gives = a.gives; room = a.room }
+spelt_tight a = record { lists = a.lists; gives = a.gives; room = a.room }
 
 pub spelt_finish : {xs : List Item} {w : Tail} {o : Bool} → Spelling xs w o →
     Spelling (Finish ∷ xs) w o
-spelt_finish a = record { gives = a.gives; room = a.room }
+spelt_finish a = record { lists = a.lists; gives = a.gives; room = a.room }
 
 pub spelt_raise : {xs : List Item} {w : Tail} {o : Bool} → Spelling xs w o →
     Spelling (Raise ∷ xs) w o
-spelt_raise a = record { gives = a.gives; room = a.room }
+spelt_raise a = record { lists = a.lists; gives = a.gives; room = a.room }
 
 pub spelt_lower : {xs : List Item} {w : Tail} {o : Bool} → Spelling xs w o →
     Spelling (Lower ∷ xs) w o
-spelt_lower a = record { gives = a.gives; room = a.room }
+spelt_lower a = record { lists = a.lists; gives = a.gives; room = a.room }
 
 -- a part that is known to leave room, where that isn't asked
 pub spelt_weaker : {xs : List Item} {w : Tail} {o : Bool} → Spelling xs w o → Spelling xs w false
-spelt_weaker a = record { gives = a.gives; room = λ o rest r. cc }
+spelt_weaker a = record { lists = a.lists; gives = a.gives; room = λ o rest r. cc }
 
 pub spelt_enclosed : {xs : List Item} {w : Tail} {o : Bool} → Spelling xs w o →
     Spelling (enclosed xs) w o
@@ -193,9 +206,24 @@ gives_flat (Finish ∷ xs) rest ts g = gives_flat xs rest ts g
 gives_flat (Raise ∷ xs) rest ts g = gives_flat xs rest ts g
 gives_flat (Lower ∷ xs) rest ts g = gives_flat xs rest ts g
 
+tokens_flat : (xs : List Item) → tokens_of_items (flat xs) ≡ tokens_of_items xs
+unfolding flat
+tokens_flat [] = refl
+tokens_flat (Word token ∷ xs) = ap (λ ts. token ∷ ts) (tokens_flat xs)
+tokens_flat (StringItem value role ∷ xs) = ap (λ ts. StringValue value ∷ ts) (tokens_flat xs)
+tokens_flat (Space ∷ xs) = tokens_flat xs
+tokens_flat (Comma ∷ xs) = tokens_flat xs
+tokens_flat (Soft ∷ xs) = tokens_flat xs
+tokens_flat (Tight ∷ xs) = tokens_flat xs
+tokens_flat (Blank ∷ xs) = tokens_flat xs
+tokens_flat (Finish ∷ xs) = tokens_flat xs
+tokens_flat (Raise ∷ xs) = tokens_flat xs
+tokens_flat (Lower ∷ xs) = tokens_flat xs
+
 -- on one line the same tokens are spelled
 pub spelt_flat : {xs : List Item} {w : Tail} {o : Bool} → Spelling xs w o → Spelling (flat xs) w o
 spelt_flat {xs} {w} a = record {
+  lists = λ ts. ap (λ l. l ++ ts) (tokens_flat xs) ∙ a.lists ts;
   gives = λ rest ts r g. gives_flat xs rest (w ts) (a.gives rest ts r g);
   room = λ o rest r. room_flat xs rest ∙ a.room o rest r;
 }
@@ -265,6 +293,3 @@ spelt_curly_group (one_more a more) =
 -- what a part spells by itself
 pub spelt_alone : {items : List Item} {tokens : List Token → List Token} {opens : Bool} → Spelling items tokens opens → Gives items (tokens [])
 spelt_alone {items} {tokens} spelling = subst (λ l. Gives l (tokens [])) (append-nil items) (spelling.gives [] [] refl refl)
-
-pub spelt_tokens : {items : List Item} {tokens : List Token → List Token} {opens : Bool} → Spelling items tokens opens → tokens_of_items items ≡ tokens []
-spelt_tokens {items} {tokens} spelling = sym (gives_apart items (tokens []) (spelt_alone spelling)).1

@@ -1,17 +1,9 @@
 -- A stack that is emptied again and again.
-use Rattle.std.proofs.Common.{ℕ, ◌≤◌, arith}
+use Rattle.std.proofs.Common.{ℕ, arith}
 use Rattle.graphql_text.specs.Stack.{IsKept, IsReady}
 use Rattle.graphql_text.specs.declared.stack.Stack.{Stack}
 
 module _ {T : Type 0} where
-  -- it has room for fewer parts too
-  pub ready_for_less : {s : Stack T} {m n : ℕ} → IsReady s n → m ≤ n → IsReady s m
-  ready_for_less {s} {m} {n} ready less = record { parts = ready.parts; room = omega (arith, ready.room, less) }
-
-  -- it is as ready as it was
-  pub ready_again : {a b : Stack T} {n : ℕ} → IsReady a n → IsKept a b → IsReady b n
-  ready_again {a} {b} {n} ready kept = record { parts = kept.parts; room = omega (arith, ready.room, kept.room) }
-
   pub kept_unused : {s : Stack T} {n : ℕ} → IsReady s n → IsKept s s
   kept_unused {s} {n} ready = record { parts = ready.parts; room = omega arith }
 

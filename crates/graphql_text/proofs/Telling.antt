@@ -1,13 +1,14 @@
 -- The shape of a part, told once: the tokens that it spells, how its brackets fit its marks, and how deep it nests.
-use Rattle.std.proofs.Common.{ℕ, suc, max, ◌≡◌, Bool, true, false, List, [], ◌∷◌, ◌++◌, map, refl}
+use Rattle.std.proofs.Common.{ℕ, suc, max, ◌≡◌, Bool, true, false, List, [], ◌∷◌, ◌++◌, map, refl, sym, subst}
 use Rattle.graphql_base.specs.Names.{is_name}
 use Rattle.graphql_text.specs.Literals.{NameText, IntText, FloatText, StringText}
-use Rattle.graphql_text.specs.Tokens.{Punctuator, lbracket, rbracket, lbrace, rbrace, Punctuation, Name, IntValue, FloatValue, StringValue}
-use Rattle.graphql_text.specs.Layout.{Item, Word, StringItem, StringRole, Space, Comma, Soft, Blank, flat, comma_group, curly_group}
+use Rattle.graphql_text.specs.Tokens.{Punctuator, lbracket, rbracket, lbrace, rbrace, Token, Punctuation, Name, IntValue, FloatValue, StringValue}
+use Rattle.graphql_text.specs.Forms.{Form}
+use Rattle.graphql_text.specs.Layout.{Item, Word, StringItem, StringRole, Space, Soft, Blank, flat, comma_group, curly_group}
 use Rattle.graphql_text.specs.Nesting.{group_nesting}
-use Rattle.graphql_text.specs.PrintedTokens.{Tail, list_tokens}
+use Rattle.graphql_text.proofs.PrintedTokens.{Tail, list_tokens}
 use Rattle.graphql_text.specs.Spelling.{punctuator_leaves_room, tokens_of_items}
-use Rattle.graphql_text.proofs.Spelling.{Spelling, spelt_nothing, spelt_then, spelt_mark, spelt_word, spelt_name, spelt_int, spelt_float, spelt_string, spelt_space, spelt_comma, spelt_soft, spelt_blank, spelt_tokens, spelt_weaker, spelt_flat, spelt_comma_group, spelt_curly_group}
+use Rattle.graphql_text.proofs.Spelling.{Spelling, spelt_nothing, spelt_then, spelt_mark, spelt_word, spelt_int, spelt_float, spelt_string, spelt_space, spelt_comma, spelt_soft, spelt_blank, spelt_weaker, spelt_flat, spelt_comma_group, spelt_curly_group}
 use Rattle.graphql_text.proofs.Spelling as spelling
 use Rattle.graphql_text.proofs.Bracketing.{Effect, Opens, Closes, Passes, punctuator_effect, Bracketed, bracketed_nothing, bracketed_then, bracketed_after, bracketed_as, bracketed_word, bracketed_string, bracketed_space, bracketed_comma, bracketed_soft, bracketed_blank, bracketed_type, bracketed_flat, bracketed_comma_group, bracketed_curly_group}
 use Rattle.graphql_text.proofs.Bracketing as bracketing
@@ -60,9 +61,6 @@ told_string value role a = record { spelt = spelt_string value role a.spelt; bra
 pub told_space : {u n : ℕ} {xs : List Item} {w : Tail} {o : Bool} → Told u xs w o n → Told u (Space ∷ xs) w true n
 told_space a = record { spelt = spelt_space a.spelt; bracketed = bracketed_space a.bracketed }
 
-pub told_comma : {u n : ℕ} {xs : List Item} {w : Tail} {o : Bool} → Told u xs w o n → Told u (Comma ∷ xs) w true n
-told_comma a = record { spelt = spelt_comma a.spelt; bracketed = bracketed_comma a.bracketed }
-
 pub told_soft : {n : ℕ} {xs : List Item} {w : Tail} {o : Bool} → Told 0 xs w o n → Told 0 (Soft ∷ xs) w true n
 told_soft a = record { spelt = spelt_soft a.spelt; bracketed = bracketed_soft a.bracketed }
 
@@ -102,6 +100,6 @@ told_comma_group opening closing broken o k r parts = record { spelt = spelt_com
 pub told_curly_group : {xs : List (List Item)} {w : Tail} {ns : List ℕ} → Parts xs w ns → Told 0 (curly_group xs) (λ ts. Punctuation lbrace ∷ w (Punctuation rbrace ∷ ts)) true (group_nesting ns)
 told_curly_group parts = record { spelt = spelt_curly_group (parts_spelt parts); bracketed = bracketed_curly_group (parts_bracketed parts) }
 
--- the words and strings of a part by itself
-pub told_tokens : {u n : ℕ} {xs : List Item} {w : Tail} {o : Bool} → Told u xs w o n → tokens_of_items xs ≡ w []
-told_tokens a = spelt_tokens a.spelt
+-- what derives from the tokens derives from the words and strings of the items
+pub told_derives : {u n : ℕ} {xs : List Item} {w : Tail} {o : Bool} (form : Form) (rest : List Token) → Told u xs w o n → form (w rest) rest → form (tokens_of_items xs ++ rest) rest
+told_derives form rest a derived = let spelt = a.spelt in subst (λ ts. form ts rest) (sym (spelt.lists rest)) derived

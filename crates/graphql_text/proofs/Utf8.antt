@@ -7,7 +7,7 @@ use Rattle.std.proofs.Math.ListN.{get_or-map}
 use Rattle.std.proofs.lemmas.List.{length-map}
 use Rattle.std.proofs.lemmas.Str.{encodes-append, encode_ascii, encodes-chars}
 use Rattle.graphql_text.specs.Characters.{begins_with, is_space_or_tab, quotes, escaped_quotes}
-use Rattle.graphql_text.specs.BlockStringValue.{source_lines, is_blank}
+use Rattle.graphql_text.specs.BlockStringValue.{lines_of, is_blank}
 use Rattle.graphql_text.specs.BlockForm.{escape_quotes, begins_unindented, can_be_block, would_join_closing_quotes, block_on_one_line, broken_line, block_over_lines, block_form, block_text}
 use Rattle.graphql_text.specs.QuotedForm.{upper_hex_digit, written, quoted_character, quoted_form}
 use Rattle.graphql_text.specs.Layout.{break_text}
@@ -204,14 +204,14 @@ on_front : List ℕ → List (List ℕ) → List (List ℕ)
 on_front l [] = l ∷ []
 on_front l (m ∷ ms) = (l ++ m) ∷ ms
 
-front_lines : (h : List ℕ) (b : ℕ) (t : List ℕ) → 128 ≤ b → High h → source_lines (b ∷ h ++ t) ≡ on_front (b ∷ h) (source_lines t)
+front_lines : (h : List ℕ) (b : ℕ) (t : List ℕ) → 128 ≤ b → High h → lines_of (b ∷ h ++ t) ≡ on_front (b ∷ h) (lines_of t)
 unfolding on_front
-front_lines [] b t k r = rw (no_key b 10 k (omega arith)) (same (source_lines t))
+front_lines [] b t k r = rw (no_key b 10 k (omega arith)) (same (lines_of t))
   where
     same : (ls : List (List ℕ)) → onto_first b ls ≡ on_front (b ∷ []) ls
     same [] = refl
     same (l ∷ ls) = refl
-front_lines (d ∷ h) b t k r = rw (no_key b 10 k (omega arith)) (ap (onto_first b) (front_lines h d t r.0 r.1) ∙ same (source_lines t))
+front_lines (d ∷ h) b t k r = rw (no_key b 10 k (omega arith)) (ap (onto_first b) (front_lines h d t r.0 r.1) ∙ same (lines_of t))
   where
     same : (ls : List (List ℕ)) → onto_first b (on_front (d ∷ h) ls) ≡ on_front (b ∷ d ∷ h) ls
     same [] = refl
@@ -226,19 +226,19 @@ front_ascii : (c : ℕ) (ls : List (List ℕ)) → c < 128 → onto_first c (map
 front_ascii c [] h = rw (encode_ascii c h) refl
 front_ascii c (l ∷ ls) h = rw (encode_ascii c h) refl
 
-lines_bytes : (cs : List ℕ) → source_lines (encode_utf8_all cs) ≡ map encode_utf8_all (source_lines cs)
+lines_bytes : (cs : List ℕ) → lines_of (encode_utf8_all cs) ≡ map encode_utf8_all (lines_of cs)
 lines_bytes [] = refl
 lines_bytes (c ∷ cs) = go (encoded c) (lines_bytes cs)
   where
-    ascii : (b : Bool) → (c == 10) ≡ b → c < 128 → source_lines (encode_utf8_all cs) ≡ map encode_utf8_all (source_lines cs) → source_lines (c ∷ encode_utf8_all cs) ≡ map encode_utf8_all (source_lines (c ∷ cs))
+    ascii : (b : Bool) → (c == 10) ≡ b → c < 128 → lines_of (encode_utf8_all cs) ≡ map encode_utf8_all (lines_of cs) → lines_of (c ∷ encode_utf8_all cs) ≡ map encode_utf8_all (lines_of (c ∷ cs))
     ascii true e h r = rw e (ap (λ (x : List (List ℕ)). [] ∷ x) r)
-    ascii false e h r = rw e (ap (onto_first c) r ∙ front_ascii c (source_lines cs) h)
+    ascii false e h r = rw e (ap (onto_first c) r ∙ front_ascii c (lines_of cs) h)
 
-    go : Encoded c (encode c) → source_lines (encode_utf8_all cs) ≡ map encode_utf8_all (source_lines cs) → source_lines (encode c ++ encode_utf8_all cs) ≡ map encode_utf8_all (source_lines (c ∷ cs))
+    go : Encoded c (encode c) → lines_of (encode_utf8_all cs) ≡ map encode_utf8_all (lines_of cs) → lines_of (encode c ++ encode_utf8_all cs) ≡ map encode_utf8_all (lines_of (c ∷ cs))
     go (inl (h, e)) r = rw (encode_ascii c h) (ascii (c == 10) refl h r)
     go (inr (h, y)) r =
-        ap (λ (x : List ℕ). source_lines (x ++ encode_utf8_all cs)) y.made ∙ front_lines y.tail y.head (encode_utf8_all cs) y.high y.rest ∙ ap₂ on_front (sym y.made) r ∙ front_map c (source_lines cs)
-        ∙ sym (ap (λ (b : Bool). map encode_utf8_all (if b then [] ∷ source_lines cs else onto_first c (source_lines cs))) (no_key c 10 h (omega arith)))
+        ap (λ (x : List ℕ). lines_of (x ++ encode_utf8_all cs)) y.made ∙ front_lines y.tail y.head (encode_utf8_all cs) y.high y.rest ∙ ap₂ on_front (sym y.made) r ∙ front_map c (lines_of cs)
+        ∙ sym (ap (λ (b : Bool). map encode_utf8_all (if b then [] ∷ lines_of cs else onto_first c (lines_of cs))) (no_key c 10 h (omega arith)))
 
 unindented_bytes : (cs : List ℕ) → begins_unindented (encode_utf8_all cs) ≡ begins_unindented cs
 unindented_bytes [] = refl
@@ -257,12 +257,12 @@ line_bytes ls i = get_or-map encode_utf8_all ls i []
 
 can_be_block_bytes : (cs : List ℕ) → can_be_block (encode_utf8_all cs) ≡ can_be_block cs
 can_be_block_bytes cs =
-    let ls : List (List ℕ) = source_lines cs in
+    let ls : List (List ℕ) = lines_of cs in
     let e = lines_bytes cs in
-    let at : (i : ℕ) → is_blank (get_or (source_lines (encode_utf8_all cs)) i []) ≡ is_blank (get_or ls i []) =
+    let at : (i : ℕ) → is_blank (get_or (lines_of (encode_utf8_all cs)) i []) ≡ is_blank (get_or ls i []) =
     λ i. ap (λ (x : List (List ℕ)). is_blank (get_or x i [])) e ∙ ap is_blank (line_bytes ls i) ∙ blank_bytes (get_or ls i []) in
-    let n : length (source_lines (encode_utf8_all cs)) ≡ length ls = ap length e ∙ length-map ls encode_utf8_all in
-    let b : list_any begins_unindented (source_lines (encode_utf8_all cs)) ≡ list_any begins_unindented ls = ap (list_any begins_unindented) e ∙ any_unindented ls in
+    let n : length (lines_of (encode_utf8_all cs)) ≡ length ls = ap length e ∙ length-map ls encode_utf8_all in
+    let b : list_any begins_unindented (lines_of (encode_utf8_all cs)) ≡ list_any begins_unindented ls = ap (list_any begins_unindented) e ∙ any_unindented ls in
     rw (no_key_bytes 13 (omega arith) cs, n, at 0, at (length ls - 1), b) refl
 
 -- the block form
@@ -325,9 +325,9 @@ all_broken_bytes p (l ∷ ls) = ap₂ (λ (a b : List ℕ). a ++ b) (broken_byte
 
 over_lines_bytes : (p cs : List ℕ) → block_over_lines (encode_utf8_all p) (encode_utf8_all cs) ≡ encode_utf8_all (block_over_lines p cs)
 over_lines_bytes p cs =
-    let body : List ℕ = flat_map (broken_line p) (source_lines cs) in
-    let b : flat_map (broken_line (encode_utf8_all p)) (source_lines (encode_utf8_all cs)) ≡ encode_utf8_all body =
-    ap (flat_map (broken_line (encode_utf8_all p))) (lines_bytes cs) ∙ all_broken_bytes p (source_lines cs) in
+    let body : List ℕ = flat_map (broken_line p) (lines_of cs) in
+    let b : flat_map (broken_line (encode_utf8_all p)) (lines_of (encode_utf8_all cs)) ≡ encode_utf8_all body =
+    ap (flat_map (broken_line (encode_utf8_all p))) (lines_bytes cs) ∙ all_broken_bytes p (lines_of cs) in
     let e : 10 ∷ encode_utf8_all p ++ quotes ≡ encode_utf8_all (10 ∷ p ++ quotes) = ap (λ (x : List ℕ). 10 ∷ encode_utf8_all p ++ x) (sym (quotes_are_bytes [])) ∙ lf_bytes p quotes in
     ap₂ (λ (x y : List ℕ). quotes ++ (x ++ y)) b e ∙ ap (λ (x : List ℕ). quotes ++ x) (sym (encodes-append body (10 ∷ p ++ quotes))) ∙ sym (quotes_are_bytes (body ++ (10 ∷ p ++ quotes)))
 

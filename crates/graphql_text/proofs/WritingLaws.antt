@@ -3,7 +3,7 @@ use Rattle.std.proofs.Common.{◌≡◌, ℕ, ◌+◌, ◌-◌, List, [], ◌∷
 use Rattle.std.proofs.lemmas.Str.{encodes-append}
 use Rattle.graphql_text.specs.Layout.{Item, Raise, Lower, flat, item_text, raises, raises_at, lowers, lowers_at, text_of_items}
 use Rattle.graphql_text.specs.Writing.{WritesItems, WritesToLevel, WritesFront}
-use Rattle.graphql_text.proofs.LevelLaws.{raises_append, lowers_append, laid_balanced, laid_one, laid_inner, laid_flat, raises_flat, lowers_flat, laid_append, laid_level, raise_text, lower_text}
+use Rattle.graphql_text.proofs.LevelLaws.{raises_append, lowers_append, laid_balanced, laid_one, laid_flat, raises_flat, lowers_flat, laid_append, laid_level, raise_text, lower_text}
 
 module _ {O : Type 0} {wrote : O → List ℕ → O → Type 0} where
   -- one writer after another
@@ -22,14 +22,6 @@ module _ {O : Type 0} {wrote : O → List ℕ → O → Type 0} where
   pub writes_nothing : (nothing : (a : O) → wrote a [] a) {a : O} {mode : Option (List ℕ)} {v : ℕ} → WritesItems wrote a a mode v []
   unfolding text_of_items raises lowers
   writes_nothing nothing {a} = record { text = nothing a; balanced = refl }
-
-  -- what is written at the next level stands inside a bracket
-  pub writes_inner : {a b : O} {mode : Option (List ℕ)} {v : ℕ} {xs : List Item} → WritesItems wrote a b mode (v + 1) xs → WritesItems wrote a b mode v (Raise ∷ (xs ++ (Lower ∷ [])))
-  unfolding raises lowers
-  writes_inner {a} {b} {mode} {v} {xs} h = record {
-    text = rw (laid_inner mode v xs) h.text;
-    balanced = omega (arith, raises_append xs (Lower ∷ []), lowers_append xs (Lower ∷ []), h.balanced);
-  }
 
   -- what is written on one line
   pub writes_flat : {a b : O} (mode : Option (List ℕ)) {v : ℕ} {xs : List Item} → WritesItems wrote a b None v xs → WritesItems wrote a b mode v (flat xs)

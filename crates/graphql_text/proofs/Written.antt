@@ -1,8 +1,8 @@
 -- What is printed of parts derives them, and parts that are derived hold what each of them does.
-use Rattle.std.proofs.Common.{refl, List, [], ◌∷◌, Option, Some, None}
+use Rattle.std.proofs.Common.{refl, List, [], ◌∷◌}
 use Rattle.graphql_text.specs.Tokens.{Punctuator, Token}
-use Rattle.graphql_text.specs.Forms.{Form, token, no_tokens, ◌⨟◌, optional, list_of, optional_group}
-use Rattle.graphql_text.specs.PrintedTokens.{Tail, optional_tokens, list_tokens, group_tokens, Every, IfThere}
+use Rattle.graphql_text.specs.Forms.{Form, token, no_tokens, ◌⨟◌, list_of, optional_group}
+use Rattle.graphql_text.proofs.PrintedTokens.{Tail, list_tokens, group_tokens, Every}
 
 pub each_written : {A : Type 0} (P : A → Type 0) (f : A → Form) (w : A → Tail) →
     ((a : A) → P a → (r : List Token) → f a (w a r) r) →
@@ -19,13 +19,6 @@ group_written P o c f w h [] e r = refl
 group_written P o c f w h (a ∷ more) e r =
     (_, refl, (_, h a e.0 _, (_, each_written P f w h more e.1 _, refl)))
 
-pub maybe_written : {A : Type 0} (P : A → Type 0) (f : A → Form) (w : A → Tail) →
-    ((a : A) → P a → (r : List Token) → f a (w a r) r) →
-    (o : Option A) → IfThere P o → (r : List Token) → optional f o (optional_tokens w o r) r
-unfolding no_tokens
-maybe_written P f w h None e r = refl
-maybe_written P f w h (Some a) e r = h a e r
-
 pub each_obeys : {A : Type 0} (P : A → Type 0) (f : A → Form) →
     ((a : A) (ts r : List Token) → f a ts r → P a) →
     (more : List A) (ts r : List Token) → list_of f more ts r → Every P more
@@ -39,9 +32,3 @@ pub group_obeys : {A : Type 0} (P : A → Type 0) (o c : Punctuator) (f : A → 
 unfolding ◌⨟◌
 group_obeys P o c f h [] ts r d = tt
 group_obeys P o c f h (a ∷ more) ts r d = (h a _ _ d.2.1, each_obeys P f h more _ _ d.2.2.1)
-
-pub maybe_obeys : {A : Type 0} (P : A → Type 0) (f : A → Form) →
-    ((a : A) (ts r : List Token) → f a ts r → P a) →
-    (o : Option A) (ts r : List Token) → optional f o ts r → IfThere P o
-maybe_obeys P f h None ts r d = tt
-maybe_obeys P f h (Some a) ts r d = h a ts r d

@@ -1,10 +1,10 @@
 -- The block form that a printer gives a string, one of its spellings (String Value, section 2.9.4), and which strings
--- can have it.
+-- it gives it.
 use Rattle.std.specs.Prelude.{ℕ, ◌-◌, Bool, not, ◌&&◌, ◌||◌, ◌==◌, if◌then◌else◌, List, [], ◌∷◌, ◌++◌, length, get_or, flat_map, nat_lt, encode_utf8_all}
 use Rattle.std.specs.List.{list_any, list_all, repeat}
 use Rattle.graphql_base.specs.Names.{begins_in}
 use Rattle.graphql_text.specs.Characters.{is_space_or_tab, is_quote, quotes, escaped_quotes}
-use Rattle.graphql_text.specs.BlockStringValue.{source_lines, is_blank}
+use Rattle.graphql_text.specs.BlockStringValue.{lines_of, is_blank}
 
 -- each `"""`, leftmost first, as `\"""`
 abbrev pub escape_quotes : List ℕ → List ℕ
@@ -18,11 +18,12 @@ escape_quotes text = text
 abbrev pub begins_unindented : List ℕ → Bool
 begins_unindented = begins_in (λ c. not (is_space_or_tab c))
 
--- Whether a value can be written as a block string: it holds no CR, neither its first nor its last line is blank, and
--- one of its lines is not indented.
+-- Whether the printer may write a value as a block string: it holds no CR, neither its first nor its last line is blank,
+-- and one of its lines begins with something other than white space. (`  a` can be spelled as a block string too, but is
+-- written in quotes.)
 abbrev pub can_be_block : List ℕ → Bool
 can_be_block value =
-    let lines = source_lines value in
+    let lines = lines_of value in
     list_all (λ c. not (c == 0xD)) value && not (is_blank (get_or lines 0 []))
     && not (is_blank (get_or lines (length lines - 1) [])) && list_any begins_unindented lines
 
@@ -42,7 +43,7 @@ broken_line indent (c ∷ line) = 0xA ∷ indent ++ escape_quotes (c ∷ line)
 
 abbrev pub block_over_lines : List ℕ → List ℕ → List ℕ
 block_over_lines indent value =
-    quotes ++ (flat_map (broken_line indent) (source_lines value) ++ (0xA ∷ indent ++ quotes))
+    quotes ++ (flat_map (broken_line indent) (lines_of value) ++ (0xA ∷ indent ++ quotes))
 
 -- the block form, where `long` says whether the value is longer than 70 bytes
 abbrev pub block_form : List ℕ → Bool → List ℕ → List ℕ

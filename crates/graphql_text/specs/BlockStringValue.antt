@@ -10,8 +10,8 @@ with_lf (c ∷ text) =
     (if c == 0xD then (if begins_with (codes "\n") text then [] else codes "\n") else c ∷ []) ++ with_lf text
 
 -- the lines of a text, split at each LF: one more than there are of these
-abbrev pub source_lines : List ℕ → List (List ℕ)
-source_lines = slice_split (λ c. c == 0xA)
+abbrev pub lines_of : List ℕ → List (List ℕ)
+lines_of = slice_split (λ c. c == 0xA)
 
 -- whether a line is made of white space only; an empty one is
 abbrev pub is_blank : List ℕ → Bool
@@ -43,5 +43,5 @@ without_last_blank (line ∷ lines) = if list_all is_blank (line ∷ lines) then
 -- BlockStringValue
 abbrev pub block_string_value : List ℕ → List ℕ
 block_string_value raw =
-    let lines = unindented (source_lines (with_lf raw)) in
+    let lines = unindented (lines_of (with_lf raw)) in
     join_with_byte 0xA (without_last_blank (without_first_blank lines))

@@ -100,7 +100,7 @@ abbrev pub is_broken : Option (List ℕ) → Bool
 is_broken None = false
 is_broken (Some prefix) = true
 
--- nothing stands before the tree: there is no prefix, or the level is 0
+-- whether no prefix is written before the tree, where an empty one counts too: there is none, or the level is 0
 abbrev pub is_front : Option (List ℕ) → ℕ → Bool
 is_front None level = true
 is_front (Some prefix) level = level == 0

@@ -13,8 +13,7 @@ pub mod Groups
 pub mod Levels
 pub mod Spelling
 pub mod Forms
-pub mod Lookahead
-pub mod PrintedTokens
+pub mod OneReading
 pub mod Reading
 pub mod Writing
 pub mod Place

@@ -2,7 +2,7 @@
 use Rattle.std.specs.Prelude.{ℕ, ◌+◌, ◌-◌, ◌≡◌, Bool, true, false, cond, ◌&&◌, ◌||◌, ◌==◌, List, [], ◌∷◌, ◌++◌, codes, length}
 use Rattle.std.specs.List.{list_any, repeat}
 use Rattle.graphql_text.specs.Characters.{is_line_terminator, is_space_or_tab, is_quote, begins_with}
-use Rattle.graphql_text.specs.BlockStringValue.{source_lines}
+use Rattle.graphql_text.specs.BlockStringValue.{lines_of}
 
 -- Where a scan of a text stands: outside strings; behind one or two quotes outside strings; in a quoted string, right
 -- behind a backslash that escapes the next character or not; in a block string, behind so many quotes in a row, and
@@ -70,7 +70,7 @@ lines_are_indented prefix level state depth (line ∷ lines) =
 
 -- Each line of the text that isn't empty begins with the prefix as often as its level.
 abbrev pub LinesAreIndented : List ℕ → ℕ → List ℕ → Type 0
-LinesAreIndented prefix level text = lines_are_indented prefix level Outside 0 (source_lines text) ≡ true
+LinesAreIndented prefix level text = lines_are_indented prefix level Outside 0 (lines_of text) ≡ true
 
 -- neither LF nor CR
 abbrev pub HasNoLineBreak : List ℕ → Type 0

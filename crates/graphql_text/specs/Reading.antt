@@ -20,7 +20,7 @@ BytesReadAs derives bytes tree =
     (text : List ℕ) × (encode_utf8_all text ≡ bytes) × ReadsAs derives text tree
 
 -- The text of a tree: under a prefix, or on one line, from a starting level. A shape is told whether the layout is
--- broken, and whether nothing stands before the tree.
+-- broken, and whether no prefix is written before the tree.
 abbrev pub layout_of : {Tree : Type 0} → (Bool → Bool → Tree → List Item) → Option (List ℕ) → ℕ → Tree → List ℕ
 layout_of shape mode level tree = layout mode level (shape (is_broken mode) (is_front mode level) tree)
 

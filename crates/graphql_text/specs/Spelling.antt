@@ -1,4 +1,4 @@
--- Which tokens the text of items has, and where their words don't run into one another.
+-- Which tokens the text of items has, and where each of them may stand before what follows it.
 use Rattle.std.specs.Prelude.{List, [], ◌∷◌, Bool, true, false, ◌≡◌}
 use Rattle.graphql_text.specs.Characters.{IsSourceText}
 use Rattle.graphql_text.specs.Literals.{is_int, is_float}
@@ -13,7 +13,7 @@ tokens_of_items (Word token ∷ items) = token ∷ tokens_of_items items
 tokens_of_items (StringItem value role ∷ items) = StringValue value ∷ tokens_of_items items
 tokens_of_items (_ ∷ items) = tokens_of_items items
 
--- Whether a punctuator begins with nothing that would: `.` would go on with a number.
+-- Whether a punctuator may stand right behind a name, a number or a string: the `.` of `...` would go on with a number.
 abbrev pub punctuator_leaves_room : Punctuator → Bool
 punctuator_leaves_room spread = false
 punctuator_leaves_room _ = true

@@ -52,8 +52,9 @@ pub data IsIgnored : List ℕ → List ℕ → Type 0 where
       list_all is_comment_character words ≡ true → ends_comment (text ++ after) ≡ true →
       IsIgnored text after → IsIgnored (codes "#" ++ (words ++ text)) after
 
--- The spelling is one of the token's, where `after` is what follows it. A Name (section 2.1.9), an IntValue (2.9.1) and
--- a FloatValue (2.9.2) are as long as they can be; a StringValue (2.9.4) is spelled in one of two ways.
+-- The spelling is one of the token's, where `after` is what follows it. A Name (section 2.1.9) is as long as it can be; an
+-- IntValue (2.9.1) and a FloatValue (2.9.2) are followed by no digit, `.` or NameStart; a StringValue (2.9.4) is spelled in
+-- one of two ways.
 abbrev pub Spells : Token → List ℕ → List ℕ → Type 0
 Spells (Punctuation mark) spelling after = spelling ≡ punctuator_text mark
 Spells (Name text) spelling after =

@@ -41,7 +41,7 @@ fn begins_unindented(line: &str) -> bool
     }
 }
 
-/// Whether a value can be written as a block string.
+/// Whether the printer may write a value as a block string.
 pub(crate) fn can_be_block(value: &str) -> bool
     ensures { result ≡ has_block_form (chars value.now) }
 {

@@ -99,8 +99,8 @@ pub(crate) fn comma_break<O: Target>(out: &mut O, prefix: &str, level: usize)
     match ready_comma_break(prefix, level) {
         Some(text) => out.text(text),
         None => {
-            out.text(",");
-            write_break(out, prefix, level);
+            out.text(",\n");
+            indent(out, prefix, level);
         }
     }
 }

@@ -26,7 +26,7 @@ pub trait Syntax {
 
     ghost tree: { Self → Tree };
 
-    /// The items of a tree: told whether the layout is broken, and whether nothing stands before the tree.
+    /// The items of a tree: told whether the layout is broken, and whether no prefix is written before the tree.
     ghost shape: { Bool → Bool → Tree → List Item };
 
     /// How deep the groups of a tree stand in one another.
@@ -47,12 +47,13 @@ pub trait Syntax {
     fn is_well_formed(&self) -> bool
         ensures { IsTrue result ↔ obeys (tree self.now) };
 
-    /// How deep the groups of the tree stand in one another. `None` if that does not fit.
+    /// How deep the groups of the tree stand in one another. `None` if it is above `usize::MAX`.
     fn find_nesting(&self) -> Option<usize>
         ensures { MatchOption result (Overflows 0 (nesting (tree self.now))) (λ n. n ≡ nesting (tree self.now)) };
 
     /// Writes the whole layout of the tree from a place on. How deep its groups stand in one another is handed over, since
-    /// it was found before. Memory for its stacks is asked for before the first byte.
+    /// it was found before. Memory for its stacks is asked for before the first byte: `AllocError` where it is refused, with
+    /// nothing written.
     fn write<O: Target>(
         &self,
         out: &mut O,
@@ -83,6 +84,9 @@ pub enum PrintError {
 }
 
 /// A tree, and the layout that it is printed in.
+///
+/// `Display` prints the same text. It answers `fmt::Error` where the level overflows or the memory of a stack is refused, with
+/// nothing written, and where the formatter refuses.
 #[derive_where(Clone, Copy)]
 pub struct Serialize<'a, T> {
     tree: &'a T,
@@ -106,7 +110,7 @@ impl<'a, T> Serialize<'a, T> {
         }
     }
 
-    /// Over several lines, each of which begins with the prefix as often as its level.
+    /// Over several lines. Each that isn't empty begins with the prefix as often as its level.
     pub fn indent_prefix(self, prefix: &'a str) -> Serialize<'a, T>
         ensures tree { print_tree result ≡ print_tree self.entry }
         ensures mode { print_mode result ≡ Some (chars prefix.now) }
@@ -130,7 +134,7 @@ impl<'a, T> Serialize<'a, T> {
         }
     }
 
-    /// From this level on, in levels of indentation.
+    /// From this level on: under a prefix the first line begins with the prefix so often.
     pub fn initial_indent_level(self, level: usize) -> Serialize<'a, T>
         ensures tree { print_tree result ≡ print_tree self.entry }
         ensures mode { print_mode result ≡ print_mode self.entry }
@@ -193,6 +197,8 @@ impl<'a, T: Syntax> Serialize<'a, T> {
     /// `Ok`: the sink has taken exactly the bytes of the layout. `LevelOverflow` comes exactly where the starting level and
     /// the nesting don't fit together, before memory is asked for; `Memory` where the memory of a stack was refused, before
     /// the first byte; `Sink` at the sink's first fault, after a beginning of the bytes.
+    ///
+    /// Condition: `sink.faults()` is below `u64::MAX`.
     pub fn print_to<S: TextSink>(&self, sink: &mut S) -> Result<(), PrintError>
         requires { CanFault (S.fault_count sink.old) }
         ensures printed { OnOk result (SinkTook S.taken S.fault_count sink.old (print_bytes T.shape T.tree self.now) sink.new) }

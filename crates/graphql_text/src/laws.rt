@@ -51,9 +51,9 @@ pub fn tokens_side_by_side()
         Lexes (a ++ (0xA ∷ b)) (xs ++ ys) }
 {}
 
-/// A printed string is the one token of its value. Its quoted form is, before whatever isn't a quote. So is its block
-/// form, at every level and under every prefix of spaces and tabs, whatever follows; and so is the form of the two that
-/// a layout chooses.
+/// A printed string is the one token of its value. Its quoted form is, before whatever isn't a quote. So is the block form
+/// of a value that may have one, at every level and under every prefix of spaces and tabs, whatever follows; and so is the
+/// form of the two that a layout chooses.
 pub fn strings_keep_their_value()
     ensures quoted { (value after : List ℕ) → begins_in is_quote after ≡ false →
         LexesBefore (quoted_form value) (StringValue value ∷ []) after }
@@ -67,8 +67,8 @@ pub fn strings_keep_their_value()
         IsBlankMode mode → Lexes (string_text mode level value role) (StringValue value ∷ []) }
 {}
 
-/// The layout of items whose words don't run into one another is a source text, and lexes as the words and strings of
-/// the items, in order: under every prefix of spaces and tabs, at every level, and on one line.
+/// The layout of items, each word and string of which may stand before what follows it, is a source text, and lexes as the
+/// words and strings of the items, in order: under every prefix of spaces and tabs, at every level, and on one line.
 pub fn layouts_lex()
     ensures tokens { (mode : Option (List ℕ)) (level : ℕ) (items : List Item) → IsBlankMode mode →
         AreApart items → Lexes (layout mode level items) (tokens_of_items items) }

@@ -1,7 +1,11 @@
 //! GraphQL's lexical grammar, as a relation between a text and its tokens, and the layouts of a printer.
 //!
-//! A text is a list of Unicode scalar values. The definitions stand in `specs/`; the functions of [`laws`] have
-//! empty bodies, and their contracts are laws of these definitions.
+//! A text is a list of Unicode scalar values. The definitions stand in `specs/`.
+//!
+//! - `engine`: kinds of trees that are printed, and their prints.
+//! - `sink`: what takes the bytes of a print.
+//! - `place`, `writers`, `stack`, `target`: what kinds are written with.
+//! - `laws`: laws of the definitions, as contracts of functions that do nothing.
 #![tactic(auto)]
 
 mod block_string;

@@ -13,7 +13,8 @@ pub struct Stack<T> {
 impl<T: Drop> Stack<T> {
     ghost use Rattle.graphql_text.specs.Stack.{stack_parts, stack_room};
 
-    /// A stack with room for a count of parts. For none no memory is asked for, and then no allocator is needed.
+    /// A stack with room for a count of parts. For none no memory is asked for, and then no allocator is needed. `AllocError`
+    /// where memory is refused.
     pub fn reserve(alloc: Option<Global>, count: usize) -> Result<Stack<T>, AllocError>
         requires { IsNone alloc → count ≡ 0 }
         ensures parts { IfOk result (λ s. stack_parts s ≡ []) }

@@ -46,7 +46,7 @@ pub(crate) struct ToSink<'a, S> {
 /// Sends what waits, and then lets the text wait, or sends it too. It answers whether writing stopped.
 #[cold]
 #[inline(never)]
-#[tactic(auto, using(crate::proofs::Sending::both_taken, crate::proofs::Sending::second_faulted))]
+#[tactic(auto, using(crate::proofs::Sending::both_taken, crate::specs::laws::Sinks::faulted_later))]
 fn send<S: TextSink>(sink: &mut S, stopped: bool, buffer: &mut Buffer, text: &str) -> bool
     ensures { SendsBuffered S.taken S.fault_count sink.old stopped (waiting_bytes buffer.old) text.now sink.new result (waiting_bytes buffer.new) }
 {
@@ -202,7 +202,7 @@ impl<'a, W: fmt::Write> Target for ToFormatter<'a, W> {
     }
 }
 
-/// Writes a text that may be empty, of which no target is told.
+/// Writes a text; an empty one is left out.
 pub(crate) fn write_piece<O: Target>(out: &mut O, text: &str)
     ensures { O.wrote out.old text.now out.new }
 {

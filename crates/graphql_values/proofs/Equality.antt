@@ -47,8 +47,8 @@ always r = (λ e. r, λ _. refl)
 pub names_decide : (x y : Name) → Decides (pointwise eqb x.text.bytes y.text.bytes) (name_tree x ≡ name_tree y)
 names_decide x y = through (bytes_decides x.text.bytes y.text.bytes) (ap (λ t. t.text)) (same_text (name_tree x) (name_tree y))
 
-ints_decide : (x y : IntValue) → Decides (pointwise eqb x.digits y.digits) (int_tree x ≡ int_tree y)
-ints_decide x y = through (bytes_decides x.digits y.digits) (ap (λ t. t.text)) (same_text (int_tree x) (int_tree y))
+ints_decide : (x y : IntValue) → Decides (pointwise eqb x.numeral y.numeral) (int_tree x ≡ int_tree y)
+ints_decide x y = through (bytes_decides x.numeral y.numeral) (ap (λ t. t.text)) (same_text (int_tree x) (int_tree y))
 
 floats_decide : (x y : FloatValue) → Decides (pointwise eqb x.text y.text) (float_tree x ≡ float_tree y)
 floats_decide x y = through (bytes_decides x.text y.text) (ap (λ t. t.text)) (same_text (float_tree x) (float_tree y))
@@ -68,7 +68,7 @@ eq_step E (Value-F.Enum x) (Value-F.Enum y) = pointwise eqb x.text.bytes y.text.
 eq_step E (Value-F.Variable x) (Value-F.Variable y) = pointwise eqb x.text.bytes y.text.bytes
 eq_step E (Value-F.String x) (Value-F.String y) = pointwise eqb (string_bytes x) (string_bytes y)
 eq_step E (Value-F.Float x) (Value-F.Float y) = pointwise eqb x.text y.text
-eq_step E (Value-F.Int x) (Value-F.Int y) = pointwise eqb x.digits y.digits
+eq_step E (Value-F.Int x) (Value-F.Int y) = pointwise eqb x.numeral y.numeral
 eq_step E (Value-F.Boolean x) (Value-F.Boolean y) = beq x y
 eq_step E (Value-F.List x) (Value-F.List y) = pointwise (λ n m. E n.value m.value) x.items y.items
 eq_step E (Value-F.Object x) (Value-F.Object y) = pointwise (λ p q. pointwise eqb p.0.text.bytes q.0.text.bytes && E p.1.value q.1.value) x.items y.items
@@ -87,7 +87,7 @@ each = (
         (
           λ a b. pointwise eqb a.0.text b.0.text,
           (
-            λ a b. pointwise eqb a.0.digits b.0.digits,
+            λ a b. pointwise eqb a.0.numeral b.0.numeral,
             (
               λ a b. beq a.0 b.0,
               (

@@ -10,7 +10,8 @@ use Rattle.graphql_text.proofs.Such as tested
 use Rattle.graphql_text.proofs.Reader.{lex}
 use Rattle.graphql_text.proofs.Sound.{lex_sound}
 use Rattle.graphql_text.proofs.Complete.{unread, read_as}
-use Rattle.graphql_values.specs.Values.{Constness, Const, NonConst, ValueTree, value_form, value_tokens, value_obeys}
+use Rattle.graphql_values.specs.Values.{Constness, Const, NonConst, ValueTree, value_form, value_obeys}
+use Rattle.graphql_values.specs.laws.PrintedTokens.{value_tokens}
 use Rattle.graphql_values.specs.laws.ValueReading.{value_reader, value_step, values_reader, object_fields_reader, object_field_reader, variable_reader, unless_const, got_int, value_is_read}
 use Rattle.graphql_values.specs.laws.DirectiveReading.{argument_reader, arguments_reader, directive_reader}
 use Rattle.graphql_values.specs.laws.TypeReading.{type_reader, type_step, bang_reader, maybe_non_null_name}

@@ -1,5 +1,5 @@
 -- The layout and the nesting of a list and of an object, over the slice of its items or fields.
-use Rattle.std.proofs.Common.{◌≡◌, ◌<◌, ◌≤◌, Bool, true, false, List, [], ◌∷◌, ◌++◌, length, refl, ap, sym, ◌∙◌, arith, Some, codes}
+use Rattle.std.proofs.Common.{◌≡◌, ◌<◌, Bool, true, false, List, [], ◌∷◌, ◌++◌, length, refl, ap, sym, ◌∙◌, arith, Some, codes}
 use Rattle.std.specs.declared.alloc.Global.{Global}
 use Rattle.std.specs.declared.vec.Vec.{Vec}
 use Rattle.graphql_base.specs.Name.{name_text}
@@ -16,10 +16,9 @@ use Rattle.graphql_text.specs.Writing.{fixed_text}
 use Rattle.graphql_text.proofs.GroupLaws.{comma_group_opened, AllBalanced, comma_balanced}
 use Rattle.graphql_values.specs.ValueWalk.{opening, opening_word, opened_level}
 use Rattle.graphql_values.specs.Values.{ValueTree, ValueTrees, more_values, ObjectFieldTrees, more_fields, null_value, enum_value, variable, float_value, int_value, string_value, boolean_value, no_values, no_fields, value_shape, values_shapes, object_fields_shapes, list_value, object_value, value_nesting, values_nesting, object_fields_nesting}
-use Rattle.std.specs.Prelude.{String}
 use Rattle.graphql_values.specs.declared.literal.IntValue.{IntValue}
 use Rattle.graphql_values.specs.declared.literal.FloatValue.{FloatValue}
-use Rattle.graphql_values.specs.Literals.{name_tree, int_tree, float_tree, string_tree}
+use Rattle.graphql_values.specs.Literals.{name_tree, int_tree, float_tree}
 use Rattle.graphql_values.specs.ValueTrees.{value_tree, value_tree_step, value_trees, object_field_trees}
 
 pub value_tree_list : (v : Vec (Node Value) Global) → value_tree (variant.List v) ≡ list_value (value_trees v.items)
@@ -42,9 +41,6 @@ value_tree_float f = ap value_tree (sym (variant.rolls-Float f)) ∙ fold-roll-V
 
 pub value_tree_int : (i : IntValue) → value_tree (variant.Int i) ≡ int_value (int_tree i)
 value_tree_int i = ap value_tree (sym (variant.rolls-Int i)) ∙ fold-roll-Value ValueTree value_tree_step (layer.Int i)
-
-pub value_tree_string : (s : String Global) → value_tree (variant.String s) ≡ string_value (string_tree s)
-value_tree_string s = ap value_tree (sym (variant.rolls-String s)) ∙ fold-roll-Value ValueTree value_tree_step (layer.String s)
 
 pub value_tree_boolean : (b : Bool) → value_tree (variant.Boolean b) ≡ boolean_value b
 value_tree_boolean b = ap value_tree (sym (variant.rolls-Boolean b)) ∙ fold-roll-Value ValueTree value_tree_step (layer.Boolean b)
@@ -186,20 +182,6 @@ leaf_nesting (string_value string) e = refl
 leaf_nesting (float_value float) e = refl
 leaf_nesting (int_value int) e = refl
 leaf_nesting (boolean_value boolean) e = refl
-
--- a value that holds something nests at least one deep
-pub group_nests : (value : ValueTree) → opened_level value ≤ value_nesting value
-group_nests (list_value (more_values value more)) = omega arith
-group_nests (object_value (more_fields name value more)) = omega arith
-group_nests (list_value no_values) = omega arith
-group_nests (object_value no_fields) = omega arith
-group_nests null_value = omega arith
-group_nests (enum_value name) = omega arith
-group_nests (variable name) = omega arith
-group_nests (string_value string) = omega arith
-group_nests (float_value float) = omega arith
-group_nests (int_value int) = omega arith
-group_nests (boolean_value boolean) = omega arith
 
 -- what is written of a value raises the level as often as it lowers it
 mutual

@@ -21,10 +21,6 @@ stack_need_push (other ∷ parts) part = omega (arith, stack_need_push parts par
 pub need_less : (parts : List ValuePart) (part rest : ValuePart) → part_nesting rest ≤ part_nesting part → stack_need (parts ++ rest ∷ []) ≤ stack_need (parts ++ part ∷ [])
 need_less parts part rest less = omega (arith, less, stack_need_push parts part, stack_need_push parts rest)
 
-pub length_le_need : (parts : List ValuePart) → length parts ≤ stack_need parts
-length_le_need [] = omega arith
-length_le_need (part ∷ parts) = omega (arith, length_le_need parts)
-
 -- nothing stood on the stack
 pub alone : {later : List Item} (all first rest : List Item) → later ≡ [] → all ++ later ≡ first ++ rest → all ≡ first ++ rest
 alone {later} all first rest e h = let h' = rw e at h in sym (append-nil all) ∙ h'

@@ -5,9 +5,8 @@ use Rattle.graphql_text.specs.Literals.{NameText}
 use Rattle.graphql_text.specs.Tokens.{lparen, rparen, colon, Punctuation, Name}
 use Rattle.graphql_text.specs.Forms.{Form, token, ◌⨟◌, name_except, optional_group}
 use Rattle.graphql_text.specs.Nesting.{group_nesting}
-use Rattle.graphql_text.specs.PrintedTokens.{Tail, group_tokens}
 use Rattle.graphql_text.specs.Layout.{Item, Word, Space, flat, comma_group}
-use Rattle.graphql_values.specs.Values.{Constness, ValueTree, value_form, value_tokens, value_shape, value_nesting, value_obeys}
+use Rattle.graphql_values.specs.Values.{Constness, ValueTree, value_form, value_shape, value_nesting, value_obeys}
 
 -- An argument without locations.
 pub record ArgumentTree : Type 0 where
@@ -21,13 +20,6 @@ argument_form c argument = name_except [] argument.name ⨟ token (Punctuation c
 -- The grammar of Arguments[Const], section 2.6, or nothing where there is no argument.
 abbrev pub arguments_form : Constness → List ArgumentTree → Form
 arguments_form c = optional_group lparen (argument_form c) rparen
-
--- The tokens of an argument as it is printed, in front of those that follow.
-abbrev pub argument_tokens : ArgumentTree → Tail
-argument_tokens argument rest = Name argument.name.text ∷ Punctuation colon ∷ value_tokens argument.value rest
-
-abbrev pub arguments_tokens : List ArgumentTree → Tail
-arguments_tokens = group_tokens lparen argument_tokens rparen
 
 -- The items of an argument of a field or a directive.
 abbrev pub argument_items : ArgumentTree → List Item

@@ -2,17 +2,12 @@
 use Rattle.std.specs.Prelude.{ℕ, List, [], ◌∷◌, Bool, true, Option, Some, None}
 use Rattle.graphql_text.specs.Tokens.{equals, Punctuation}
 use Rattle.graphql_text.specs.Forms.{Form, token, ◌⨟◌, optional}
-use Rattle.graphql_text.specs.PrintedTokens.{Tail, optional_tokens}
 use Rattle.graphql_text.specs.Layout.{Item, Word, Space}
-use Rattle.graphql_values.specs.Values.{Const, ValueTree, value_form, value_tokens, value_shape, value_nesting, value_obeys}
+use Rattle.graphql_values.specs.Values.{Const, ValueTree, value_form, value_shape, value_nesting, value_obeys}
 
 -- The grammar of DefaultValue, section 2.10, or nothing where there is none.
 abbrev pub default_value_form : Option ValueTree → Form
 default_value_form = optional (λ value. token (Punctuation equals) ⨟ value_form Const value)
-
--- The tokens of a default value as it is printed, in front of those that follow.
-abbrev pub default_value_tokens : Option ValueTree → Tail
-default_value_tokens = optional_tokens (λ value rest. Punctuation equals ∷ value_tokens value rest)
 
 -- The layout of a default value, which has the mode around it.
 abbrev pub default_value_shape : Bool → Option ValueTree → List Item

@@ -3,16 +3,11 @@ use Rattle.std.specs.Prelude.{List, [], ◌∷◌, Option, Some, None}
 use Rattle.graphql_text.specs.Literals.{StringText}
 use Rattle.graphql_text.specs.Tokens.{StringValue}
 use Rattle.graphql_text.specs.Forms.{Form, token, optional}
-use Rattle.graphql_text.specs.PrintedTokens.{Tail, optional_tokens}
 use Rattle.graphql_text.specs.Layout.{Item, StringItem, AsDescription, Soft}
 
 -- The grammar of Description, section 3.2, or nothing where there is none.
 abbrev pub description_form : Option StringText → Form
 description_form = optional (λ string. token (StringValue string.text))
-
--- The tokens of a description as it is printed, in front of those that follow.
-abbrev pub description_tokens : Option StringText → Tail
-description_tokens = optional_tokens (λ string rest. StringValue string.text ∷ rest)
 
 -- The layout of a description, before what it describes. The empty text is a description too.
 abbrev pub description_shape : Option StringText → List Item

@@ -3,11 +3,10 @@ use Rattle.std.specs.Prelude.{ℕ, List, [], ◌∷◌, ◌++◌, length, codes,
 use Rattle.graphql_text.specs.Literals.{NameText, StringText}
 use Rattle.graphql_text.specs.Tokens.{at, bar, Punctuation, Name}
 use Rattle.graphql_text.specs.Forms.{Form, token, no_tokens, never, ◌⨟◌, keyword, name_except, joined_by}
-use Rattle.graphql_text.specs.PrintedTokens.{Tail, joined_tokens}
 use Rattle.graphql_text.specs.Layout.{Item, Word, Space}
-use Rattle.graphql_values.specs.Descriptions.{description_form, description_tokens, description_shape}
+use Rattle.graphql_values.specs.Descriptions.{description_form, description_shape}
 use Rattle.graphql_values.specs.DirectiveLocations.{DirectiveLocationTree, location_name, location_form}
-use Rattle.graphql_values.specs.InputValues.{InputValueTree, arguments_definition_form, arguments_definition_tokens, arguments_definition_shape, arguments_definition_nesting, arguments_definition_obeys}
+use Rattle.graphql_values.specs.InputValues.{InputValueTree, arguments_definition_form, arguments_definition_shape, arguments_definition_nesting, arguments_definition_obeys}
 use Rattle.graphql_values.specs.JoinedNames.{joined_names_shape}
 
 -- A directive definition without locations in a source text.
@@ -37,19 +36,6 @@ directive_definition_body_form definition =
 -- The grammar of DirectiveDefinition, section 3.13.
 unfoldable pub directive_definition_form : DirectiveDefinitionTree → Form
 directive_definition_form definition = description_form definition.description ⨟ directive_definition_body_form definition
-
--- The tokens of a directive definition as it is printed, in front of those that follow.
-abbrev pub repeatable_tokens : Bool → Tail
-repeatable_tokens true rest = Name (codes "repeatable") ∷ rest
-repeatable_tokens false rest = rest
-
-abbrev pub directive_locations_tokens : List DirectiveLocationTree → Tail
-directive_locations_tokens = joined_tokens (Name (codes "on")) bar (λ location rest. Name (location_name location) ∷ rest)
-
-unfoldable pub directive_definition_tokens : DirectiveDefinitionTree → Tail
-directive_definition_tokens definition rest =
-    description_tokens definition.description (Name (codes "directive") ∷ Punctuation at ∷ Name definition.name.text ∷ arguments_definition_tokens definition.arguments
-    (repeatable_tokens definition.repeatable (directive_locations_tokens definition.locations rest)))
 
 -- The layout of a directive definition.
 abbrev pub repeatable_shape : Bool → List Item

@@ -4,10 +4,9 @@ use Rattle.std.specs.List.{list_all}
 use Rattle.graphql_text.specs.Literals.{NameText}
 use Rattle.graphql_text.specs.Tokens.{at, Punctuation, Name}
 use Rattle.graphql_text.specs.Forms.{Form, token, ◌⨟◌, list_of, name_except}
-use Rattle.graphql_text.specs.PrintedTokens.{Tail, list_tokens}
 use Rattle.graphql_text.specs.Layout.{Item, Word, Space}
 use Rattle.graphql_values.specs.Values.{Constness}
-use Rattle.graphql_values.specs.Arguments.{ArgumentTree, arguments_form, arguments_tokens, arguments_shape, arguments_nesting, arguments_obey}
+use Rattle.graphql_values.specs.Arguments.{ArgumentTree, arguments_form, arguments_shape, arguments_nesting, arguments_obey}
 
 -- A directive without locations.
 pub record DirectiveTree : Type 0 where
@@ -21,13 +20,6 @@ directive_form c directive = token (Punctuation at) ⨟ name_except [] directive
 -- The grammar of Directives[Const], section 2.12, or nothing where there is no directive.
 abbrev pub directives_form : Constness → List DirectiveTree → Form
 directives_form c = list_of (directive_form c)
-
--- The tokens of a directive as it is printed, in front of those that follow.
-unfoldable pub directive_tokens : DirectiveTree → Tail
-directive_tokens directive rest = Punctuation at ∷ Name directive.name.text ∷ arguments_tokens directive.arguments rest
-
-abbrev pub directives_tokens : List DirectiveTree → Tail
-directives_tokens = list_tokens directive_tokens
 
 -- The layout of a directive.
 unfoldable pub directive_shape : DirectiveTree → List Item

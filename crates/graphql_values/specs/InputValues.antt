@@ -5,13 +5,12 @@ use Rattle.graphql_text.specs.Literals.{NameText, StringText}
 use Rattle.graphql_text.specs.Tokens.{lparen, rparen, colon, Punctuation, Name}
 use Rattle.graphql_text.specs.Forms.{Form, token, ◌⨟◌, name_except, optional_group}
 use Rattle.graphql_text.specs.Nesting.{group_nesting}
-use Rattle.graphql_text.specs.PrintedTokens.{Tail, group_tokens}
 use Rattle.graphql_text.specs.Layout.{Item, Word, Space, flat, comma_group}
 use Rattle.graphql_values.specs.Values.{Const, ValueTree}
-use Rattle.graphql_values.specs.TypeReferences.{TypeTree, type_form, type_tokens, type_shape}
-use Rattle.graphql_values.specs.Directives.{DirectiveTree, directives_form, directives_tokens, directives_shape, directives_nesting, directives_obey}
-use Rattle.graphql_values.specs.Descriptions.{description_form, description_tokens, description_shape}
-use Rattle.graphql_values.specs.DefaultValues.{default_value_form, default_value_tokens, default_value_shape, default_value_nesting, default_value_obeys}
+use Rattle.graphql_values.specs.TypeReferences.{TypeTree, type_form, type_shape}
+use Rattle.graphql_values.specs.Directives.{DirectiveTree, directives_form, directives_shape, directives_nesting, directives_obey}
+use Rattle.graphql_values.specs.Descriptions.{description_form, description_shape}
+use Rattle.graphql_values.specs.DefaultValues.{default_value_form, default_value_shape, default_value_nesting, default_value_obeys}
 
 -- An input value definition without locations: an argument of a field or directive definition, or a field of an input object.
 pub record InputValueTree : Type 0 where
@@ -26,12 +25,6 @@ unfoldable pub input_value_form : InputValueTree → Form
 input_value_form input =
     description_form input.description ⨟ name_except [] input.name ⨟ token (Punctuation colon) ⨟ type_form input.type
     ⨟ default_value_form input.default_value ⨟ directives_form Const input.directives
-
--- The tokens of an input value definition as it is printed, in front of those that follow.
-unfoldable pub input_value_tokens : InputValueTree → Tail
-input_value_tokens input rest =
-    description_tokens input.description (Name input.name.text ∷ Punctuation colon ∷ type_tokens input.type
-    (default_value_tokens input.default_value (directives_tokens input.directives rest)))
 
 -- The layout of an input value definition.
 unfoldable pub input_value_shape : Bool → InputValueTree → List Item
@@ -51,9 +44,6 @@ input_value_obeys input = default_value_obeys input.default_value && directives_
 -- The grammar of ArgumentsDefinition, section 3.6.1, or nothing where there is no argument.
 abbrev pub arguments_definition_form : List InputValueTree → Form
 arguments_definition_form = optional_group lparen input_value_form rparen
-
-abbrev pub arguments_definition_tokens : List InputValueTree → Tail
-arguments_definition_tokens = group_tokens lparen input_value_tokens rparen
 
 abbrev pub has_description_or_directives : InputValueTree → Bool
 has_description_or_directives input = is_some input.description || not (length input.directives == 0)

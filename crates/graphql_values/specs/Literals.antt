@@ -10,7 +10,7 @@ use Rattle.graphql_values.specs.declared.literal.IntValue.{IntValue}
 use Rattle.graphql_values.specs.declared.literal.FloatValue.{FloatValue}
 
 abbrev pub int_text : IntValue → List ℕ
-int_text int = int.digits
+int_text int = int.numeral
 
 abbrev pub float_text : FloatValue → List ℕ
 float_text float = float.text

@@ -3,7 +3,6 @@ use Rattle.std.specs.Prelude.{List, [], ◌∷◌, ◌++◌}
 use Rattle.graphql_text.specs.Literals.{NameText}
 use Rattle.graphql_text.specs.Tokens.{bang, lbracket, rbracket, Punctuation, Name}
 use Rattle.graphql_text.specs.Forms.{Form, token, ◌⨟◌, name_except}
-use Rattle.graphql_text.specs.PrintedTokens.{Tail}
 use Rattle.graphql_text.specs.Layout.{Item, Word}
 
 -- A type without locations: NamedType or ListType, each with or without `!`.
@@ -19,13 +18,6 @@ type_form (named_type name) = name_except [] name
 type_form (non_null_named_type name) = name_except [] name ⨟ token (Punctuation bang)
 type_form (list_type item) = token (Punctuation lbracket) ⨟ type_form item ⨟ token (Punctuation rbracket)
 type_form (non_null_list_type item) = token (Punctuation lbracket) ⨟ type_form item ⨟ token (Punctuation rbracket) ⨟ token (Punctuation bang)
-
--- The tokens of a type as it is printed, in front of those that follow.
-unfoldable pub type_tokens : TypeTree → Tail
-type_tokens (named_type name) rest = Name name.text ∷ rest
-type_tokens (non_null_named_type name) rest = Name name.text ∷ Punctuation bang ∷ rest
-type_tokens (list_type item) rest = Punctuation lbracket ∷ type_tokens item (Punctuation rbracket ∷ rest)
-type_tokens (non_null_list_type item) rest = Punctuation lbracket ∷ type_tokens item (Punctuation rbracket ∷ Punctuation bang ∷ rest)
 
 -- The layout of a type: its words, with nothing between them.
 unfoldable pub type_shape : TypeTree → List Item

@@ -56,8 +56,8 @@ int_of value = int_at (out-Value value)
 abbrev pub boolean_of : Value → Option Bool
 boolean_of value = boolean_at (out-Value value)
 
-abbrev pub list_of : Value → Option (List (Node Value))
-list_of value = list_at (out-Value value)
+abbrev pub list_items_of : Value → Option (List (Node Value))
+list_items_of value = list_at (out-Value value)
 
-abbrev pub object_of : Value → Option (List (Name × Node Value))
-object_of value = object_at (out-Value value)
+abbrev pub object_fields_of : Value → Option (List (Name × Node Value))
+object_fields_of value = object_at (out-Value value)

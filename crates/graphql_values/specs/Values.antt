@@ -4,7 +4,6 @@ use Rattle.graphql_text.specs.Literals.{NameText, IntText, FloatText, StringText
 use Rattle.graphql_text.specs.Tokens.{dollar, colon, lbracket, rbracket, lbrace, rbrace, Punctuation, Name, IntValue, FloatValue, StringValue}
 use Rattle.graphql_text.specs.Forms.{Form, token, no_tokens, ◌⨟◌, name_except, only_if, is_one_of, keyword}
 use Rattle.graphql_text.specs.Nesting.{group_nesting}
-use Rattle.graphql_text.specs.PrintedTokens.{Tail}
 use Rattle.graphql_text.specs.Layout.{Item, Word, StringItem, AsValue, Space, comma_group}
 
 -- Value[Const] or Value: whether the place of a value is constant, which admits no variable.
@@ -75,28 +74,6 @@ unfoldable mutual
   object_fields_form c no_fields = no_tokens
   object_fields_form c (more_fields name value more) = (name_except [] name ⨟ token (Punctuation colon) ⨟ value_form c value) ⨟ object_fields_form c more
 
--- The tokens of a value as it is printed, in front of those that follow.
-unfoldable mutual
-  pub value_tokens : ValueTree → Tail
-  value_tokens null_value rest = Name (codes "null") ∷ rest
-  value_tokens (enum_value name) rest = Name name.text ∷ rest
-  value_tokens (variable name) rest = Punctuation dollar ∷ Name name.text ∷ rest
-  value_tokens (string_value string) rest = StringValue string.text ∷ rest
-  value_tokens (float_value float) rest = FloatValue float.text ∷ rest
-  value_tokens (int_value int) rest = IntValue int.text ∷ rest
-  value_tokens (boolean_value true) rest = Name (codes "true") ∷ rest
-  value_tokens (boolean_value false) rest = Name (codes "false") ∷ rest
-  value_tokens (list_value items) rest = Punctuation lbracket ∷ values_tokens items (Punctuation rbracket ∷ rest)
-  value_tokens (object_value fields) rest = Punctuation lbrace ∷ object_fields_tokens fields (Punctuation rbrace ∷ rest)
-
-  pub values_tokens : ValueTrees → Tail
-  values_tokens no_values rest = rest
-  values_tokens (more_values value more) rest = value_tokens value (values_tokens more rest)
-
-  pub object_fields_tokens : ObjectFieldTrees → Tail
-  object_fields_tokens no_fields rest = rest
-  object_fields_tokens (more_fields name value more) rest = Name name.text ∷ Punctuation colon ∷ value_tokens value (object_fields_tokens more rest)
-
 -- The layout of a value. Lists and objects are comma groups.
 abbrev mutual
   pub value_shape : Bool → ValueTree → List Item
@@ -120,7 +97,8 @@ abbrev mutual
   object_fields_shapes broken (more_fields name value more) =
       (Word (Name name.text) ∷ Word (Punctuation colon) ∷ Space ∷ value_shape broken value) ∷ object_fields_shapes broken more
 
--- How many lists and objects that aren't empty stand in one another: such a list or object nests one more than each of its items.
+-- How many lists and objects that aren't empty stand in one another: such a list or object nests one more than
+-- the item or field that nests most.
 abbrev mutual
   pub value_nesting : ValueTree → ℕ
   value_nesting (list_value items) = group_nesting (values_nestings items)

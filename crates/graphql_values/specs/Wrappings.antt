@@ -63,8 +63,8 @@ abbrev pub is_list : TypeTree → Bool
 is_list tree = nat_lt 1 (length (tree_nullability tree))
 
 -- NamedType, section 2.11, non-null or not: nothing is wrapped but the name
-abbrev pub is_named : TypeTree → Bool
-is_named tree = length (tree_nullability tree) == 1
+abbrev pub is_named_type : TypeTree → Bool
+is_named_type tree = length (tree_nullability tree) == 1
 
 -- how many lists stand around the name
 abbrev pub list_depth : TypeTree → ℕ

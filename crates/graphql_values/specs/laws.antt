@@ -3,6 +3,7 @@ pub mod ValueReading
 pub mod DirectiveReading
 pub mod TypeReading
 pub mod DefinitionReading
+pub mod PrintedTokens
 pub mod ReadBack
 pub mod Told
 pub mod KindLaws

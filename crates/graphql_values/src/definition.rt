@@ -17,10 +17,15 @@ use graphql_base::node::{Node, NodeStr};
 /// exactly if they differ in locations at most.
 #[derive(Clone, PartialEq, Eq, Hash, Debug, Drop)]
 pub struct InputValueDefinition {
+    /// The string before the name.
     pub description: Option<NodeStr>,
+    /// The name that stands before `:`.
     pub name: Name,
+    /// The type of the values that it takes.
     pub ty: Node<Type>,
+    /// The value that it has where none is given. A variable in it isn't well formed.
     pub default_value: Option<Node<Value>>,
+    /// The directives at its end. A variable in their arguments isn't well formed.
     pub directives: DirectiveList,
 }
 
@@ -28,9 +33,11 @@ pub struct InputValueDefinition {
 /// source text at most.
 #[derive(Clone, PartialEq, Eq, Hash, Debug, Drop)]
 pub struct DirectiveDefinition {
+    /// The string before `directive`.
     pub description: Option<NodeStr>,
     /// The name, without `@`.
     pub name: Name,
+    /// The arguments that the directive takes, in order.
     pub arguments: Vec<Node<InputValueDefinition>>,
     /// Whether the directive may stand several times at one place.
     pub repeatable: bool,

@@ -39,12 +39,15 @@ use std::alloc::{AllocError, Global};
 /// its parts.
 #[derive(Drop)]
 pub struct DefinitionStacks<'a> {
+    /// For default values and the arguments of directives.
     pub values: Stack<ValuePart<'a>>,
+    /// For the types of input values.
     pub types: Stack<TypePart>,
 }
 
 impl<'a> DefinitionStacks<'a> {
-    /// Stacks with room for values that nest so deep, and for types of so many lists. For none no memory is asked for.
+    /// Stacks with room for values that nest so deep, and for types of so many lists. For none no memory is asked for. `AllocError` where
+    /// memory is refused.
     pub fn reserve(
         alloc: Global,
         nesting: usize,
@@ -61,7 +64,7 @@ impl<'a> DefinitionStacks<'a> {
     }
 }
 
-/// How deep the groups of an input value definition stand in one another. `None` if that does not fit.
+/// How deep the groups of an input value definition stand in one another. `None` if it is above `usize::MAX`.
 pub fn find_input_value_nesting(input: &InputValueDefinition) -> Option<usize>
     ensures { MatchOption result (2 ^ 64 ≤ input_value_nesting (input_value_tree input.now)) (λ n. n ≡ input_value_nesting (input_value_tree input.now)) }
 {
@@ -73,7 +76,7 @@ pub fn find_input_value_nesting(input: &InputValueDefinition) -> Option<usize>
 }
 
 /// How deep the groups of an arguments definition stand in one another: one more than the argument that nests most, and 0 without
-/// arguments. `None` if that does not fit.
+/// arguments. `None` if it is above `usize::MAX`.
 pub fn find_arguments_definition_nesting(arguments: &[Node<InputValueDefinition>]) -> Option<usize>
     ensures { MatchOption result (2 ^ 64 ≤ arguments_definition_nesting (input_value_trees arguments.now)) (λ n. n ≡ arguments_definition_nesting (input_value_trees arguments.now)) }
 {
@@ -84,7 +87,7 @@ pub fn find_arguments_definition_nesting(arguments: &[Node<InputValueDefinition>
     Some(most)
 }
 
-/// How many lists stand around the name in the type of an argument that has most. `None` if that does not fit.
+/// How many lists stand around the name in the type of an argument that has most. `None` if it is above `usize::MAX`.
 pub fn find_arguments_list_depth(arguments: &[Node<InputValueDefinition>]) -> Option<usize>
     ensures { MatchOption result (2 ^ 64 ≤ arguments_list_depth (input_value_trees arguments.now)) (λ n. n ≡ arguments_list_depth (input_value_trees arguments.now)) }
 {

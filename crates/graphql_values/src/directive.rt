@@ -10,7 +10,9 @@ use std::alloc::{AllocError, Global};
 /// An argument of a field or a directive (`Argument`, section 2.6). Two are equal exactly if they differ in locations at most.
 #[derive(Clone, PartialEq, Eq, Hash, Debug, Drop)]
 pub struct Argument {
+    /// The name that stands before `:`.
     pub name: Name,
+    /// The value that stands after it.
     pub value: Node<Value>,
 }
 
@@ -21,6 +23,7 @@ pub struct Argument {
 pub struct Directive {
     /// The name, without `@`.
     pub name: Name,
+    /// What stands in brackets; without arguments no brackets are printed.
     pub arguments: Vec<Node<Argument>>,
 }
 

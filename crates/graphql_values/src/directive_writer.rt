@@ -18,7 +18,7 @@ use graphql_text::target::Target;
 use graphql_text::writers::{write_name, write_words};
 
 /// How deep the groups of arguments stand in one another: one more than the value that nests most, and 0 without arguments. `None`
-/// if that does not fit.
+/// if it is above `usize::MAX`.
 pub fn find_arguments_nesting(arguments: &[Node<Argument>]) -> Option<usize>
     ensures { MatchOption result (2 ^ 64 ≤ arguments_nesting (argument_trees arguments.now)) (λ n. n ≡ arguments_nesting (argument_trees arguments.now)) }
 {
@@ -29,7 +29,7 @@ pub fn find_arguments_nesting(arguments: &[Node<Argument>]) -> Option<usize>
     Some(most)
 }
 
-/// How deep the groups of the directive that nests most stand in one another. `None` if that does not fit.
+/// How deep the groups of the directive that nests most stand in one another. `None` if it is above `usize::MAX`.
 pub fn find_directives_nesting(directives: &[Node<Directive>]) -> Option<usize>
     ensures { MatchOption result (2 ^ 64 ≤ directives_nesting (directive_node_trees directives.now)) (λ n. n ≡ directives_nesting (directive_node_trees directives.now)) }
 {

@@ -3,7 +3,7 @@
 //! Each function does nothing: its contract is the law, with a clause for each kind of tree.
 ghost use Rattle.std.specs.Prelude.{IsTrue, MatchOption, List, [], ◌∷◌};
 ghost use Rattle.graphql_text.specs.Forms.{a_punctuator};
-ghost use Rattle.graphql_text.specs.Lookahead.{IsReadOneWay};
+ghost use Rattle.graphql_text.specs.OneReading.{IsReadOneWay};
 ghost use Rattle.graphql_text.specs.Printing.{ReadsAlone};
 ghost use Rattle.graphql_text.specs.Reading.{Laws};
 ghost use Rattle.graphql_text.specs.Tokens.{at, bang, bar, equals, lparen};
@@ -30,9 +30,7 @@ pub use crate::laws::comparisons::{
     clones_are_the_same, compared_by_tree, equal_trees_hash_alike, errors_compare_by_variant,
 };
 pub use crate::laws::directives::{directive_look_ups_agree, get_all_ends};
-pub use crate::laws::kinds::{
-    layouts_have_the_printed_tokens, printed_tokens_derive_the_tree, syntax_of_each_kind,
-};
+pub use crate::laws::kinds::{printed_tokens_derive_the_tree, syntax_of_each_kind};
 pub use crate::laws::readings::{
     refused_numbers, refused_readings, refused_strings, worked_readings, worked_strings,
 };
@@ -43,8 +41,8 @@ use crate::types::Type;
 use crate::value::Value;
 use std::fmt::Display;
 
-/// What obeys the side conditions, printed under a prefix of spaces and tabs or on one line, is read as that tree and as no other. A list of directives may
-/// be empty, and a type obeys them always.
+/// What obeys the side conditions, printed under a prefix of spaces and tabs or on one line, is read as that tree and as no other; and all else that `Laws`
+/// says. A list of directives may be empty, and a type obeys the side conditions always.
 pub fn trees_are_read_back()
     ensures values { Laws {Tree = ValueTree} (λ broken front. value_shape broken) value_nesting (λ value. IsTrue (value_obeys NonConst value)) (value_form NonConst) }
     ensures types { Laws {Tree = TypeTree} (λ broken front. type_shape) (λ type. 0) (λ type. Unit {0}) type_form }

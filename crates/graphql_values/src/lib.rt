@@ -1,4 +1,11 @@
 //! GraphQL's values, types, arguments and directives.
+//!
+//! - `value`, `literal`: values, and the numbers in them.
+//! - `types`: type references, and the macro `ty!`.
+//! - `directive`, `directive_list`, `arguments`: directives, lists of them, and their arguments by name.
+//! - `definition`, `location`, `operation_type`: definitions of input values and of directives, and where directives may stand.
+//! - `well_formed`, `writers`: what the kinds above these are checked and written with.
+//! - `laws`: laws of these kinds, as contracts of functions that do nothing.
 #![tactic(auto)]
 
 pub mod arguments;

@@ -15,8 +15,8 @@ use std::num::ParseIntError;
 #[derive_where(PartialEq, Eq, Hash)]
 #[derive(Debug, Drop)]
 pub struct IntValue {
-    digits: OwnedText,
-    pub ghost valid: { IsTrue (is_int digits) },
+    numeral: OwnedText,
+    pub ghost valid: { IsTrue (is_int numeral) },
 }
 
 impl IntValue {
@@ -29,25 +29,27 @@ impl IntValue {
         is_int(text.as_bytes())
     }
 
-    /// The integer with this text, which is in the syntax of an `IntValue`.
+    /// The integer with this text. `AllocError` where memory is refused.
+    ///
+    /// Condition: the text is in the syntax of an `IntValue`.
     pub fn new_parsed(alloc: Global, text: &str) -> Result<IntValue, AllocError>
         requires { IsTrue (is_int text.now) }
         ensures { IfOk result (λ int. int_text int ≡ text.now) }
     {
         Ok(IntValue {
-            digits: OwnedText::new(String::from_str(alloc, text)?),
+            numeral: OwnedText::new(String::from_str(alloc, text)?),
         })
     }
 
     /// The integer of a number: its decimal digits, after a `-` where it is negative.
     ///
-    /// `IntValue::from_i32(alloc, -7)?.as_str()` is `-7`.
+    /// `IntValue::from_i32(alloc, -7)?.as_str()` is `-7`. `AllocError` where memory is refused.
     pub fn from_i32(alloc: Global, number: i32) -> Result<IntValue, AllocError>
         ensures text { IfOk result (λ int. int_text int ≡ signed_decimal number) }
         ensures number { IfOk result (λ int. int_number int ≡ number) }
     {
         Ok(IntValue {
-            digits: OwnedText::new(number.to_string(alloc)?),
+            numeral: OwnedText::new(number.to_string(alloc)?),
         })
     }
 
@@ -63,7 +65,7 @@ impl IntValue {
         ensures text { result.now ≡ int_text self.now }
         ensures syntax { IsTrue (is_int result.now) }
     {
-        self.digits.as_str()
+        self.numeral.as_str()
     }
 }
 
@@ -72,7 +74,7 @@ impl Clone for IntValue {
 
     fn clone(&self) -> Result<IntValue, AllocError> {
         Ok(IntValue {
-            digits: self.digits.clone()?,
+            numeral: self.numeral.clone()?,
         })
     }
 }
@@ -83,7 +85,7 @@ impl Display for IntValue {
     ghost output = { λ int. Some (int_text int) };
 
     fn fmt<W: Write>(&self, f: &mut Formatter<W>) -> fmt::Result {
-        f.pad(self.digits.as_str())
+        f.pad(self.numeral.as_str())
     }
 }
 
@@ -107,7 +109,9 @@ impl FloatValue {
         is_float(text.as_bytes())
     }
 
-    /// The float with this text, which is in the syntax of a `FloatValue`.
+    /// The float with this text. `AllocError` where memory is refused.
+    ///
+    /// Condition: the text is in the syntax of a `FloatValue`.
     pub fn new_parsed(alloc: Global, text: &str) -> Result<FloatValue, AllocError>
         requires { IsTrue (is_float text.now) }
         ensures { IfOk result (λ float. float_text float ≡ text.now) }

@@ -41,18 +41,21 @@ impl OperationType {
         }
     }
 
+    /// Whether it is `query`.
     pub fn is_query(self) -> bool
         ensures { IsTrue result ↔ (operation_type_tree self ≡ tree.Query) }
     {
         matches!(self, OperationType::Query)
     }
 
+    /// Whether it is `mutation`.
     pub fn is_mutation(self) -> bool
         ensures { IsTrue result ↔ (operation_type_tree self ≡ tree.Mutation) }
     {
         matches!(self, OperationType::Mutation)
     }
 
+    /// Whether it is `subscription`.
     pub fn is_subscription(self) -> bool
         ensures { IsTrue result ↔ (operation_type_tree self ≡ tree.Subscription) }
     {

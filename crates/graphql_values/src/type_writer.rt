@@ -23,7 +23,7 @@ pub enum TypePart {
     EndOfNonNullList,
 }
 
-/// How many lists stand around the name of a type, which is how many parts its stack needs room for. `None` if that does not fit.
+/// How many lists stand around the name of a type, which is how many parts its stack needs room for. `None` if it is above `usize::MAX`.
 pub fn find_list_depth(ty: &Type) -> Option<usize>
     ensures { MatchOption result (2 ^ 64 ≤ list_depth (type_tree ty.now)) (λ n. n ≡ list_depth (type_tree ty.now)) }
 {

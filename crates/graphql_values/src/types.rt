@@ -23,7 +23,7 @@ pub enum Type {
 
 impl Type {
     ghost use Rattle.graphql_values.specs.TypeTrees.{type_tree, type_wrapping};
-    ghost use Rattle.graphql_values.specs.Wrappings.{IsAssignable, is_list, is_named, is_non_null, item_wrapping, listed, with_nullability};
+    ghost use Rattle.graphql_values.specs.Wrappings.{IsAssignable, is_list, is_named_type, is_non_null, item_wrapping, listed, with_nullability};
 
     /// This type, but non-null: with `!` after it.
     pub fn non_null(self) -> Type
@@ -97,7 +97,7 @@ impl Type {
 
     /// Whether the type is a name (`NamedType`), non-null or not.
     pub fn is_named(&self) -> bool
-        ensures { result ≡ is_named (type_tree self.now) }
+        ensures { result ≡ is_named_type (type_tree self.now) }
     {
         !self.is_list()
     }
@@ -165,7 +165,7 @@ impl fmt::Display for Type {
 }
 
 /// A type over a static name. `ty!(N)` and `ty!(N!)` are a `Type`, and take no memory. `ty!(in alloc; [..])` and
-/// `ty!(in alloc; [..]!)` are a `Result<Type, AllocError>`.
+/// `ty!(in alloc; [..]!)` are a `Result<Type, AllocError>`, with `AllocError` where memory is refused.
 ///
 /// That the name is in name syntax is proved at the call. It stands in the body of a function.
 ///

@@ -3,10 +3,8 @@ ghost use Rattle.std.specs.Prelude.{◌≡◌, FitsSigned, IfOk, IsNone, IsSomeA
 ghost use Rattle.std.specs.Fmt.{signed_decimal};
 ghost use Rattle.std.specs.Int.{w32};
 ghost use Rattle.graphql_values.specs.Literals.{int_number, int_text};
-ghost use Rattle.graphql_values.specs.Values.{NonConst, value_obeys};
 
 use crate::literal::{FloatValue, IntValue};
-use crate::well_formed::{Constness, is_well_formed_at};
 use graphql_base::name::Name;
 use graphql_base::node::Node;
 use std::alloc::{AllocError, Global};
@@ -27,15 +25,16 @@ pub enum Value {
     Float(FloatValue),
     Int(IntValue),
     Boolean(bool),
+    /// The items, in order.
     List(Vec<Node<Value>>),
+    /// The fields, in order; of fields with one name each is kept.
     Object(Vec<(Name, Node<Value>)>),
 }
 
 impl Value {
-    ghost use Rattle.graphql_values.specs.ValueParts.{boolean_of, enum_of, int_of, is_null, list_of, object_of, string_of, variable_of};
-    ghost use Rattle.graphql_values.specs.ValueTrees.{value_tree};
+    ghost use Rattle.graphql_values.specs.ValueParts.{boolean_of, enum_of, int_of, is_null, list_items_of, object_fields_of, string_of, variable_of};
 
-    /// The number as an integer.
+    /// The number as an integer. `AllocError` where memory is refused.
     pub fn from_i32(alloc: Global, number: i32) -> Result<Value, AllocError>
         ensures text { IfOk result (λ value. IsSomeAnd (int_of value) (λ int. int_text int ≡ signed_decimal number)) }
         ensures number { IfOk result (λ value. IsSomeAnd (int_of value) (λ int. int_number int ≡ number)) }
@@ -43,7 +42,7 @@ impl Value {
         Ok(Value::Int(IntValue::from_i32(alloc, number)?))
     }
 
-    /// A string of a copy of the text.
+    /// A string of a copy of the text. `AllocError` where memory is refused.
     pub fn from_text(alloc: Global, text: &str) -> Result<Value, AllocError>
         ensures { IfOk result (λ value. string_of value ≡ Some text.now) }
     {
@@ -109,7 +108,7 @@ impl Value {
 
     /// The items of a list.
     pub fn as_list(&self) -> Option<&[Node<Value>]>
-        ensures { option_copied result ≡ list_of self.now }
+        ensures { option_copied result ≡ list_items_of self.now }
     {
         match self {
             Value::List(items) => Some(items.as_slice()),
@@ -119,19 +118,12 @@ impl Value {
 
     /// The fields of an object.
     pub fn as_object(&self) -> Option<&[(Name, Node<Value>)]>
-        ensures { option_copied result ≡ object_of self.now }
+        ensures { option_copied result ≡ object_fields_of self.now }
     {
         match self {
             Value::Object(fields) => Some(fields.as_slice()),
             _ => None,
         }
-    }
-
-    /// Whether no enum value in it is `true`, `false` or `null`. Variables are allowed.
-    pub fn is_well_formed(&self) -> bool
-        ensures { result ≡ value_obeys NonConst (value_tree self.now) }
-    {
-        is_well_formed_at(self, Constness::NonConst)
     }
 }
 

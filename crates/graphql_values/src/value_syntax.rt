@@ -27,6 +27,13 @@ impl Value {
         Serialize::new(self)
     }
 
+    /// Whether no enum value in it is `true`, `false` or `null`. Variables are allowed.
+    pub fn is_well_formed(&self) -> bool
+        ensures { result ≡ value_obeys NonConst (value_tree self.now) }
+    {
+        is_well_formed_at(self, Constness::NonConst)
+    }
+
     /// The allocator of a list or an object.
     fn allocator(&self) -> Option<Global>
         ensures { IsNone result → value_nesting (value_tree self.now) ≡ 0 }
@@ -63,7 +70,7 @@ impl Syntax for Value {
     ghost laws = { value_laws };
 
     fn is_well_formed(&self) -> bool {
-        is_well_formed_at(self, Constness::NonConst)
+        Value::is_well_formed(self)
     }
 
     fn find_nesting(&self) -> Option<usize> {

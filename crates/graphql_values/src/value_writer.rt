@@ -23,11 +23,13 @@ use graphql_text::writers::{
 /// A list or an object that is open: what is left of it, and whether nothing of it was written yet.
 #[derive(Clone, Copy)]
 pub enum ValuePart<'a> {
+    /// The items of a list, and whether the first of them is the list's first.
     Items(&'a [Node<Value>], bool),
+    /// The fields of an object, and whether the first of them is the object's first.
     Fields(&'a [(Name, Node<Value>)], bool),
 }
 
-/// How many lists and objects that aren't empty stand in one another. `None` if that does not fit.
+/// How many lists and objects that aren't empty stand in one another. `None` if it is above `usize::MAX`.
 #[cycle(nesting)]
 #[inline(always)]
 #[tactic(auto, using(crate::proofs::ValueShapes::value_nesting_list, crate::proofs::ValueShapes::value_nesting_object))]

@@ -1,4 +1,4 @@
-//! Which values, arguments, directives and definitions may be printed and read back.
+//! Which values, arguments, directives and input value definitions keep the side conditions, so that what is printed of them is read back.
 ghost use Rattle.std.specs.Prelude.{◌≡◌};
 ghost use Rattle.graphql_values.specs.Arguments.{arguments_obey};
 ghost use Rattle.graphql_values.specs.Directives.{directives_obey};
@@ -17,7 +17,9 @@ use graphql_base::node::Node;
 /// Whether a place is constant (`Value[Const]`), which admits no variable at any depth.
 #[derive(Clone, Copy, Debug, PartialEq, Eq)]
 pub enum Constness {
+    /// `Value[Const]`: no variable.
     Const,
+    /// `Value`: variables too.
     NonConst,
 }
 

@@ -25,6 +25,41 @@ pub(crate) fn numbers(alloc: Global) -> Result<Value, AllocError> {
     Ok(Value::List(items))
 }
 
+/// What a value can be.
+pub(crate) const FORMS: [&str; 9] = [
+    "null", "enum", "variable", "string", "float", "int", "boolean", "list", "object",
+];
+
+/// A value of that form.
+pub(crate) fn value_of(alloc: Global, form: &str) -> Result<Value, AllocError> {
+    match form {
+        "string" => Value::from_text(alloc, "é"),
+        "float" => Ok(Value::Float(FloatValue::new_parsed(alloc, "1.50")?)),
+        "int" => Value::from_i32(alloc, -7),
+        "list" => numbers(alloc),
+        "object" => object(alloc),
+        _ => Ok(plain_value(form)),
+    }
+}
+
+fn plain_value(form: &str) -> Value {
+    match form {
+        "enum" => Value::Enum(name!(A)),
+        "variable" => Value::Variable(name!(v)),
+        "boolean" => Value::from(true),
+        _ => Value::Null,
+    }
+}
+
+// `{a: 1, b: 2}`
+fn object(alloc: Global) -> Result<Value, AllocError> {
+    let fields = vec![in alloc;
+        (name!(a), number(alloc, 1)?),
+        (name!(b), number(alloc, 2)?),
+    ]?;
+    Ok(Value::Object(fields))
+}
+
 /// `[1, EXAMPLE, true, null]`
 pub(crate) fn items(alloc: Global) -> Result<Value, AllocError> {
     let items = vec![in alloc;

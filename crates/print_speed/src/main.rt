@@ -11,7 +11,7 @@ use crate::trees::{objects, texts};
 use graphql_text::engine::{PrintError, Serialize};
 use graphql_text::sink::VecSink;
 use graphql_values::value::Value;
-use std::alloc::{AllocError, Global};
+use std::alloc::Global;
 use std::env::Env;
 use std::process::ExitCode;
 use thiserror::Error;

@@ -222,13 +222,11 @@ fn breaks_long_descriptions(rt: HostRuntime) {
     ] {
         let value = text.repeat(rt.alloc(), count).expect(&rt, "memory");
         let seam = if is_long { "\n" } else { "" };
-        let want = format!(in rt.alloc(); "\"\"\"{seam}{value}{seam}\"\"\"").expect(&rt, "memory");
-        let place = Place {
-            prefix: Some("  "),
-            level: 0,
-        };
-        let out = description_page(rt.alloc(), &place, value.as_str());
-        check_text(&rt, out.text.as_str(), want.as_str());
+        let wanted = format!(in rt.alloc(); "\"\"\"{seam}{value}{seam}\"\"\"").expect(
+            &rt, "memory",
+        );
+        let page = description_page(rt.alloc(), &TWO_SPACES, value.as_str());
+        check_page(&rt, &page, wanted.as_str());
     }
 }
 
@@ -243,15 +241,11 @@ fn repeats_the_prefix(rt: HostRuntime) {
         ("\u{E9}", 3),
     ] {
         let line = prefix.repeat(rt.alloc(), level).expect(&rt, "memory");
-        let want = format!(in rt.alloc(); "\"\"\"\n{line}a\n\n{line}b\n{line}\"\"\"").expect(
+        let wanted = format!(in rt.alloc(); "\"\"\"\n{line}a\n\n{line}b\n{line}\"\"\"").expect(
             &rt, "memory",
         );
-        let place = Place {
-            prefix: Some(prefix),
-            level,
-        };
-        let out = description_page(rt.alloc(), &place, "a\n\nb");
-        check_text(&rt, out.text.as_str(), want.as_str());
+        let page = description_page(rt.alloc(), &indented(prefix, level), "a\n\nb");
+        check_page(&rt, &page, wanted.as_str());
     }
 }
 
@@ -259,22 +253,9 @@ fn repeats_the_prefix(rt: HostRuntime) {
 #[test]
 fn ends_at_once(rt: HostRuntime) {
     let mut out = OnePiece { pieces: 0 };
-    write_description(
-        &mut out,
-        &Place {
-            prefix: Some("  "),
-            level: usize::MAX,
-        },
-        "a\nb",
-    );
+    write_description(&mut out, &indented("  ", usize::MAX), "a\nb");
     assert!(rt; out.is_stopped());
     let mut out = blank_page(rt.alloc());
-    write_first_indent(
-        &mut out,
-        &Place {
-            prefix: Some(""),
-            level: usize::MAX,
-        },
-    );
-    check_text(&rt, out.text.as_str(), "");
+    write_first_indent(&mut out, &indented("", usize::MAX));
+    check_page(&rt, &out, "");
 }

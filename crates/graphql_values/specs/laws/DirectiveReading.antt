@@ -29,12 +29,12 @@ pub directive_is_read : {k : ℕ} (c : Constness) (d : DirectiveTree) → Reads 
 unfolding directive_reader directive_form
 directive_is_read c d = seq _ (mark_reads at) (seq _ (name_reads [] d.name) (last _ (arguments_are_read c d.arguments)) refl) refl
 
-abbrev pub after_directives : List TokenClass
-after_directives = a_punctuator at ∷ a_punctuator lparen ∷ []
+abbrev pub excluded_after_directives : List TokenClass
+excluded_after_directives = a_punctuator at ∷ a_punctuator lparen ∷ []
 
 unfoldable pub directives_reader : Constness → Parser (List DirectiveTree)
 directives_reader c = parse_each (a_punctuator at ∷ []) (directive_reader c)
 
-pub directives_are_read : {k : ℕ} (c : Constness) (more : List DirectiveTree) → Reads k (directives_reader c) more (directives_form c more) after_directives (a_punctuator at ∷ []) true
+pub directives_are_read : {k : ℕ} (c : Constness) (more : List DirectiveTree) → Reads k (directives_reader c) more (directives_form c more) excluded_after_directives (a_punctuator at ∷ []) true
 unfolding directives_reader
-directives_are_read c = each_reads (directive_reader c) (directive_form c) after_directives (directive_is_read c) refl refl
+directives_are_read c = each_reads (directive_reader c) (directive_form c) excluded_after_directives (directive_is_read c) refl refl

@@ -5,18 +5,19 @@ use Rattle.graphql_text.proofs.Parsing.{one_reading}
 use Rattle.graphql_text.proofs.Bracketing.{whole}
 use Rattle.graphql_text.proofs.Telling.{told_flat, told_weaker}
 use Rattle.graphql_text.proofs.KindLaws.{Facts, laws}
-use Rattle.graphql_values.specs.Values.{ValueTree, NonConst, value_form, value_tokens, value_shape, value_nesting, value_obeys}
-use Rattle.graphql_values.specs.TypeReferences.{TypeTree, type_form, type_tokens, type_shape}
-use Rattle.graphql_values.specs.Arguments.{ArgumentTree, argument_form, argument_tokens, argument_shape, argument_obeys}
-use Rattle.graphql_values.specs.Directives.{DirectiveTree, directive_form, directives_form, directive_tokens, directives_tokens, directive_shape, directives_shape, directive_nesting, directives_nesting, directive_obeys, directives_obey}
-use Rattle.graphql_values.specs.InputValues.{InputValueTree, input_value_form, input_value_tokens, input_value_shape, input_value_nesting, input_value_obeys}
-use Rattle.graphql_values.specs.DirectiveDefinitions.{DirectiveDefinitionTree, directive_definition_form, directive_definition_tokens, directive_definition_shape, directive_definition_nesting, directive_definition_obeys}
+use Rattle.graphql_values.specs.Values.{ValueTree, NonConst, value_form, value_shape, value_nesting, value_obeys}
+use Rattle.graphql_values.specs.TypeReferences.{TypeTree, type_form, type_shape}
+use Rattle.graphql_values.specs.Arguments.{ArgumentTree, argument_form, argument_shape, argument_obeys}
+use Rattle.graphql_values.specs.Directives.{DirectiveTree, directive_form, directives_form, directive_shape, directives_shape, directive_nesting, directives_nesting, directive_obeys, directives_obey}
+use Rattle.graphql_values.specs.InputValues.{InputValueTree, input_value_form, input_value_shape, input_value_nesting, input_value_obeys}
+use Rattle.graphql_values.specs.DirectiveDefinitions.{DirectiveDefinitionTree, directive_definition_form, directive_definition_shape, directive_definition_nesting, directive_definition_obeys}
 use Rattle.graphql_values.specs.laws.ValueReading.{value_is_read}
 use Rattle.graphql_values.specs.laws.DirectiveReading.{argument_is_read, directive_is_read, directives_are_read}
 use Rattle.graphql_values.specs.laws.TypeReading.{type_is_read}
 use Rattle.graphql_values.specs.laws.DefinitionReading.{input_value_is_read, directive_definition_is_read}
 use Rattle.graphql_values.specs.laws.ReadBack.{type_written, value_written, argument_written, directive_written, directives_written, input_value_written, directive_definition_written, value_obeyed, argument_obeyed, directive_obeyed, directives_obeyed, input_value_obeyed, directive_definition_obeyed}
 use Rattle.graphql_values.specs.laws.Told.{told_reference, told_value, told_argument, told_directive, told_directives, told_input_value, told_directive_definition}
+use Rattle.graphql_values.specs.laws.PrintedTokens.{value_tokens, type_tokens, argument_tokens, directive_tokens, directives_tokens, input_value_tokens, directive_definition_tokens}
 
 value_facts : Facts {Tree = ValueTree} (λ broken front. value_shape broken) value_nesting (λ value. IsTrue (value_obeys NonConst value)) (value_form NonConst) (λ front. value_tokens)
 value_facts = record {

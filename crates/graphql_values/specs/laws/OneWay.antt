@@ -9,7 +9,7 @@ use Rattle.graphql_values.specs.Directives.{directive_form, directives_form}
 use Rattle.graphql_values.specs.TypeReferences.{type_form}
 use Rattle.graphql_values.specs.InputValues.{input_value_form, arguments_definition_form}
 use Rattle.graphql_values.specs.DirectiveDefinitions.{directive_definition_form}
-use Rattle.graphql_text.specs.Lookahead.{IsReadOneWay}
+use Rattle.graphql_text.specs.OneReading.{IsReadOneWay}
 use Rattle.graphql_values.specs.laws.ValueReading.{value_is_read}
 use Rattle.graphql_values.specs.laws.DirectiveReading.{argument_is_read, directive_is_read, directives_are_read}
 use Rattle.graphql_values.specs.laws.TypeReading.{type_is_read}

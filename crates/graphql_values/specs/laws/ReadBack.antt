@@ -5,17 +5,18 @@ use Rattle.std.proofs.Math.Dec.{eqb-suc-zero}
 use Rattle.graphql_text.specs.Literals.{StringText}
 use Rattle.graphql_text.specs.Tokens.{lparen, rparen, bar, Token, Punctuation, Name}
 use Rattle.graphql_text.specs.Forms.{token, no_tokens, ◌⨟◌, optional_token, list_of, name_except, only_if, never}
-use Rattle.graphql_text.specs.PrintedTokens.{Every, list_tokens}
+use Rattle.graphql_text.proofs.PrintedTokens.{Every, list_tokens}
 use Rattle.graphql_text.proofs.Written.{each_written, group_written, each_obeys, group_obeys}
-use Rattle.graphql_values.specs.Values.{Constness, Const, ValueTree, ValueTrees, ObjectFieldTrees, null_value, enum_value, variable, string_value, float_value, int_value, boolean_value, list_value, object_value, no_values, more_values, no_fields, more_fields, value_form, values_form, object_fields_form, value_tokens, values_tokens, object_fields_tokens, value_obeys, values_obey, object_fields_obey}
-use Rattle.graphql_values.specs.TypeReferences.{TypeTree, named_type, non_null_named_type, list_type, non_null_list_type, type_form, type_tokens}
-use Rattle.graphql_values.specs.Arguments.{ArgumentTree, argument_form, arguments_form, argument_tokens, arguments_tokens, argument_obeys, arguments_obey}
-use Rattle.graphql_values.specs.Directives.{DirectiveTree, directive_form, directives_form, directive_tokens, directives_tokens, directive_obeys, directives_obey}
-use Rattle.graphql_values.specs.Descriptions.{description_form, description_tokens}
-use Rattle.graphql_values.specs.DefaultValues.{default_value_form, default_value_tokens, default_value_obeys}
-use Rattle.graphql_values.specs.InputValues.{InputValueTree, input_value_form, input_value_tokens, input_value_obeys, arguments_definition_form, arguments_definition_tokens, arguments_definition_obeys}
+use Rattle.graphql_values.specs.Values.{Constness, Const, ValueTree, ValueTrees, ObjectFieldTrees, null_value, enum_value, variable, string_value, float_value, int_value, boolean_value, list_value, object_value, no_values, more_values, no_fields, more_fields, value_form, values_form, object_fields_form, value_obeys, values_obey, object_fields_obey}
+use Rattle.graphql_values.specs.TypeReferences.{TypeTree, named_type, non_null_named_type, list_type, non_null_list_type, type_form}
+use Rattle.graphql_values.specs.Arguments.{ArgumentTree, argument_form, arguments_form, argument_obeys, arguments_obey}
+use Rattle.graphql_values.specs.Directives.{DirectiveTree, directive_form, directives_form, directive_obeys, directives_obey}
+use Rattle.graphql_values.specs.Descriptions.{description_form}
+use Rattle.graphql_values.specs.DefaultValues.{default_value_form, default_value_obeys}
+use Rattle.graphql_values.specs.InputValues.{InputValueTree, input_value_form, input_value_obeys, arguments_definition_form, arguments_definition_obeys}
 use Rattle.graphql_values.specs.DirectiveLocations.{DirectiveLocationTree, location_name, location_form}
-use Rattle.graphql_values.specs.DirectiveDefinitions.{DirectiveDefinitionTree, repeatable_form, repeatable_tokens, directive_locations_form, directive_locations_tokens, directive_definition_body_form, directive_definition_form, directive_definition_tokens, directive_definition_obeys}
+use Rattle.graphql_values.specs.DirectiveDefinitions.{DirectiveDefinitionTree, repeatable_form, directive_locations_form, directive_definition_body_form, directive_definition_form, directive_definition_obeys}
+use Rattle.graphql_values.specs.laws.PrintedTokens.{value_tokens, values_tokens, object_fields_tokens, type_tokens, argument_tokens, arguments_tokens, directive_tokens, directives_tokens, description_tokens, default_value_tokens, input_value_tokens, arguments_definition_tokens, repeatable_tokens, directive_locations_tokens, directive_definition_tokens}
 
 -- BOTH CONDITIONS, AND THOSE OF EACH PART
 

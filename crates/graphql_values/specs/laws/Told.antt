@@ -5,19 +5,20 @@ use Rattle.graphql_base.specs.Names.{is_name}
 use Rattle.graphql_text.specs.Literals.{StringText}
 use Rattle.graphql_text.specs.Tokens.{Punctuator, bang, dollar, lparen, rparen, colon, equals, at, lbracket, rbracket, lbrace, bar, rbrace, Token, Punctuation, Name}
 use Rattle.graphql_text.specs.Layout.{Item, Word, AsValue, AsDescription, Space, each_after, flat, comma_group}
-use Rattle.graphql_text.specs.PrintedTokens.{Tail, list_tokens, group_tokens, joined_tokens}
+use Rattle.graphql_text.proofs.PrintedTokens.{Tail, list_tokens, group_tokens, joined_tokens}
 use Rattle.graphql_text.proofs.Bracketing.{Passes, punctuator_effect}
 use Rattle.graphql_text.proofs.Telling.{Told, told_nothing, told_then, told_after, told_as, told_weaker, told_mark, told_word, told_name, told_int, told_float, told_string, told_space, told_soft, told_type, told_flat, Parts, no_parts, one_more, parts_of, told_comma_group}
-use Rattle.graphql_values.specs.Values.{ValueTree, ValueTrees, ObjectFieldTrees, null_value, enum_value, variable, string_value, float_value, int_value, boolean_value, list_value, object_value, no_values, more_values, no_fields, more_fields, value_tokens, values_tokens, object_fields_tokens, value_shape, values_shapes, object_fields_shapes, value_nesting, values_nestings, object_fields_nestings}
-use Rattle.graphql_values.specs.TypeReferences.{TypeTree, named_type, non_null_named_type, list_type, non_null_list_type, type_tokens, type_shape}
-use Rattle.graphql_values.specs.Arguments.{ArgumentTree, argument_tokens, arguments_tokens, argument_items, arguments_shape, arguments_nesting}
-use Rattle.graphql_values.specs.Directives.{DirectiveTree, directive_tokens, directives_tokens, directive_shape, directives_shape, directive_nesting, directives_nesting}
-use Rattle.graphql_values.specs.Descriptions.{description_tokens, description_shape}
-use Rattle.graphql_values.specs.DefaultValues.{default_value_tokens, default_value_shape, default_value_nesting}
-use Rattle.graphql_values.specs.InputValues.{InputValueTree, input_value_tokens, input_value_shape, input_value_nesting, has_description_or_directives, arguments_definition_tokens, arguments_definition_shape, arguments_definition_nesting}
+use Rattle.graphql_values.specs.Values.{ValueTree, ValueTrees, ObjectFieldTrees, null_value, enum_value, variable, string_value, float_value, int_value, boolean_value, list_value, object_value, no_values, more_values, no_fields, more_fields, value_shape, values_shapes, object_fields_shapes, value_nesting, values_nestings, object_fields_nestings}
+use Rattle.graphql_values.specs.TypeReferences.{TypeTree, named_type, non_null_named_type, list_type, non_null_list_type, type_shape}
+use Rattle.graphql_values.specs.Arguments.{ArgumentTree, argument_items, arguments_shape, arguments_nesting}
+use Rattle.graphql_values.specs.Directives.{DirectiveTree, directive_shape, directives_shape, directive_nesting, directives_nesting}
+use Rattle.graphql_values.specs.Descriptions.{description_shape}
+use Rattle.graphql_values.specs.DefaultValues.{default_value_shape, default_value_nesting}
+use Rattle.graphql_values.specs.InputValues.{InputValueTree, input_value_shape, input_value_nesting, has_description_or_directives, arguments_definition_shape, arguments_definition_nesting}
 use Rattle.graphql_values.specs.JoinedNames.{joined_names_shape}
 use Rattle.graphql_values.specs.DirectiveLocations.{DirectiveLocationTree, location_name, Query, Mutation, Subscription, Field, FragmentDefinition, FragmentSpread, InlineFragment, VariableDefinition, Schema, Scalar, Object, FieldDefinition, ArgumentDefinition, Interface, Union, Enum, EnumValue, InputObject, InputFieldDefinition}
-use Rattle.graphql_values.specs.DirectiveDefinitions.{DirectiveDefinitionTree, repeatable_tokens, directive_locations_tokens, directive_definition_tokens, repeatable_shape, directive_locations_shape, directive_definition_shape, directive_definition_nesting}
+use Rattle.graphql_values.specs.DirectiveDefinitions.{DirectiveDefinitionTree, repeatable_shape, directive_locations_shape, directive_definition_shape, directive_definition_nesting}
+use Rattle.graphql_values.specs.laws.PrintedTokens.{value_tokens, values_tokens, object_fields_tokens, type_tokens, argument_tokens, arguments_tokens, directive_tokens, directives_tokens, description_tokens, default_value_tokens, input_value_tokens, arguments_definition_tokens, repeatable_tokens, directive_locations_tokens, directive_definition_tokens}
 
 mutual
   unfolding value_tokens

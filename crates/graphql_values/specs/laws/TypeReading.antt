@@ -25,8 +25,8 @@ unfoldable pub maybe_non_null_list : TypeTree → Bool → TypeTree
 maybe_non_null_list t true = non_null_list_type t
 maybe_non_null_list t false = list_type t
 
-abbrev pub type_heads : List TokenClass
-type_heads = a_name [] ∷ a_punctuator lbracket ∷ []
+abbrev pub type_first_tokens : List TokenClass
+type_first_tokens = a_name [] ∷ a_punctuator lbracket ∷ []
 
 unfoldable pub list_end : TypeTree → Parser TypeTree
 list_end i = accept (a_punctuator rbracket) >>= λ u. bang_reader >>= λ b. pure (maybe_non_null_list i b)
@@ -45,17 +45,17 @@ add_after : (f g h : Form) (ts r : List Token) → (f ⨟ g ⨟ h) ts r → (f �
 unfolding ◌⨟◌ no_tokens
 add_after f g h ts r d = (d.0, d.1, (d.2.0, d.2.1, (r, d.2.2, refl)))
 
-in_list : (k : ℕ) (t : TypeTree) {p : Parser TypeTree} → Reads k p t (type_form t) (a_punctuator bang ∷ []) type_heads false →
-    Reads k (p >>= list_end) (list_type t) (type_form t ⨟ token (Punctuation rbracket) ⨟ no_tokens) (a_punctuator bang ∷ []) type_heads false
+in_list : (k : ℕ) (t : TypeTree) {p : Parser TypeTree} → Reads k p t (type_form t) (a_punctuator bang ∷ []) type_first_tokens false →
+    Reads k (p >>= list_end) (list_type t) (type_form t ⨟ token (Punctuation rbracket) ⨟ no_tokens) (a_punctuator bang ∷ []) type_first_tokens false
 unfolding list_end maybe_non_null_list
 in_list k t x = seq _ x (seq _ (mark_reads rbracket) (last _ no_bang_reads) refl) refl
 
-in_non_null_list : (k : ℕ) (t : TypeTree) {p : Parser TypeTree} → Reads k p t (type_form t) (a_punctuator bang ∷ []) type_heads false →
-    Reads k (p >>= list_end) (non_null_list_type t) (type_form t ⨟ token (Punctuation rbracket) ⨟ token (Punctuation bang)) [] type_heads false
+in_non_null_list : (k : ℕ) (t : TypeTree) {p : Parser TypeTree} → Reads k p t (type_form t) (a_punctuator bang ∷ []) type_first_tokens false →
+    Reads k (p >>= list_end) (non_null_list_type t) (type_form t ⨟ token (Punctuation rbracket) ⨟ token (Punctuation bang)) [] type_first_tokens false
 unfolding list_end maybe_non_null_list
 in_non_null_list k t x = seq _ x (seq _ (mark_reads rbracket) (last _ bang_reads) refl) refl
 
-pub type_reads : (k : ℕ) (t : TypeTree) → Reads k (type_step (type_in k)) t (type_form t) (a_punctuator bang ∷ []) type_heads false
+pub type_reads : (k : ℕ) (t : TypeTree) → Reads k (type_step (type_in k)) t (type_form t) (a_punctuator bang ∷ []) type_first_tokens false
 unfolding type_step type_form maybe_non_null_name maybe_non_null_list
 type_reads k (named_type s) = wider (via (add_empty _) (alt_0 _ _ (seq _ (name_reads [] s) (last _ no_bang_reads) refl) refl)) refl refl (λ z. z)
 type_reads k (non_null_named_type s) = wider (alt_0 _ _ (seq _ (name_reads [] s) (last _ bang_reads) refl) refl) refl refl (λ z. z)
@@ -67,6 +67,6 @@ type_reads (suc k) (non_null_list_type t) = wider (alt_1 _ _ (seq_in _ (mark_rea
 unfoldable pub type_reader : Parser TypeTree
 type_reader = bounded (λ k. type_step (type_in k))
 
-pub type_is_read : {k : ℕ} (t : TypeTree) → Reads k type_reader t (type_form t) (a_punctuator bang ∷ []) type_heads false
+pub type_is_read : {k : ℕ} (t : TypeTree) → Reads k type_reader t (type_form t) (a_punctuator bang ∷ []) type_first_tokens false
 unfolding type_reader
 type_is_read t = bounded_reads _ (λ j le. type_reads j t)

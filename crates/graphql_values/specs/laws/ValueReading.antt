@@ -7,11 +7,11 @@ use Rattle.graphql_text.proofs.Such.{such, such_found}
 use Rattle.graphql_text.proofs.Parsing.{Parser, ◌>>=◌, pure, fail, leaf, alt, Reads, seq, seq_in, last, leaf_reads, alt_0, alt_1, wider, lower, many, many_none, many_more, at_zero, accept, mark_reads, word_reads, parse_name, name_reads, bounded, bounded_reads}
 use Rattle.graphql_values.specs.Values.{Constness, Const, NonConst, ValueTree, ValueTrees, ObjectFieldTrees, null_value, enum_value, variable, string_value, float_value, int_value, boolean_value, list_value, object_value, no_values, more_values, no_fields, more_fields, not_enum_values, value_form, values_form, object_fields_form}
 
-abbrev pub value_heads : List TokenClass
-value_heads = a_punctuator dollar ∷ an_int ∷ a_float ∷ a_string_value ∷ a_name [] ∷ a_punctuator lbracket ∷ a_punctuator lbrace ∷ []
+abbrev pub value_first_tokens : List TokenClass
+value_first_tokens = a_punctuator dollar ∷ an_int ∷ a_float ∷ a_string_value ∷ a_name [] ∷ a_punctuator lbracket ∷ a_punctuator lbrace ∷ []
 
-abbrev pub object_field_heads : List TokenClass
-object_field_heads = a_name [] ∷ []
+abbrev pub object_field_first_tokens : List TokenClass
+object_field_first_tokens = a_name [] ∷ []
 
 unfoldable pub got_int : Token → Option IntText
 got_int (IntValue s) = such s
@@ -55,10 +55,10 @@ value_step c pv pe =
     fail)))))))))
 
 unfoldable pub values_reader : ℕ → Parser ValueTree → Parser ValueTrees
-values_reader k p = many no_values more_values value_heads k p
+values_reader k p = many no_values more_values value_first_tokens k p
 
 unfoldable pub object_fields_reader : ℕ → Parser ValueTree → Parser ObjectFieldTrees
-object_fields_reader k p = many no_fields with_field object_field_heads k (object_field_reader p)
+object_fields_reader k p = many no_fields with_field object_field_first_tokens k (object_field_reader p)
 
 -- the parsers of what stands between the brackets of a value of at most that many tokens
 abbrev pub part_readers : ℕ → Constness → Parser ValueTrees × Parser ObjectFieldTrees
@@ -90,8 +90,8 @@ variable_reads Const s = record {
   opens = λ ts r d. cc (d.0);
 }
 
-object_field_reads : {k : ℕ} {p : Parser ValueTree} (c : Constness) {v : ValueTree} (s : NameText) → Reads k p v (value_form c v) [] value_heads false →
-    Reads k (object_field_reader p) (s, v) (name_except [] s ⨟ token (Punctuation colon) ⨟ value_form c v) [] object_field_heads false
+object_field_reads : {k : ℕ} {p : Parser ValueTree} (c : Constness) {v : ValueTree} (s : NameText) → Reads k p v (value_form c v) [] value_first_tokens false →
+    Reads k (object_field_reader p) (s, v) (name_except [] s ⨟ token (Punctuation colon) ⨟ value_form c v) [] object_field_first_tokens false
 unfolding object_field_reader
 object_field_reads c s x = seq _ (name_reads [] s) (seq _ (mark_reads colon) (last _ x) refl) refl
 
@@ -99,7 +99,7 @@ object_field_reads c s x = seq _ (name_reads [] s) (seq _ (mark_reads colon) (la
 mutual
   unfolding value_step value_form values_reader object_fields_reader object_field_reader with_field
 
-  pub value_reads : (k : ℕ) (c : Constness) (v : ValueTree) → Reads k (value_reader_of k c) v (value_form c v) [] value_heads false
+  pub value_reads : (k : ℕ) (c : Constness) (v : ValueTree) → Reads k (value_reader_of k c) v (value_form c v) [] value_first_tokens false
   value_reads k c (variable s) = wider (alt_0 _ _ (variable_reads c s) refl) refl refl (λ z. z)
   value_reads k c (int_value s) = wider (alt_1 _ _ (alt_0 _ _ (last _ (int_reads s)) refl) refl) refl refl (λ z. z)
   value_reads k c (float_value s) = wider (alt_1 _ _ (alt_1 _ _ (alt_0 _ _ (last _ (float_reads s)) refl) refl) refl) refl refl (λ z. z)
@@ -125,22 +125,22 @@ mutual
       (seq_in _ (mark_reads lbrace) (seq _ (object_fields_read k k (le_refl k) c es) (last _ (mark_reads rbrace)) refl) refl)
       refl) refl) refl) refl) refl) refl) refl) refl) refl) refl) refl refl (λ z. z)
 
-  values_read : (k j : ℕ) → j ≤ k → (c : Constness) (vs : ValueTrees) → Reads j (values_reader j (value_reader_of k c)) vs (values_form c vs) value_heads value_heads true
-  values_read k j le c no_values = wider (many_none _ _ value_heads j _) refl refl (λ z. z)
+  values_read : (k j : ℕ) → j ≤ k → (c : Constness) (vs : ValueTrees) → Reads j (values_reader j (value_reader_of k c)) vs (values_form c vs) value_first_tokens value_first_tokens true
+  values_read k j le c no_values = wider (many_none _ _ value_first_tokens j _) refl refl (λ z. z)
   values_read k zero le c (more_values v vs) = wider (at_zero (lower le (value_reads k c v)) (values_read k zero le c vs)) refl refl (λ z. refl)
   values_read k (suc j) le c (more_values v vs) =
-      wider (many_more _ _ value_heads _ (lower le (value_reads k c v)) (values_read k j (omega (arith, le)) c vs) refl refl) refl refl (λ z. refl)
+      wider (many_more _ _ value_first_tokens _ (lower le (value_reads k c v)) (values_read k j (omega (arith, le)) c vs) refl refl) refl refl (λ z. refl)
 
-  object_fields_read : (k j : ℕ) → j ≤ k → (c : Constness) (es : ObjectFieldTrees) → Reads j (object_fields_reader j (value_reader_of k c)) es (object_fields_form c es) object_field_heads object_field_heads true
-  object_fields_read k j le c no_fields = wider (many_none _ _ object_field_heads j _) refl refl (λ z. z)
+  object_fields_read : (k j : ℕ) → j ≤ k → (c : Constness) (es : ObjectFieldTrees) → Reads j (object_fields_reader j (value_reader_of k c)) es (object_fields_form c es) object_field_first_tokens object_field_first_tokens true
+  object_fields_read k j le c no_fields = wider (many_none _ _ object_field_first_tokens j _) refl refl (λ z. z)
   object_fields_read k zero le c (more_fields s v es) =
       wider (at_zero (object_field_reads c s (lower le (value_reads k c v))) (object_fields_read k zero le c es)) refl refl (λ z. refl)
   object_fields_read k (suc j) le c (more_fields s v es) =
-      wider (many_more _ _ object_field_heads _ (object_field_reads c s (lower le (value_reads k c v))) (object_fields_read k j (omega (arith, le)) c es) refl refl) refl refl (λ z. refl)
+      wider (many_more _ _ object_field_first_tokens _ (object_field_reads c s (lower le (value_reads k c v))) (object_fields_read k j (omega (arith, le)) c es) refl refl) refl refl (λ z. refl)
 
 unfoldable pub value_reader : Constness → Parser ValueTree
 value_reader c = bounded (λ k. value_reader_of k c)
 
-pub value_is_read : {k : ℕ} (c : Constness) (v : ValueTree) → Reads k (value_reader c) v (value_form c v) [] value_heads false
+pub value_is_read : {k : ℕ} (c : Constness) (v : ValueTree) → Reads k (value_reader c) v (value_form c v) [] value_first_tokens false
 unfolding value_reader
 value_is_read c v = bounded_reads _ (λ j le. value_reads j c v)

@@ -1,17 +1,17 @@
-//! What is printed of each kind: what its `Syntax` is, and the tokens that its layouts have.
-ghost use Rattle.std.specs.Prelude.{◌≡◌, ◌↔◌, Bool, IsTrue, List, []};
+//! What is printed of each kind: what its `Syntax` is, and what the tokens of its layouts derive.
+ghost use Rattle.std.specs.Prelude.{◌≡◌, ◌↔◌, ◌++◌, Bool, IsTrue, List};
 ghost use Rattle.graphql_text.specs.Spelling.{tokens_of_items};
 ghost use Rattle.graphql_text.specs.Tokens.{Token};
-ghost use Rattle.graphql_values.specs.Arguments.{ArgumentTree, argument_form, argument_obeys, argument_shape, argument_tokens};
+ghost use Rattle.graphql_values.specs.Arguments.{ArgumentTree, argument_form, argument_obeys, argument_shape};
 ghost use Rattle.graphql_values.specs.DefinitionParts.{directive_definition_parts, input_value_parts};
 ghost use Rattle.graphql_values.specs.DefinitionTrees.{directive_definition_tree, input_value_tree};
-ghost use Rattle.graphql_values.specs.DirectiveDefinitions.{DirectiveDefinitionTree, directive_definition_form, directive_definition_nesting, directive_definition_obeys, directive_definition_shape, directive_definition_tokens};
+ghost use Rattle.graphql_values.specs.DirectiveDefinitions.{DirectiveDefinitionTree, directive_definition_form, directive_definition_nesting, directive_definition_obeys, directive_definition_shape};
 ghost use Rattle.graphql_values.specs.DirectiveTrees.{directive_tree, directive_trees};
-ghost use Rattle.graphql_values.specs.Directives.{DirectiveTree, directive_form, directive_nesting, directive_obeys, directive_shape, directive_tokens, directives_form, directives_nesting, directives_obey, directives_shape, directives_tokens};
-ghost use Rattle.graphql_values.specs.InputValues.{InputValueTree, input_value_form, input_value_nesting, input_value_obeys, input_value_shape, input_value_tokens};
-ghost use Rattle.graphql_values.specs.TypeReferences.{TypeTree, type_form, type_shape, type_tokens};
+ghost use Rattle.graphql_values.specs.Directives.{DirectiveTree, directive_form, directive_nesting, directive_obeys, directive_shape, directives_form, directives_nesting, directives_obey, directives_shape};
+ghost use Rattle.graphql_values.specs.InputValues.{InputValueTree, input_value_form, input_value_nesting, input_value_obeys, input_value_shape};
+ghost use Rattle.graphql_values.specs.TypeReferences.{TypeTree, type_form, type_shape};
 ghost use Rattle.graphql_values.specs.ValueTrees.{value_tree};
-ghost use Rattle.graphql_values.specs.Values.{Constness, NonConst, ValueTree, value_form, value_nesting, value_obeys, value_shape, value_tokens};
+ghost use Rattle.graphql_values.specs.Values.{Constness, NonConst, ValueTree, value_form, value_nesting, value_obeys, value_shape};
 
 use crate::definition::{DirectiveDefinition, InputValueDefinition};
 use crate::directive::{Directive, DirectiveList};
@@ -52,26 +52,19 @@ pub fn syntax_of_each_kind()
     ensures derives_of_directive_definitions { (tree : DirectiveDefinitionTree) (tokens rest : List Token) → ⟦<DirectiveDefinition as Syntax>⟧.derives tree tokens rest ↔ directive_definition_form tree tokens rest }
 {}
 
-/// The tokens that are printed of a part that obeys the side conditions derive it, before whatever follows.
+/// The words and strings of the layout of a part that obeys the side conditions derive it, before whatever follows.
 pub fn printed_tokens_derive_the_tree()
-    ensures values { (c : Constness) (value : ValueTree) → IsTrue (value_obeys c value) → (rest : List Token) → value_form c value (value_tokens value rest) rest }
-    ensures types { (type : TypeTree) (rest : List Token) → type_form type (type_tokens type rest) rest }
-    ensures arguments { (c : Constness) (argument : ArgumentTree) → IsTrue (argument_obeys c argument) → (rest : List Token) → argument_form c argument (argument_tokens argument rest) rest }
-    ensures directives { (c : Constness) (directive : DirectiveTree) → IsTrue (directive_obeys c directive) → (rest : List Token) → directive_form c directive (directive_tokens directive rest) rest }
-    ensures directive_lists { (c : Constness) (directives : List DirectiveTree) → IsTrue (directives_obey c directives) → (rest : List Token) → directives_form c directives (directives_tokens directives rest) rest }
-    ensures input_values { (input : InputValueTree) → IsTrue (input_value_obeys input) → (rest : List Token) → input_value_form input (input_value_tokens input rest) rest }
-    ensures directive_definitions { (definition : DirectiveDefinitionTree) → IsTrue (directive_definition_obeys definition) → (rest : List Token) →
-        directive_definition_form definition (directive_definition_tokens definition rest) rest }
-{}
-
-/// They are the words and strings of its layout, in order: of every layout, and whether it obeys the side conditions or not.
-pub fn layouts_have_the_printed_tokens()
-    ensures values { (broken : Bool) (value : ValueTree) → tokens_of_items (value_shape broken value) ≡ value_tokens value [] }
-    ensures types { (type : TypeTree) → tokens_of_items (type_shape type) ≡ type_tokens type [] }
-    ensures arguments { (argument : ArgumentTree) → tokens_of_items (argument_shape argument) ≡ argument_tokens argument [] }
-    ensures directives { (directive : DirectiveTree) → tokens_of_items (directive_shape directive) ≡ directive_tokens directive [] }
-    ensures directive_lists { (directives : List DirectiveTree) → tokens_of_items (directives_shape directives) ≡ directives_tokens directives [] }
-    ensures input_values { (broken : Bool) (input : InputValueTree) → tokens_of_items (input_value_shape broken input) ≡ input_value_tokens input [] }
-    ensures directive_definitions { (broken : Bool) (definition : DirectiveDefinitionTree) →
-        tokens_of_items (directive_definition_shape broken definition) ≡ directive_definition_tokens definition [] }
+    ensures values { (c : Constness) (broken : Bool) (value : ValueTree) → IsTrue (value_obeys c value) → (rest : List Token) →
+        value_form c value (tokens_of_items (value_shape broken value) ++ rest) rest }
+    ensures types { (type : TypeTree) (rest : List Token) → type_form type (tokens_of_items (type_shape type) ++ rest) rest }
+    ensures arguments { (c : Constness) (argument : ArgumentTree) → IsTrue (argument_obeys c argument) → (rest : List Token) →
+        argument_form c argument (tokens_of_items (argument_shape argument) ++ rest) rest }
+    ensures directives { (c : Constness) (directive : DirectiveTree) → IsTrue (directive_obeys c directive) → (rest : List Token) →
+        directive_form c directive (tokens_of_items (directive_shape directive) ++ rest) rest }
+    ensures directive_lists { (c : Constness) (directives : List DirectiveTree) → IsTrue (directives_obey c directives) → (rest : List Token) →
+        directives_form c directives (tokens_of_items (directives_shape directives) ++ rest) rest }
+    ensures input_values { (broken : Bool) (input : InputValueTree) → IsTrue (input_value_obeys input) → (rest : List Token) →
+        input_value_form input (tokens_of_items (input_value_shape broken input) ++ rest) rest }
+    ensures directive_definitions { (broken : Bool) (definition : DirectiveDefinitionTree) → IsTrue (directive_definition_obeys definition) → (rest : List Token) →
+        directive_definition_form definition (tokens_of_items (directive_definition_shape broken definition) ++ rest) rest }
 {}

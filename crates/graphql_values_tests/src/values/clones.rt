@@ -1,41 +1,10 @@
 //! Clones where memory is ample.
 use crate::checks::check_cloned;
-use crate::samples::{number, numbers};
-use graphql_base::name;
+use crate::samples::{FORMS, value_of};
 use graphql_values::literal::{FloatValue, IntValue};
 use graphql_values::ty;
 use graphql_values::types::Type;
-use graphql_values::value::Value;
 use std::alloc::{AllocError, Global};
-
-// `{a: 1, b: 2}`
-fn object(alloc: Global) -> Result<Value, AllocError> {
-    let fields = vec![in alloc;
-        (name!(a), number(alloc, 1)?),
-        (name!(b), number(alloc, 2)?),
-    ]?;
-    Ok(Value::Object(fields))
-}
-
-fn value(alloc: Global, form: &str) -> Result<Value, AllocError> {
-    match form {
-        "string" => Value::from_text(alloc, "é"),
-        "float" => Ok(Value::Float(FloatValue::new_parsed(alloc, "1.50")?)),
-        "int" => Value::from_i32(alloc, -7),
-        "list" => numbers(alloc),
-        "object" => object(alloc),
-        _ => Ok(plain_value(form)),
-    }
-}
-
-fn plain_value(form: &str) -> Value {
-    match form {
-        "enum" => Value::Enum(name!(A)),
-        "variable" => Value::Variable(name!(v)),
-        "boolean" => Value::from(true),
-        _ => Value::Null,
-    }
-}
 
 fn type_of(alloc: Global, text: &str) -> Result<Type, AllocError> {
     match text {
@@ -48,10 +17,8 @@ fn type_of(alloc: Global, text: &str) -> Result<Type, AllocError> {
 
 #[test]
 fn of_values(rt: HostRuntime) {
-    for form in [
-        "null", "enum", "variable", "string", "float", "int", "boolean", "list", "object",
-    ] {
-        check_cloned(&rt, &value(rt.alloc(), form).expect(&rt, "memory"));
+    for form in FORMS {
+        check_cloned(&rt, &value_of(rt.alloc(), form).expect(&rt, "memory"));
     }
 }
 

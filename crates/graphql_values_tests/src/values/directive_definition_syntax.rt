@@ -1,6 +1,6 @@
 //! Worked prints of directive definitions.
 use crate::checks::check_made;
-use crate::samples::{directive_definition, input_value, push};
+use crate::samples::{directive_definition, input_value, one, push};
 use graphql_base::name;
 use graphql_base::name::Name;
 use graphql_base::node::{Node, NodeStr};
@@ -64,6 +64,31 @@ fn a_directive_sets_arguments_on_lines(rt: HostRuntime) {
         check_made(&rt, print.to_text(alloc), wanted);
     }
     check_made(&rt, format!(in alloc; "{definition}"), OVER_LINES);
+}
+
+// `directive @f(a: [Int] = [1] @x) on FIELD`
+fn of_a_list(alloc: Global) -> Result<DirectiveDefinition, AllocError> {
+    let mut argument = input_value(alloc, name!(a), ty!(in alloc; [Int])?)?;
+    argument.default_value = Some(Node::new(alloc, one(alloc)?)?);
+    push(
+        alloc,
+        &mut argument.directives,
+        Directive::new(alloc, name!(x)),
+    )?;
+    let mut definition = directive_definition(alloc, name!(f));
+    definition.arguments.push(Node::new(alloc, argument)?)?;
+    definition.locations.push(DirectiveLocation::Field)?;
+    Ok(definition)
+}
+
+#[test]
+fn a_default_value_stands_over_lines_too(rt: HostRuntime) {
+    let definition = of_a_list(rt.alloc()).expect(&rt, "memory");
+    check_made(
+        &rt,
+        definition.serialize().to_text(rt.alloc()),
+        "directive @f(\n  a: [Int] = [\n    1,\n  ] @x,\n) on FIELD",
+    );
 }
 
 // With a description, `repeatable` and two locations

@@ -8,30 +8,32 @@ use crate::samples::{directive, directives};
 use graphql_base::name;
 use graphql_base::node::Node;
 use graphql_values::arguments::SpecifiedArgumentError;
-use graphql_values::directive::{Directive, DirectiveList};
+use graphql_values::directive::{Argument, Directive, DirectiveList};
 use graphql_values::value::Value;
 
 #[test]
 fn no_memory_is_asked_for_what_is_not_specified(rt: HostRuntime) {
-    let Ok(before) = directive(rt.alloc()) else {
+    let alloc = rt.alloc();
+    let (Ok(original), Ok(before)) = (directive(alloc), directive(alloc)) else {
         return;
     };
-    let Ok(mut shared) = before.clone() else {
+    let Ok(mut shared) = original.clone() else {
         return;
     };
     assert_eq!(rt;
         shared.specified_argument_by_name_mut("z").err(),
         Some(SpecifiedArgumentError::NotSpecified)
     );
-    assert!(rt; shared == before);
+    assert!(rt; shared == before && original == before);
 }
 
 #[test]
 fn a_value_is_lent_or_the_directive_stays(rt: HostRuntime) {
-    let Ok(before) = directive(rt.alloc()) else {
+    let alloc = rt.alloc();
+    let (Ok(original), Ok(before)) = (directive(alloc), directive(alloc)) else {
         return;
     };
-    let Ok(mut shared) = before.clone() else {
+    let Ok(mut shared) = original.clone() else {
         return;
     };
     let error = match shared.specified_argument_by_name_mut("y") {
@@ -42,7 +44,7 @@ fn a_value_is_lent_or_the_directive_stays(rt: HostRuntime) {
         Err(error) => Some(error),
     };
     assert!(rt; error.is_none() || error == Some(SpecifiedArgumentError::Memory));
-    assert!(rt; shared == before);
+    assert!(rt; shared == before && original == before);
 }
 
 #[test]
@@ -78,6 +80,17 @@ fn a_list_is_collected_or_refused(rt: HostRuntime) {
     };
     if let Ok(collected) = DirectiveList::collect_from(alloc, list.into_iter()) {
         assert!(rt; collected == before);
+    }
+}
+
+#[test]
+fn an_argument_is_made_or_refused(rt: HostRuntime) {
+    let alloc = rt.alloc();
+    let Ok(value) = Node::new(alloc, Value::Null) else {
+        return;
+    };
+    if let Ok(argument) = Argument::new_node(alloc, name!(x), value) {
+        assert!(rt; argument.name.as_str() == "x" && argument.value.is_null());
     }
 }
 

@@ -3,7 +3,7 @@ use Rattle.std.specs.List.{repeat}
 use Rattle.std.proofs.lemmas.List.{map_push, flat_map_more}
 use Rattle.std.proofs.lemmas.Iterator.Splits.{YieldsList-from_str_split}
 use Rattle.std.proofs.lemmas.Iterator.Consumers.{YieldsList-at, YieldsList-end, YieldsList-so_far}
-use Rattle.graphql_text.specs.BlockStringValue.{source_lines}
+use Rattle.graphql_text.specs.BlockStringValue.{lines_of}
 use Rattle.graphql_text.specs.Characters.{quotes}
 use Rattle.graphql_text.specs.BlockForm.{broken_line}
 use Rattle.graphql_text.proofs.Utf8.{break_in_chars}
@@ -14,7 +14,7 @@ use Rattle.graphql_text.proofs.block_string.write_over_lines.Goals as goal
 pub returns-then-is_stopped : goal.returns-then-is_stopped
 returns-then-is_stopped g c =
     let indent : List ℕ = repeat c.args.level c.args.prefix.now in
-    let lines : List (List ℕ) = source_lines c.args.value.now in
+    let lines : List (List ℕ) = lines_of c.args.value.now in
     let n : ℕ = length c.loop-line.yielded in
     let front : map (λ (x : Bor (List ℕ)). x.now) c.loop-line.yielded ≡ take n lines = YieldsList-so_far
     (YieldsList-at c.into_iter-line-iterator.ensures.into_iter_gives
@@ -38,8 +38,8 @@ returns g c =
     (YieldsList-at c.into_iter-line-iterator.ensures.into_iter_gives
     (YieldsList-from_str_split 10 c.args.value.now (lit< tt) c.split-line-items.ensures.text c.split-line-items.ensures.has_more c.split-line-items.ensures.pattern))
     c.loop-line.yielded _ c.loop-line.yielded_by _ _ c.in-None.is c.next.ensures.steps in
-    let e : map (λ (x : Bor (List ℕ)). x.now) c.loop-line.yielded ≡ source_lines c.args.value.now = all.0 in
+    let e : map (λ (x : Bor (List ℕ)). x.now) c.loop-line.yielded ≡ lines_of c.args.value.now = all.0 in
     let indent : List ℕ = repeat c.args.level c.args.prefix.now in
-    let body : List ℕ = flat_map (broken_line indent) (source_lines c.args.value.now) in
+    let body : List ℕ = flat_map (broken_line indent) (lines_of c.args.value.now) in
     rw (← parts_joined quotes body (10 ∷ indent) quotes)
     (g.met.O.Target.more _ _ _ _ _ (g.met.O.Target.more _ _ _ _ _ (rw e at c.loop-line.invariant) (rw (← break_in_chars c.args.level c.args.prefix.now c.utf8.prefix) at c.line_break.ensures)) c.text-2.ensures)

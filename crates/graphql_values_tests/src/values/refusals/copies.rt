@@ -1,6 +1,6 @@
 //! What is made or copied, or refused.
 use crate::checks::{check_cloned_or_refused, check_text};
-use crate::samples::{definition, directives, input, nested};
+use crate::samples::{FORMS, definition, directives, input, nested, value_of};
 use graphql_values::literal::{FloatValue, IntValue};
 use graphql_values::ty;
 
@@ -48,6 +48,15 @@ fn a_definition_is_copied_or_refused(rt: HostRuntime) {
 fn a_value_is_copied_or_refused(rt: HostRuntime) {
     if let Ok(value) = nested(rt.alloc()) {
         check_cloned_or_refused(&rt, &value);
+    }
+}
+
+#[test]
+fn a_value_of_each_form_is_copied_or_refused(rt: HostRuntime) {
+    for form in FORMS {
+        if let Ok(value) = value_of(rt.alloc(), form) {
+            check_cloned_or_refused(&rt, &value);
+        }
     }
 }
 

@@ -2,14 +2,15 @@ use Rattle.std.proofs.Common.{List, [], ◌∷◌, codes, refl, true, inr, None}
 use Rattle.graphql_text.specs.Tokens.{lparen, rparen, colon, at, bar, Punctuation, Name}
 use Rattle.graphql_text.specs.Forms.{token, no_tokens, ◌⨟◌, optional_token, name_except}
 use Rattle.graphql_text.proofs.Sound.{lex_sound}
-use Rattle.graphql_values.specs.Values.{NonConst, boolean_value, value_tokens}
-use Rattle.graphql_values.specs.TypeReferences.{named_type, type_form, type_tokens}
-use Rattle.graphql_values.specs.Directives.{DirectiveTree, directive_form, directives_form, directive_tokens}
-use Rattle.graphql_values.specs.InputValues.{InputValueTree, input_value_form, input_value_tokens}
+use Rattle.graphql_values.specs.Values.{NonConst, boolean_value}
+use Rattle.graphql_values.specs.TypeReferences.{named_type, type_form}
+use Rattle.graphql_values.specs.Directives.{DirectiveTree, directive_form, directives_form}
+use Rattle.graphql_values.specs.InputValues.{InputValueTree, input_value_form}
 use Rattle.graphql_values.specs.DirectiveLocations.{Field, Query}
-use Rattle.graphql_values.specs.DirectiveDefinitions.{directive_definition_form, directive_definition_body_form, directive_definition_tokens}
+use Rattle.graphql_values.specs.DirectiveDefinitions.{directive_definition_form, directive_definition_body_form}
 use Rattle.graphql_values.specs.laws.KindLaws.{value_laws}
 use Rattle.graphql_values.specs.laws.ReadBack.{type_written, directive_written, directives_written, input_value_written, arguments_definition_written, directive_definition_written}
+use Rattle.graphql_values.specs.laws.PrintedTokens.{value_tokens, type_tokens, directive_tokens, input_value_tokens, directive_definition_tokens}
 use Rattle.graphql_values.proofs.Readings.{reads, reads_as}
 use Rattle.graphql_values.proofs.laws.readings.worked_readings.Goals as goal
 

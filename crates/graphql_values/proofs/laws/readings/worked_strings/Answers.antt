@@ -1,5 +1,5 @@
 use Rattle.std.proofs.Common.{codes, refl}
-use Rattle.graphql_values.specs.Values.{value_tokens}
+use Rattle.graphql_values.specs.laws.PrintedTokens.{value_tokens}
 use Rattle.graphql_values.proofs.Readings.{reads}
 use Rattle.graphql_values.proofs.laws.readings.worked_strings.Goals as goal
 

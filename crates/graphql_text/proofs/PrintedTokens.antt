@@ -1,5 +1,5 @@
 -- The tokens of parts as they are printed; and what holds of each part.
-use Rattle.std.specs.Prelude.{List, [], ◌∷◌, Option, Some, None}
+use Rattle.std.proofs.Common.{List, [], ◌∷◌, Option, Some, None}
 use Rattle.graphql_text.specs.Tokens.{Punctuator, Token, Punctuation}
 
 -- what puts the tokens of a part in front of those that follow
@@ -28,11 +28,7 @@ joined_tokens leading separator tail [] rest = rest
 joined_tokens leading separator tail (part ∷ more) rest =
     leading ∷ tail part (list_tokens (λ other after. Punctuation separator ∷ tail other after) more rest)
 
--- of every part, and of one that is there
+-- of every part
 abbrev pub Every : {A : Type 0} → (A → Type 0) → List A → Type 0
 Every Holds [] = Unit {0}
 Every Holds (part ∷ more) = Holds part × Every Holds more
-
-abbrev pub IfThere : {A : Type 0} → (A → Type 0) → Option A → Type 0
-IfThere Holds None = Unit {0}
-IfThere Holds (Some part) = Holds part

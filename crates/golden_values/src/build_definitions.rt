@@ -76,7 +76,7 @@ fn build_default_value(
 }
 
 /// The described definition up to its type.
-fn begin_input_value(
+fn begin_input_value_definition(
     alloc: Global,
     described: &DescribedInputValueDefinition,
 ) -> Result<InputValueDefinition, BuildError> {
@@ -93,7 +93,7 @@ fn begin_input_value(
 }
 
 /// The definition that is described.
-pub fn build_input_value(
+pub fn build_input_value_definition(
     alloc: Global,
     described: &DescribedInputValueDefinition,
 ) -> Result<InputValueDefinition, BuildError> {
@@ -102,17 +102,17 @@ pub fn build_input_value(
     Ok(InputValueDefinition {
         default_value,
         directives,
-        ..begin_input_value(alloc, described)?
+        ..begin_input_value_definition(alloc, described)?
     })
 }
 
-fn build_input_values(
+fn build_input_value_definitions(
     alloc: Global,
     described: &[DescribedInputValueDefinition],
 ) -> Result<Vec<Node<InputValueDefinition>>, BuildError> {
     let mut definitions = Vec::new(alloc);
     for definition in described {
-        let definition = build_input_value(alloc, definition)?;
+        let definition = build_input_value_definition(alloc, definition)?;
         definitions.push(Node::new(alloc, definition)?)?;
     }
     Ok(definitions)
@@ -160,7 +160,7 @@ pub fn build_directive_definition(
 ) -> Result<DirectiveDefinition, BuildError> {
     let description = build_description(alloc, &described.description)?;
     let name = build_name(alloc, &described.name)?;
-    let arguments = build_input_values(alloc, &described.arguments)?;
+    let arguments = build_input_value_definitions(alloc, &described.arguments)?;
     let locations = build_locations(alloc, &described.locations)?;
     Ok(DirectiveDefinition {
         description,

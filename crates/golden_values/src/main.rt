@@ -12,7 +12,7 @@ mod sink;
 
 use crate::build::{BuildError, build_value};
 use crate::build_definitions::{
-    build_directive, build_directive_definition, build_directive_list, build_input_value,
+    build_directive, build_directive_definition, build_directive_list, build_input_value_definition,
 };
 use crate::case::{Case, DescribedTree, read_case};
 use crate::checks::{Check, first_failed};
@@ -37,7 +37,7 @@ fn difference(alloc: Global, case: &Case) -> Result<Option<Check>, BuildError> {
             Ok(first_failed(alloc, case, &directives))
         }
         DescribedTree::InputValueDefinition(described) => {
-            let definition = build_input_value(alloc, described)?;
+            let definition = build_input_value_definition(alloc, described)?;
             Ok(first_failed(alloc, case, &definition))
         }
         DescribedTree::DirectiveDefinition(described) => {

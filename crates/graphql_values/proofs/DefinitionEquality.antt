@@ -10,7 +10,7 @@ use Rattle.graphql_text.proofs.Such.{same_text}
 use Rattle.graphql_values.proofs.DirectiveEquality.{directive_lists_decide, lists_decide, options_decide}
 use Rattle.graphql_values.proofs.Equality.{both, through, names_decide, values_decide}
 use Rattle.graphql_values.proofs.TypeEquality.{types_decide}
-use Rattle.graphql_values.specs.DefinitionTrees.{description_tree, directive_definition_tree, input_value_tree}
+use Rattle.graphql_values.specs.DefinitionTrees.{description_tree, directive_definition_tree, input_value_definition_tree}
 use Rattle.graphql_values.specs.LocationTrees.{location_tree}
 use Rattle.graphql_values.specs.ValueTrees.{value_tree}
 use Rattle.graphql_values.specs.contracts.definition.DirectiveDefinitionPartialEq.TheImpl as definition
@@ -32,8 +32,8 @@ descriptions_decide = options_decide (λ x y. pointwise eqb x.text y.text) descr
 pub locations_decide : (a b : DirectiveLocation) → Decides (location.ghosts.eq a b) (location_tree a ≡ location_tree b)
 locations_decide a b = search rules
 
-pub input_values_decide : (a b : InputValueDefinition) → Decides (input.ghosts.eq a b) (input_value_tree a ≡ input_value_tree b)
-input_values_decide a b =
+pub input_value_definitions_decide : (a b : InputValueDefinition) → Decides (input.ghosts.eq a b) (input_value_definition_tree a ≡ input_value_definition_tree b)
+input_value_definitions_decide a b =
     both _ _ (descriptions_decide a.description b.description) (both _ _ (names_decide a.name b.name) (both _ _ (types_decide a.ty.value b.ty.value) (both _ _
     (options_decide (λ n m. value.ghosts.eq n.value m.value) (λ n. value_tree n.value) (λ n m. values_decide n.value m.value) a.default_value b.default_value)
     (directive_lists_decide a.directives b.directives) (λ e. e) (λ p q. (p, q))) (λ e. e) (λ p q. (p, q))) (λ e. e) (λ p q. (p, q)))
@@ -43,7 +43,7 @@ input_values_decide a b =
 pub directive_definitions_decide : (a b : DirectiveDefinition) → Decides (definition.ghosts.eq a b) (directive_definition_tree a ≡ directive_definition_tree b)
 directive_definitions_decide a b =
     both _ _ (descriptions_decide a.description b.description) (both _ _ (names_decide a.name b.name) (both _ _
-    (lists_decide (λ n m. input.ghosts.eq n.value m.value) (λ n. input_value_tree n.value) (λ n m. input_values_decide n.value m.value) a.arguments.items b.arguments.items)
+    (lists_decide (λ n m. input.ghosts.eq n.value m.value) (λ n. input_value_definition_tree n.value) (λ n m. input_value_definitions_decide n.value m.value) a.arguments.items b.arguments.items)
     (both _ _ (booleans_Decides a.repeatable b.repeatable) (lists_decide location.ghosts.eq location_tree locations_decide a.locations.items b.locations.items)
     (λ e. e) (λ p q. (p, q))) (λ e. e) (λ p q. (p, q))) (λ e. e) (λ p q. (p, q)))
     (λ e. (ap (λ t. t.description) e, (ap (λ t. t.name) e, (ap (λ t. t.arguments) e, (ap (λ t. t.repeatable) e, ap (λ t. t.locations) e)))))

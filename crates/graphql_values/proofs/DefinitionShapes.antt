@@ -11,12 +11,12 @@ use Rattle.graphql_text.specs.Writing.{fixed_text}
 use Rattle.graphql_text.proofs.GroupLaws.{AllBalanced, comma_balanced, comma_group_opened}
 use Rattle.graphql_text.proofs.LevelLaws.{lowers_append, raises_append}
 use Rattle.graphql_values.specs.DefaultValues.{default_value_shape}
-use Rattle.graphql_values.specs.DefinitionTrees.{input_value_tree, input_value_trees}
+use Rattle.graphql_values.specs.DefinitionTrees.{input_value_definition_tree, input_value_definition_trees}
 use Rattle.graphql_values.specs.Descriptions.{description_shape}
 use Rattle.graphql_values.specs.Directives.{directives_shape}
 use Rattle.graphql_values.specs.DirectiveDefinitions.{directive_locations_shape}
 use Rattle.graphql_values.specs.DirectiveLocations.{DirectiveLocationTree, location_name, Query, Mutation, Subscription, Field, FragmentDefinition, FragmentSpread, InlineFragment, VariableDefinition, Schema, Scalar, Object, FieldDefinition, ArgumentDefinition, Interface, Union, Enum, EnumValue, InputObject, InputFieldDefinition}
-use Rattle.graphql_values.specs.InputValues.{InputValueTree, arguments_definition_nesting, arguments_definition_shape, has_description_or_directives, input_value_shape}
+use Rattle.graphql_values.specs.InputValueDefinitions.{InputValueDefinitionTree, arguments_definition_nesting, arguments_definition_shape, has_description_or_directives, input_value_definition_shape}
 use Rattle.graphql_values.specs.TypeReferences.{type_shape}
 use Rattle.graphql_values.specs.Values.{ValueTree}
 use Rattle.graphql_values.specs.declared.definition.InputValueDefinition.{InputValueDefinition}
@@ -36,9 +36,9 @@ unfolding raises lowers
 default_value_balanced broken None = refl
 default_value_balanced broken (Some value) = omega (arith, value_balanced broken value)
 
-input_value_balanced : (broken : Bool) (input : InputValueTree) → raises (input_value_shape broken input) ≡ lowers (input_value_shape broken input)
-unfolding input_value_shape raises lowers
-input_value_balanced broken input =
+input_value_definition_balanced : (broken : Bool) (input : InputValueDefinitionTree) → raises (input_value_definition_shape broken input) ≡ lowers (input_value_definition_shape broken input)
+unfolding input_value_definition_shape raises lowers
+input_value_definition_balanced broken input =
     let description = description_shape input.description in
     let value = default_value_shape broken input.default_value in
     let directives = directives_shape input.directives in
@@ -57,29 +57,29 @@ input_value_balanced broken input =
       lowers_append description (Word (Name input.name.text) ∷ Word (Punctuation colon) ∷ Space ∷ (type ++ (value ++ directives))),
     )
 
-inputs_balanced : (broken : Bool) (inputs : List InputValueTree) → AllBalanced (map (input_value_shape broken) inputs)
+inputs_balanced : (broken : Bool) (inputs : List InputValueDefinitionTree) → AllBalanced (map (input_value_definition_shape broken) inputs)
 inputs_balanced broken [] = tt
-inputs_balanced broken (input ∷ more) = (input_value_balanced broken input, inputs_balanced broken more)
+inputs_balanced broken (input ∷ more) = (input_value_definition_balanced broken input, inputs_balanced broken more)
 
-pub argument_group_balanced : (broken : Bool) (inputs : List InputValueTree) →
-    raises (comma_group lparen rparen broken (map (input_value_shape broken) inputs)) ≡ lowers (comma_group lparen rparen broken (map (input_value_shape broken) inputs))
-argument_group_balanced broken inputs = comma_balanced lparen rparen broken (map (input_value_shape broken) inputs) (inputs_balanced broken inputs)
+pub argument_group_balanced : (broken : Bool) (inputs : List InputValueDefinitionTree) →
+    raises (comma_group lparen rparen broken (map (input_value_definition_shape broken) inputs)) ≡ lowers (comma_group lparen rparen broken (map (input_value_definition_shape broken) inputs))
+argument_group_balanced broken inputs = comma_balanced lparen rparen broken (map (input_value_definition_shape broken) inputs) (inputs_balanced broken inputs)
 
 -- ARGUMENTS DEFINITIONS
 
-pub arguments_nest : (inputs : List (Node InputValueDefinition)) → 0 < length inputs → 1 ≤ arguments_definition_nesting (input_value_trees inputs)
+pub arguments_nest : (inputs : List (Node InputValueDefinition)) → 0 < length inputs → 1 ≤ arguments_definition_nesting (input_value_definition_trees inputs)
 arguments_nest [] some = absurd (omega (arith, some))
 arguments_nest (input ∷ more) some = omega arith
 
 pub argument_group_opened : (broken : Bool) (inputs : List (Node InputValueDefinition)) → 0 < length inputs →
-    comma_group lparen rparen broken (map (input_value_shape broken) (input_value_trees inputs))
-    ≡ (Word (Punctuation lparen) ∷ []) ++ (Raise ∷ comma_rest rparen broken true (map (input_value_shape broken) (input_value_trees inputs)))
+    comma_group lparen rparen broken (map (input_value_definition_shape broken) (input_value_definition_trees inputs))
+    ≡ (Word (Punctuation lparen) ∷ []) ++ (Raise ∷ comma_rest rparen broken true (map (input_value_definition_shape broken) (input_value_definition_trees inputs)))
 argument_group_opened broken [] some = absurd (omega (arith, some))
 argument_group_opened broken (input ∷ more) some =
-    comma_group_opened rparen broken lparen (input_value_shape broken (input_value_tree (node_value input))) (map (input_value_shape broken) (input_value_trees more))
+    comma_group_opened rparen broken lparen (input_value_definition_shape broken (input_value_definition_tree (node_value input))) (map (input_value_definition_shape broken) (input_value_definition_trees more))
 
-pub shape_on_one_line : (broken : Bool) (inputs : List (Node InputValueDefinition)) → length inputs ≢ 0 → list_any has_description_or_directives (input_value_trees inputs) ≡ false →
-    arguments_definition_shape broken (input_value_trees inputs) ≡ flat (comma_group lparen rparen false (map (input_value_shape false) (input_value_trees inputs)))
+pub shape_on_one_line : (broken : Bool) (inputs : List (Node InputValueDefinition)) → length inputs ≢ 0 → list_any has_description_or_directives (input_value_definition_trees inputs) ≡ false →
+    arguments_definition_shape broken (input_value_definition_trees inputs) ≡ flat (comma_group lparen rparen false (map (input_value_definition_shape false) (input_value_definition_trees inputs)))
 shape_on_one_line broken [] some is = absurd (some refl)
 shape_on_one_line broken (input ∷ more) some is = rw is refl
 

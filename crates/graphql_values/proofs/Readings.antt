@@ -15,7 +15,7 @@ use Rattle.graphql_values.specs.laws.PrintedTokens.{value_tokens}
 use Rattle.graphql_values.specs.laws.ValueReading.{value_reader, value_step, values_reader, object_fields_reader, object_field_reader, variable_reader, unless_const, got_int, value_is_read}
 use Rattle.graphql_values.specs.laws.DirectiveReading.{argument_reader, arguments_reader, directive_reader}
 use Rattle.graphql_values.specs.laws.TypeReading.{type_reader, type_step, bang_reader, maybe_non_null_name}
-use Rattle.graphql_values.specs.laws.DefinitionReading.{description_reader, default_value_reader, input_value_reader, arguments_definition_reader, repeatable_reader, location_of, all_locations, got_location, location_reader, directive_locations_reader, directive_definition_body_reader, directive_definition_reader}
+use Rattle.graphql_values.specs.laws.DefinitionReading.{description_reader, default_value_reader, input_value_definition_reader, arguments_definition_reader, repeatable_reader, location_of, all_locations, got_location, location_reader, directive_locations_reader, directive_definition_body_reader, directive_definition_reader}
 use Rattle.graphql_values.specs.laws.ReadBack.{value_written}
 
 -- a text that lexes to tokens of a tree
@@ -60,8 +60,8 @@ pub constant_variable_found : value_reader Const (Punctuation dollar ∷ Name (c
 unfolding value_reader value_step variable_reader unless_const parsing.bounded parsing.alt parsing.fail
 constant_variable_found = refl
 
-pub default_variable_found : input_value_reader (Name (codes "a") ∷ Punctuation colon ∷ Name (codes "Int") ∷ Punctuation equals ∷ Punctuation dollar ∷ Name (codes "x") ∷ []) ≡ None
-unfolding input_value_reader description_reader type_reader type_step bang_reader maybe_non_null_name default_value_reader value_reader value_step variable_reader unless_const parsing.bounded parsing.alt parsing.◌>>=◌ parsing.accept parsing.leaf parsing.accepted parsing.parse_name parsing.named parsing.parse_maybe parsing.pure parsing.fail tested.such
+pub default_variable_found : input_value_definition_reader (Name (codes "a") ∷ Punctuation colon ∷ Name (codes "Int") ∷ Punctuation equals ∷ Punctuation dollar ∷ Name (codes "x") ∷ []) ≡ None
+unfolding input_value_definition_reader description_reader type_reader type_step bang_reader maybe_non_null_name default_value_reader value_reader value_step variable_reader unless_const parsing.bounded parsing.alt parsing.◌>>=◌ parsing.accept parsing.leaf parsing.accepted parsing.parse_name parsing.named parsing.parse_maybe parsing.pure parsing.fail tested.such
 default_variable_found = refl
 
 pub no_location_found : directive_definition_reader (Name (codes "directive") ∷ Punctuation at ∷ Name (codes "d") ∷ []) ≡ None

@@ -6,7 +6,7 @@ use Rattle.graphql_base.specs.Name.{name_text}
 use Rattle.graphql_base.specs.Node.{node_value}
 use Rattle.graphql_values.specs.ArgumentLoans.{argument_value}
 use Rattle.graphql_values.specs.Named.{first_argument_named}
-use Rattle.graphql_values.specs.NamedDefinitions.{definition_under, first_input_value_named}
+use Rattle.graphql_values.specs.NamedDefinitions.{definition_under, first_input_value_definition_named}
 use Rattle.graphql_values.specs.TypeTrees.{type_tree}
 use Rattle.graphql_values.specs.Wrappings.{is_non_null}
 use Rattle.graphql_values.specs.declared.arguments.ArgumentByNameError.{ArgumentByNameError}
@@ -29,15 +29,15 @@ argument_answer (Ok answer.ImplicitNull) = Ok None
 argument_answer (Err error) = Err error
 
 -- what the definition of the argument says: its default value, or else null where the type admits it
-abbrev answer_of_input_value : Node InputValueDefinition → ArgumentAnswer
-answer_of_input_value input =
+abbrev answer_of_input_value_definition : Node InputValueDefinition → ArgumentAnswer
+answer_of_input_value_definition input =
     let without_default = if is_non_null (type_tree (node_value (node_value input).ty)) then Err RequiredArgumentNotSpecified else Ok None in
     unwrap_or (option_map (λ value. Ok (Some value)) (node_value input).default_value) without_default
 
 -- what the definition of the directive says
 abbrev answer_of_definition : List ℕ → Node DirectiveDefinition → ArgumentAnswer
 answer_of_definition text definition =
-    unwrap_or (option_map answer_of_input_value (first_input_value_named text (node_value definition).arguments.items)) (Err NoSuchArgument)
+    unwrap_or (option_map answer_of_input_value_definition (first_input_value_definition_named text (node_value definition).arguments.items)) (Err NoSuchArgument)
 
 -- The answer for the argument of that name. The first specified argument decides, whatever the definitions say.
 abbrev pub argument_by_name : Directive → List ℕ → List (Name × Node DirectiveDefinition) → ArgumentAnswer

@@ -4,7 +4,7 @@ use Rattle.std.specs.Borrow.{LendsSo, MutBor, Fml}
 use Rattle.graphql_base.specs.contracts.node.Node.{the_row as node_row}
 use Rattle.graphql_base.specs.declared.node.Node.{Node}
 use Rattle.graphql_values.specs.FirstChanged.{first_changed}
-use Rattle.graphql_values.specs.NamedDefinitions.{is_input_value_named}
+use Rattle.graphql_values.specs.NamedDefinitions.{is_input_value_definition_named}
 use Rattle.graphql_values.specs.contracts.definition.DirectiveDefinition.{the_row as definition_row}
 use Rattle.graphql_values.specs.contracts.definition.InputValueDefinition.{the_row as input_value_row}
 use Rattle.graphql_values.specs.declared.definition.DirectiveDefinition.{DirectiveDefinition}
@@ -19,5 +19,5 @@ IsWithArguments old items end =
 abbrev pub LendsArgument : MutBor DirectiveDefinition → List ℕ → Option (MutBor (Node InputValueDefinition)) → Fml
 LendsArgument definition text loan =
     LendsSo definition_row (node_row input_value_row) definition loan
-    (λ end node. IsSome loan → IsWithArguments definition.now (first_changed (is_input_value_named text) (λ _. node) definition.now.arguments.items) end)
+    (λ end node. IsSome loan → IsWithArguments definition.now (first_changed (is_input_value_definition_named text) (λ _. node) definition.now.arguments.items) end)
     (λ end. IfNone loan (end ≡ definition.now))

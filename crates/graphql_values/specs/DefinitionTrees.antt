@@ -8,7 +8,7 @@ use Rattle.graphql_base.specs.Node.{node_str_text, node_value}
 use Rattle.graphql_text.specs.Literals.{StringText}
 use Rattle.graphql_values.specs.DirectiveDefinitions.{DirectiveDefinitionTree}
 use Rattle.graphql_values.specs.DirectiveTrees.{directive_trees}
-use Rattle.graphql_values.specs.InputValues.{InputValueTree}
+use Rattle.graphql_values.specs.InputValueDefinitions.{InputValueDefinitionTree}
 use Rattle.graphql_values.specs.Literals.{name_tree}
 use Rattle.graphql_values.specs.LocationTrees.{location_tree}
 use Rattle.graphql_values.specs.TypeTrees.{type_tree}
@@ -23,8 +23,8 @@ description_tree description =
     record { text = chars bytes; valid = scalars-chars bytes (IsUtf8-had bytes description.valid) }
 
 -- The tree of a definition: all of it but the locations in a source text.
-abbrev pub input_value_tree : InputValueDefinition → InputValueTree
-input_value_tree input = record {
+abbrev pub input_value_definition_tree : InputValueDefinition → InputValueDefinitionTree
+input_value_definition_tree input = record {
   description = option_map description_tree input.description;
   name = name_tree input.name;
   type = type_tree (node_value input.ty);
@@ -32,14 +32,14 @@ input_value_tree input = record {
   directives = directive_trees input.directives;
 }
 
-abbrev pub input_value_trees : List (Node InputValueDefinition) → List InputValueTree
-input_value_trees = map (λ node. input_value_tree (node_value node))
+abbrev pub input_value_definition_trees : List (Node InputValueDefinition) → List InputValueDefinitionTree
+input_value_definition_trees = map (λ node. input_value_definition_tree (node_value node))
 
 abbrev pub directive_definition_tree : DirectiveDefinition → DirectiveDefinitionTree
 directive_definition_tree definition = record {
   description = option_map description_tree definition.description;
   name = name_tree definition.name;
-  arguments = input_value_trees definition.arguments.items;
+  arguments = input_value_definition_trees definition.arguments.items;
   repeatable = definition.repeatable;
   locations = map location_tree definition.locations.items;
 }

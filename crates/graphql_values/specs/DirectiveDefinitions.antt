@@ -6,14 +6,14 @@ use Rattle.graphql_text.specs.Forms.{Form, token, no_tokens, never, ◌⨟◌, k
 use Rattle.graphql_text.specs.Layout.{Item, Word, Space}
 use Rattle.graphql_values.specs.Descriptions.{description_form, description_shape}
 use Rattle.graphql_values.specs.DirectiveLocations.{DirectiveLocationTree, location_name, location_form}
-use Rattle.graphql_values.specs.InputValues.{InputValueTree, arguments_definition_form, arguments_definition_shape, arguments_definition_nesting, arguments_definition_obeys}
+use Rattle.graphql_values.specs.InputValueDefinitions.{InputValueDefinitionTree, arguments_definition_form, arguments_definition_shape, arguments_definition_nesting, arguments_definition_obeys}
 use Rattle.graphql_values.specs.JoinedNames.{joined_names_shape}
 
 -- A directive definition without locations in a source text.
 pub record DirectiveDefinitionTree : Type 0 where
   pub description : Option StringText
   pub name : NameText
-  pub arguments : List InputValueTree
+  pub arguments : List InputValueDefinitionTree
   pub repeatable : Bool
   pub locations : List DirectiveLocationTree
 

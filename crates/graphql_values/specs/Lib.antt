@@ -20,13 +20,13 @@ pub mod DirectiveLocations
 pub mod LocationTrees
 pub mod Descriptions
 pub mod DefaultValues
-pub mod InputValues
+pub mod InputValueDefinitions
 pub mod JoinedNames
 pub mod DirectiveDefinitions
 pub mod DefinitionTrees
 pub mod DefinitionParts
 pub mod NamedDefinitions
-pub mod InputValueQueries
+pub mod InputValueDefinitionQueries
 pub mod DefinitionLoans
 pub mod ArgumentValues
 pub mod ValueWalk

@@ -11,12 +11,12 @@ use Rattle.graphql_values.specs.Named.{is_named}
 use Rattle.graphql_values.specs.declared.definition.DirectiveDefinition.{DirectiveDefinition}
 use Rattle.graphql_values.specs.declared.definition.InputValueDefinition.{InputValueDefinition}
 
-abbrev pub is_input_value_named : List ℕ → Node InputValueDefinition → Bool
-is_input_value_named text input = is_named text (node_value input).name
+abbrev pub is_input_value_definition_named : List ℕ → Node InputValueDefinition → Bool
+is_input_value_definition_named text input = is_named text (node_value input).name
 
 -- the first input value of that name
-abbrev pub first_input_value_named : List ℕ → List (Node InputValueDefinition) → Option (Node InputValueDefinition)
-first_input_value_named text = find (is_input_value_named text)
+abbrev pub first_input_value_definition_named : List ℕ → List (Node InputValueDefinition) → Option (Node InputValueDefinition)
+first_input_value_definition_named text = find (is_input_value_definition_named text)
 
 -- the definition that the entries of a map have under that name: the key decides, not the definition's own name
 abbrev pub definition_under : List ℕ → List (Name × Node DirectiveDefinition) → Option (Node DirectiveDefinition)

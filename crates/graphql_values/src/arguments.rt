@@ -56,7 +56,7 @@ impl From<AllocError> for SpecifiedArgumentError {
     }
 }
 
-// The value of an argument, of which this node has a copy of its own then.
+/// The value of an argument, of which this node has a copy of its own then.
 fn value_mut(argument: &mut Node<Argument>) -> Result<&mut Node<Value>, SpecifiedArgumentError>
     ensures* writes_back { sem 𝓛 (LendsArgumentValue argument.entry result) }
     ensures value { IfOk result (λ value. value.now ≡ argument_value argument.old) }
@@ -123,7 +123,7 @@ impl Directive {
         }
     }
 
-    // The value of the argument at that place, counted from 0.
+    /// The value of the argument at that place, counted from 0.
     fn value_at(&mut self, place: usize) -> Result<&mut Node<Value>, SpecifiedArgumentError>
         requires { place < length self.old.arguments.items }
         ensures* writes_back { sem 𝓛 (LendsValueAt self.entry place result) }

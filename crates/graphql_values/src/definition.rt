@@ -3,8 +3,8 @@ ghost use Rattle.std.specs.Prelude.{◌≡◌, ◌<◌, IfSome, None, Some, leng
 ghost use Rattle.std.specs.Borrow.{sem};
 ghost use Rattle.std.specs.Option.{option_copied_mut};
 ghost use Rattle.graphql_values.specs.DefinitionLoans.{LendsArgument};
-ghost use Rattle.graphql_values.specs.InputValueQueries.{is_required};
-ghost use Rattle.graphql_values.specs.NamedDefinitions.{first_input_value_named, is_input_value_named};
+ghost use Rattle.graphql_values.specs.InputValueDefinitionQueries.{is_required};
+ghost use Rattle.graphql_values.specs.NamedDefinitions.{first_input_value_definition_named, is_input_value_definition_named};
 
 use crate::directive::DirectiveList;
 use crate::location::DirectiveLocation;
@@ -57,14 +57,14 @@ impl InputValueDefinition {
 impl DirectiveDefinition {
     /// The first argument of that name.
     pub fn argument_by_name(&self, name: &str) -> Option<&Node<InputValueDefinition>>
-        ensures { option_copied result ≡ first_input_value_named name.now self.now.arguments.items }
+        ensures { option_copied result ≡ first_input_value_definition_named name.now self.now.arguments.items }
     {
         let place = self.argument_position(name)?;
         Some(&self.arguments[place])
     }
 
     fn argument_position(&self, name: &str) -> Option<usize>
-        ensures place { result ≡ position (is_input_value_named name.now) self.now.arguments.items }
+        ensures place { result ≡ position (is_input_value_definition_named name.now) self.now.arguments.items }
         ensures within { IfSome result (λ place. place < length self.now.arguments.items) }
     {
         self.arguments
@@ -76,7 +76,7 @@ impl DirectiveDefinition {
     /// changes.
     pub fn argument_by_name_mut(&mut self, name: &str) -> Option<&mut Node<InputValueDefinition>>
         ensures* writes_back { sem 𝓛 (LendsArgument self.entry name.now result) }
-        ensures value { option_copied_mut result ≡ first_input_value_named name.now self.old.arguments.items }
+        ensures value { option_copied_mut result ≡ first_input_value_definition_named name.now self.old.arguments.items }
     {
         match self.argument_position(name) {
             Some(place) => Some(&mut self.arguments[place]),

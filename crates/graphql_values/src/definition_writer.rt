@@ -11,10 +11,10 @@ ghost use Rattle.graphql_text.specs.Tokens.{lparen, rparen};
 ghost use Rattle.graphql_text.specs.Writing.{WritesItems};
 ghost use Rattle.graphql_values.specs.DefaultValues.{default_value_nesting, default_value_shape};
 ghost use Rattle.graphql_values.specs.DefinitionParts.{arguments_list_depth};
-ghost use Rattle.graphql_values.specs.DefinitionTrees.{description_tree, directive_definition_tree, input_value_tree, input_value_trees};
+ghost use Rattle.graphql_values.specs.DefinitionTrees.{description_tree, directive_definition_tree, input_value_definition_tree, input_value_definition_trees};
 ghost use Rattle.graphql_values.specs.Descriptions.{description_shape};
 ghost use Rattle.graphql_values.specs.DirectiveDefinitions.{directive_definition_nesting, directive_definition_shape, directive_locations_shape, repeatable_shape};
-ghost use Rattle.graphql_values.specs.InputValues.{arguments_definition_nesting, arguments_definition_shape, has_description_or_directives, input_value_nesting, input_value_shape};
+ghost use Rattle.graphql_values.specs.InputValueDefinitions.{arguments_definition_nesting, arguments_definition_shape, has_description_or_directives, input_value_definition_nesting, input_value_definition_shape};
 ghost use Rattle.graphql_values.specs.LocationTrees.{location_tree};
 ghost use Rattle.graphql_values.specs.ValueTrees.{value_tree};
 ghost use Rattle.graphql_values.specs.Wrappings.{list_depth};
@@ -65,8 +65,8 @@ impl<'a> DefinitionStacks<'a> {
 }
 
 /// How deep the groups of an input value definition stand in one another. `None` if it is above `usize::MAX`.
-pub fn find_input_value_nesting(input: &InputValueDefinition) -> Option<usize>
-    ensures { MatchOption result (2 ^ 64 ≤ input_value_nesting (input_value_tree input.now)) (λ n. n ≡ input_value_nesting (input_value_tree input.now)) }
+pub fn find_input_value_definition_nesting(input: &InputValueDefinition) -> Option<usize>
+    ensures { MatchOption result (2 ^ 64 ≤ input_value_definition_nesting (input_value_definition_tree input.now)) (λ n. n ≡ input_value_definition_nesting (input_value_definition_tree input.now)) }
 {
     let directives = find_directives_nesting(&input.directives.0)?;
     match &input.default_value {
@@ -78,18 +78,18 @@ pub fn find_input_value_nesting(input: &InputValueDefinition) -> Option<usize>
 /// How deep the groups of an arguments definition stand in one another: one more than the argument that nests most, and 0 without
 /// arguments. `None` if it is above `usize::MAX`.
 pub fn find_arguments_definition_nesting(arguments: &[Node<InputValueDefinition>]) -> Option<usize>
-    ensures { MatchOption result (2 ^ 64 ≤ arguments_definition_nesting (input_value_trees arguments.now)) (λ n. n ≡ arguments_definition_nesting (input_value_trees arguments.now)) }
+    ensures { MatchOption result (2 ^ 64 ≤ arguments_definition_nesting (input_value_definition_trees arguments.now)) (λ n. n ≡ arguments_definition_nesting (input_value_definition_trees arguments.now)) }
 {
     let mut most = 0;
     for argument in arguments {
-        most = most.max(find_input_value_nesting(argument)?.checked_add(1)?);
+        most = most.max(find_input_value_definition_nesting(argument)?.checked_add(1)?);
     }
     Some(most)
 }
 
 /// How many lists stand around the name in the type of an argument that has most. `None` if it is above `usize::MAX`.
 pub fn find_arguments_list_depth(arguments: &[Node<InputValueDefinition>]) -> Option<usize>
-    ensures { MatchOption result (2 ^ 64 ≤ arguments_list_depth (input_value_trees arguments.now)) (λ n. n ≡ arguments_list_depth (input_value_trees arguments.now)) }
+    ensures { MatchOption result (2 ^ 64 ≤ arguments_list_depth (input_value_definition_trees arguments.now)) (λ n. n ≡ arguments_list_depth (input_value_definition_trees arguments.now)) }
 {
     let mut most = 0;
     for argument in arguments {
@@ -126,42 +126,42 @@ pub fn write_default_value<'a, O: Target>(
 {
     if let Some(value) = default_value {
         write_words(out, " = ");
-        write_value(value, out, place, stack);
+        write_value(out, place, stack, value);
     }
 }
 
 /// Writes an input value definition.
-pub fn write_input_value<'a, O: Target>(
+pub fn write_input_value_definition<'a, O: Target>(
     out: &mut O,
     place: &Place<'_>,
     stacks: &mut DefinitionStacks<'a>,
     input: &'a InputValueDefinition,
 )
-    requires fits { Fits place.now.level (input_value_nesting (input_value_tree input.now)) }
-    requires values { IsReady stacks.old.values (input_value_nesting (input_value_tree input.now)) }
-    requires types { IsReady stacks.old.types (list_depth (input_value_tree input.now).type) }
+    requires fits { Fits place.now.level (input_value_definition_nesting (input_value_definition_tree input.now)) }
+    requires values { IsReady stacks.old.values (input_value_definition_nesting (input_value_definition_tree input.now)) }
+    requires types { IsReady stacks.old.types (list_depth (input_value_definition_tree input.now).type) }
     ensures values { IsKept stacks.old.values stacks.new.values }
     ensures types { IsKept stacks.old.types stacks.new.types }
-    ensures written { WritesItems O.wrote out.old out.new (mode_of place.now.prefix) place.now.level (input_value_shape (is_broken (mode_of place.now.prefix)) (input_value_tree input.now)) }
+    ensures written { WritesItems O.wrote out.old out.new (mode_of place.now.prefix) place.now.level (input_value_definition_shape (is_broken (mode_of place.now.prefix)) (input_value_definition_tree input.now)) }
 {
     write_leading_description(out, place, input.description.as_ref());
     write_name(out, &input.name);
     write_words(out, ": ");
-    write_type(&input.ty, out, &mut stacks.types);
+    write_type(out, &mut stacks.types, &input.ty);
     write_default_value(out, place, &mut stacks.values, input.default_value.as_ref());
     write_directives(out, place, &mut stacks.values, &input.directives.0);
 }
 
 /// Whether an argument has a description or a directive.
 fn has_description_or_directives(input: &InputValueDefinition) -> bool
-    ensures { result ≡ has_description_or_directives (input_value_tree input.now) }
+    ensures { result ≡ has_description_or_directives (input_value_definition_tree input.now) }
 {
     input.description.is_some() || !input.directives.0.is_empty()
 }
 
 /// Whether one of the arguments has a description or a directive: then they stand on lines of their own under a prefix.
 fn want_lines(arguments: &[Node<InputValueDefinition>]) -> bool
-    ensures { result ≡ list_any has_description_or_directives (input_value_trees arguments.now) }
+    ensures { result ≡ list_any has_description_or_directives (input_value_definition_trees arguments.now) }
 {
     for argument in arguments {
         if has_description_or_directives(argument) {
@@ -179,13 +179,13 @@ fn write_argument_group<'a, O: Target>(
     arguments: &'a [Node<InputValueDefinition>],
 )
     requires some { 0 < length arguments.now }
-    requires fits { Fits place.now.level (arguments_definition_nesting (input_value_trees arguments.now)) }
-    requires values { IsReady stacks.old.values (arguments_definition_nesting (input_value_trees arguments.now)) }
-    requires types { IsReady stacks.old.types (arguments_list_depth (input_value_trees arguments.now)) }
+    requires fits { Fits place.now.level (arguments_definition_nesting (input_value_definition_trees arguments.now)) }
+    requires values { IsReady stacks.old.values (arguments_definition_nesting (input_value_definition_trees arguments.now)) }
+    requires types { IsReady stacks.old.types (arguments_list_depth (input_value_definition_trees arguments.now)) }
     ensures values { IsKept stacks.old.values stacks.new.values }
     ensures types { IsKept stacks.old.types stacks.new.types }
     ensures written { WritesItems O.wrote out.old out.new (mode_of place.now.prefix) place.now.level
-        (comma_group lparen rparen (is_broken (mode_of place.now.prefix)) (map (input_value_shape (is_broken (mode_of place.now.prefix))) (input_value_trees arguments.now))) }
+        (comma_group lparen rparen (is_broken (mode_of place.now.prefix)) (map (input_value_definition_shape (is_broken (mode_of place.now.prefix))) (input_value_definition_trees arguments.now))) }
 {
     let inner = place.inner();
     let lead = ready_comma_lead(&inner);
@@ -196,7 +196,7 @@ fn write_argument_group<'a, O: Target>(
             return;
         }
         write_comma_lead(out, &inner, lead, is_first);
-        write_input_value(out, &inner, stacks, argument);
+        write_input_value_definition(out, &inner, stacks, argument);
         is_first = false;
     }
     write_last_comma(out, &inner);
@@ -212,12 +212,12 @@ pub fn write_arguments_definition<'a, O: Target>(
     stacks: &mut DefinitionStacks<'a>,
     arguments: &'a [Node<InputValueDefinition>],
 )
-    requires fits { Fits place.now.level (arguments_definition_nesting (input_value_trees arguments.now)) }
-    requires values { IsReady stacks.old.values (arguments_definition_nesting (input_value_trees arguments.now)) }
-    requires types { IsReady stacks.old.types (arguments_list_depth (input_value_trees arguments.now)) }
+    requires fits { Fits place.now.level (arguments_definition_nesting (input_value_definition_trees arguments.now)) }
+    requires values { IsReady stacks.old.values (arguments_definition_nesting (input_value_definition_trees arguments.now)) }
+    requires types { IsReady stacks.old.types (arguments_list_depth (input_value_definition_trees arguments.now)) }
     ensures values { IsKept stacks.old.values stacks.new.values }
     ensures types { IsKept stacks.old.types stacks.new.types }
-    ensures written { WritesItems O.wrote out.old out.new (mode_of place.now.prefix) place.now.level (arguments_definition_shape (is_broken (mode_of place.now.prefix)) (input_value_trees arguments.now)) }
+    ensures written { WritesItems O.wrote out.old out.new (mode_of place.now.prefix) place.now.level (arguments_definition_shape (is_broken (mode_of place.now.prefix)) (input_value_definition_trees arguments.now)) }
 {
     if arguments.is_empty() {
         return;

@@ -12,7 +12,7 @@ use crate::definition_writer::{
     DefinitionStacks, find_arguments_definition_nesting, find_arguments_list_depth,
     write_directive_definition,
 };
-use crate::well_formed::are_input_values_well_formed;
+use crate::well_formed::are_input_value_definitions_well_formed;
 use graphql_text::engine::{Serialize, Syntax};
 use graphql_text::place::Place;
 use graphql_text::target::Target;
@@ -34,7 +34,7 @@ impl DirectiveDefinition {
     pub fn is_well_formed(&self) -> bool
         ensures { result ≡ directive_definition_obeys (directive_definition_tree self.now) }
     {
-        !self.locations.is_empty() && are_input_values_well_formed(&self.arguments)
+        !self.locations.is_empty() && are_input_value_definitions_well_formed(&self.arguments)
     }
 }
 

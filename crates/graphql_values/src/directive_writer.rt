@@ -55,7 +55,7 @@ fn write_argument<'a, O: Target>(
 {
     write_name(out, &argument.name);
     write_words(out, ": ");
-    write_value(&argument.value, out, place, stack);
+    write_value(out, place, stack, &argument.value);
 }
 
 /// Writes the arguments of a field or a directive, which stand on one line in every layout; nothing where there are none. The

@@ -8,11 +8,11 @@ ghost use Rattle.graphql_text.specs.Printing.{ReadsAlone};
 ghost use Rattle.graphql_text.specs.Reading.{Laws};
 ghost use Rattle.graphql_text.specs.Tokens.{at, bang, bar, equals, lparen};
 ghost use Rattle.graphql_values.specs.Arguments.{ArgumentTree, argument_form, argument_obeys, argument_shape};
-ghost use Rattle.graphql_values.specs.DefinitionTrees.{directive_definition_tree, input_value_tree};
+ghost use Rattle.graphql_values.specs.DefinitionTrees.{directive_definition_tree, input_value_definition_tree};
 ghost use Rattle.graphql_values.specs.DirectiveDefinitions.{DirectiveDefinitionTree, directive_definition_form, directive_definition_nesting, directive_definition_obeys, directive_definition_shape};
 ghost use Rattle.graphql_values.specs.DirectiveTrees.{directive_tree, directive_trees};
 ghost use Rattle.graphql_values.specs.Directives.{DirectiveTree, directive_form, directive_nesting, directive_obeys, directive_shape, directives_form, directives_nesting, directives_obey, directives_shape};
-ghost use Rattle.graphql_values.specs.InputValues.{InputValueTree, arguments_definition_form, input_value_form, input_value_nesting, input_value_obeys, input_value_shape};
+ghost use Rattle.graphql_values.specs.InputValueDefinitions.{InputValueDefinitionTree, arguments_definition_form, input_value_definition_form, input_value_definition_nesting, input_value_definition_obeys, input_value_definition_shape};
 ghost use Rattle.graphql_values.specs.TypeReferences.{TypeTree, type_form, type_shape};
 ghost use Rattle.graphql_values.specs.TypeTrees.{type_tree};
 ghost use Rattle.graphql_values.specs.ValueTrees.{value_tree};
@@ -49,7 +49,7 @@ pub fn trees_are_read_back()
     ensures arguments { Laws {Tree = ArgumentTree} (λ broken front. argument_shape) (λ argument. value_nesting argument.value) (λ argument. IsTrue (argument_obeys NonConst argument)) (argument_form NonConst) }
     ensures directives { Laws {Tree = DirectiveTree} (λ broken front. directive_shape) directive_nesting (λ directive. IsTrue (directive_obeys NonConst directive)) (directive_form NonConst) }
     ensures directive_lists { Laws {Tree = List DirectiveTree} (λ broken front. directives_shape) directives_nesting (λ directives. IsTrue (directives_obey NonConst directives)) (directives_form NonConst) }
-    ensures input_values { Laws {Tree = InputValueTree} (λ broken front. input_value_shape broken) input_value_nesting (λ input. IsTrue (input_value_obeys input)) input_value_form }
+    ensures input_value_definitions { Laws {Tree = InputValueDefinitionTree} (λ broken front. input_value_definition_shape broken) input_value_definition_nesting (λ input. IsTrue (input_value_definition_obeys input)) input_value_definition_form }
     ensures directive_definitions { Laws {Tree = DirectiveDefinitionTree} (λ broken front. directive_definition_shape broken) directive_definition_nesting (λ definition. IsTrue (directive_definition_obeys definition)) directive_definition_form }
 {}
 
@@ -69,8 +69,8 @@ pub fn displayed_trees_are_read(
         MatchOption (⟦<Directive as Display>⟧.output directive.now) ⊥ (λ bytes. ReadsAlone (directive_form NonConst) bytes (directive_tree directive.now)) }
     ensures directive_lists { IsTrue (directives_obey NonConst (directive_trees list.now)) →
         MatchOption (⟦<DirectiveList as Display>⟧.output list.now) ⊥ (λ bytes. ReadsAlone (directives_form NonConst) bytes (directive_trees list.now)) }
-    ensures input_values { IsTrue (input_value_obeys (input_value_tree input.now)) →
-        MatchOption (⟦<InputValueDefinition as Display>⟧.output input.now) ⊥ (λ bytes. ReadsAlone input_value_form bytes (input_value_tree input.now)) }
+    ensures input_value_definitions { IsTrue (input_value_definition_obeys (input_value_definition_tree input.now)) →
+        MatchOption (⟦<InputValueDefinition as Display>⟧.output input.now) ⊥ (λ bytes. ReadsAlone input_value_definition_form bytes (input_value_definition_tree input.now)) }
     ensures directive_definitions { IsTrue (directive_definition_obeys (directive_definition_tree definition.now)) →
         MatchOption (⟦<DirectiveDefinition as Display>⟧.output definition.now) ⊥ (λ bytes. ReadsAlone directive_definition_form bytes (directive_definition_tree definition.now)) }
 {}
@@ -84,7 +84,7 @@ pub fn parts_are_read_in_one_way()
     ensures directives { (c : Constness) → IsReadOneWay (directive_form c) (a_punctuator lparen ∷ []) }
     ensures directive_lists { (c : Constness) → IsReadOneWay (directives_form c) (a_punctuator at ∷ a_punctuator lparen ∷ []) }
     ensures types { IsReadOneWay type_form (a_punctuator bang ∷ []) }
-    ensures input_values { IsReadOneWay input_value_form (a_punctuator bang ∷ a_punctuator equals ∷ a_punctuator at ∷ a_punctuator lparen ∷ []) }
+    ensures input_value_definitions { IsReadOneWay input_value_definition_form (a_punctuator bang ∷ a_punctuator equals ∷ a_punctuator at ∷ a_punctuator lparen ∷ []) }
     ensures arguments_definitions { IsReadOneWay arguments_definition_form (a_punctuator lparen ∷ []) }
     ensures directive_definitions { IsReadOneWay directive_definition_form (a_punctuator bar ∷ []) }
 {}

@@ -17,7 +17,7 @@ pub mod directive_list;
 mod directive_list_syntax;
 mod directive_syntax;
 mod directive_writer;
-mod input_value_syntax;
+mod input_value_definition_syntax;
 pub mod laws;
 pub mod literal;
 pub mod location;

@@ -51,7 +51,7 @@ pub fn type_allocator(ty: &Type) -> Option<Global>
 }
 
 /// Writes the end of a list.
-fn write_end<O: Target>(end: TypePart, out: &mut O)
+fn write_end<O: Target>(out: &mut O, end: TypePart)
     ensures { (mode : Option (List ℕ)) (level : ℕ) → WritesItems O.wrote out.old out.new mode level (end_items end) }
 {
     match end {
@@ -70,12 +70,12 @@ fn write_ends<O: Target>(out: &mut O, stack: &mut Stack<TypePart>)
             stack.clear();
             return;
         }
-        write_end(end, out);
+        write_end(out, end);
     }
 }
 
 /// Writes a type. The stack is empty before and after, and has room for the ends of its lists.
-pub fn write_type<O: Target>(ty: &Type, out: &mut O, stack: &mut Stack<TypePart>)
+pub fn write_type<O: Target>(out: &mut O, stack: &mut Stack<TypePart>, ty: &Type)
     requires { IsReady stack.old (list_depth (type_tree ty.now)) }
     ensures kept { IsKept stack.old stack.new }
     ensures written { (mode : Option (List ℕ)) (level : ℕ) → WritesItems O.wrote out.old out.new mode level (type_shape (type_tree ty.now)) }
@@ -112,12 +112,12 @@ pub fn write_type<O: Target>(ty: &Type, out: &mut O, stack: &mut Stack<TypePart>
 }
 
 /// Writes a type by itself. Memory for the ends of its lists is asked for before the first byte.
-pub(crate) fn write_type_alone<O: Target>(ty: &Type, out: &mut O) -> Result<(), AllocError>
+pub(crate) fn write_type_alone<O: Target>(out: &mut O, ty: &Type) -> Result<(), AllocError>
     ensures ok { OnOk result (O.wrote out.old (encode_utf8_all (layout_of (λ broken is_front. type_shape) None 0 (type_tree ty.now))) out.new) }
     ensures err { OnErr result (out.new ≡ out.old) }
 {
     let depth = find_list_depth(ty).ok_or(AllocError)?;
     let mut stack = Stack::reserve(type_allocator(ty), depth)?;
-    write_type(ty, out, &mut stack);
+    write_type(out, &mut stack, ty);
     Ok(())
 }

@@ -157,7 +157,7 @@ impl fmt::Display for Type {
             formatter: f,
             failed: false,
         };
-        if write_type_alone(self, &mut out).is_err() {
+        if write_type_alone(&mut out, self).is_err() {
             return Err(fmt::Error);
         }
         if out.failed { Err(fmt::Error) } else { Ok(()) }

@@ -85,7 +85,7 @@ impl Syntax for Value {
     ) -> Result<(), AllocError> {
         let mut stack: Stack<ValuePart<'_>> = Stack::reserve(self.allocator(), depth)?;
         write_first_indent(out, place);
-        write_value(self, out, place, &mut stack);
+        write_value(out, place, &mut stack, self);
         Ok(())
     }
 }

@@ -345,10 +345,10 @@ fn write_part<'a, O: Target>(
 
 /// Writes a value. The stack is empty before and after, and has room for the parts of the value that wait.
 pub fn write_value<'a, O: Target>(
-    value: &'a Value,
     out: &mut O,
     place: &Place<'_>,
     stack: &mut Stack<ValuePart<'a>>,
+    value: &'a Value,
 )
     requires fits { Fits place.now.level (value_nesting (value_tree value.now)) }
     requires ready { IsReady stack.old (value_nesting (value_tree value.now)) }

@@ -2,9 +2,9 @@
 ghost use Rattle.std.specs.Prelude.{◌≡◌};
 ghost use Rattle.graphql_values.specs.Arguments.{arguments_obey};
 ghost use Rattle.graphql_values.specs.Directives.{directives_obey};
-ghost use Rattle.graphql_values.specs.DefinitionTrees.{input_value_tree, input_value_trees};
+ghost use Rattle.graphql_values.specs.DefinitionTrees.{input_value_definition_tree, input_value_definition_trees};
 ghost use Rattle.graphql_values.specs.DirectiveTrees.{argument_trees, directive_node_trees};
-ghost use Rattle.graphql_values.specs.InputValues.{arguments_definition_obeys, input_value_obeys};
+ghost use Rattle.graphql_values.specs.InputValueDefinitions.{arguments_definition_obeys, input_value_definition_obeys};
 ghost use Rattle.graphql_values.specs.ValueTrees.{constness_of, object_field_trees, value_tree, value_trees};
 ghost use Rattle.graphql_values.specs.Values.{admits_variables, is_enum_name, object_fields_obey, value_obeys, values_obey};
 
@@ -104,8 +104,8 @@ pub fn are_directives_well_formed(directives: &[Node<Directive>], constness: Con
 }
 
 /// Whether the default value and the directives are well formed, each at a constant place.
-pub fn is_input_value_well_formed(input: &InputValueDefinition) -> bool
-    ensures { result ≡ input_value_obeys (input_value_tree input.now) }
+pub fn is_input_value_definition_well_formed(input: &InputValueDefinition) -> bool
+    ensures { result ≡ input_value_definition_obeys (input_value_definition_tree input.now) }
 {
     if let Some(value) = &input.default_value
         && !is_well_formed_at(value, Constness::Const)
@@ -116,11 +116,11 @@ pub fn is_input_value_well_formed(input: &InputValueDefinition) -> bool
 }
 
 /// Whether each input value definition is well formed.
-pub fn are_input_values_well_formed(inputs: &[Node<InputValueDefinition>]) -> bool
-    ensures { result ≡ arguments_definition_obeys (input_value_trees inputs.now) }
+pub fn are_input_value_definitions_well_formed(inputs: &[Node<InputValueDefinition>]) -> bool
+    ensures { result ≡ arguments_definition_obeys (input_value_definition_trees inputs.now) }
 {
     for input in inputs {
-        if !is_input_value_well_formed(input) {
+        if !is_input_value_definition_well_formed(input) {
             return false;
         }
     }

@@ -44,7 +44,7 @@ pub(crate) fn check_text_or_refused<T: Syntax>(
     }
 }
 
-// The print on one line into a writer that asks for no memory, and what the writer took.
+/// The print on one line into a writer that asks for no memory, and what the writer took.
 fn printed<T: Syntax>(rt: &impl Abort, tree: &T) -> (Result<(), PrintError>, Cursor<[u8; 48]>) {
     let mut sink = StreamSink::new(Cursor::new([0; 48]));
     let result = Serialize::new(tree).no_indent().print_to(&mut sink);
@@ -94,7 +94,7 @@ impl fmt::Write for Page {
     }
 }
 
-// All of it is displayed, or nothing where memory is refused.
+/// All of it is displayed, or nothing where memory is refused.
 pub(crate) fn check_displayed_or_refused<T: Display>(rt: &impl Abort, tree: &T, wanted: &str) {
     let mut page = Page::new();
     let result = write!(page, "{tree}");

@@ -51,7 +51,7 @@ fn plain_value(form: &str) -> Value {
     }
 }
 
-// `{a: 1, b: 2}`
+/// `{a: 1, b: 2}`
 fn object(alloc: Global) -> Result<Value, AllocError> {
     let fields = vec![in alloc;
         (name!(a), number(alloc, 1)?),
@@ -94,7 +94,7 @@ pub(crate) fn push(
 }
 
 /// An input value with a name and a type alone.
-pub(crate) fn input_value(
+pub(crate) fn input_value_definition(
     alloc: Global,
     name: Name,
     ty: Type,
@@ -149,7 +149,7 @@ pub(crate) fn nested(alloc: Global) -> Result<Value, AllocError> {
 
 /// `a: [[I!]] = [[], 1.5]`
 pub(crate) fn input(alloc: Global) -> Result<InputValueDefinition, AllocError> {
-    let mut input = input_value(alloc, name!(a), ty!(in alloc; [[I!]])?)?;
+    let mut input = input_value_definition(alloc, name!(a), ty!(in alloc; [[I!]])?)?;
     input.default_value = Some(Node::new(alloc, nested(alloc)?)?);
     Ok(input)
 }

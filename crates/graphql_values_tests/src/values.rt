@@ -8,7 +8,7 @@ mod directive_list;
 mod directive_syntax;
 mod displays;
 mod growths;
-mod input_value_syntax;
+mod input_value_definition_syntax;
 mod literal;
 mod location;
 mod operation_type;

@@ -9,7 +9,7 @@ use Rattle.graphql_text.proofs.Parsing.{Parser, ◌>>=◌, pure, leaf, alt, Read
 use Rattle.graphql_values.specs.Values.{Const, ValueTree}
 use Rattle.graphql_values.specs.Descriptions.{description_form}
 use Rattle.graphql_values.specs.DefaultValues.{default_value_form}
-use Rattle.graphql_values.specs.InputValues.{InputValueTree, input_value_form, arguments_definition_form}
+use Rattle.graphql_values.specs.InputValueDefinitions.{InputValueDefinitionTree, input_value_definition_form, arguments_definition_form}
 use Rattle.graphql_values.specs.DirectiveLocations.{DirectiveLocationTree, location_name, location_form, Query, Mutation, Subscription, Field, FragmentDefinition, FragmentSpread, InlineFragment, VariableDefinition, Schema, Scalar, Object, FieldDefinition, ArgumentDefinition, Interface, Union, Enum, EnumValue, InputObject, InputFieldDefinition}
 use Rattle.graphql_values.specs.DirectiveDefinitions.{DirectiveDefinitionTree, repeatable_form, directive_locations_form, directive_definition_body_form, directive_definition_form}
 use Rattle.graphql_values.specs.laws.ValueReading.{value_reader, value_is_read, got_text, text_reads}
@@ -32,29 +32,29 @@ pub default_value_is_read : {k : ℕ} (d : Option ValueTree) → Reads k default
 unfolding default_value_reader
 default_value_is_read = maybe_reads _ (a_punctuator equals ∷ []) (λ v. seq _ (mark_reads equals) (value_is_read Const v) refl) refl refl
 
-abbrev pub excluded_after_input_value : List TokenClass
-excluded_after_input_value = a_punctuator bang ∷ a_punctuator equals ∷ excluded_after_directives
+abbrev pub excluded_after_input_value_definition : List TokenClass
+excluded_after_input_value_definition = a_punctuator bang ∷ a_punctuator equals ∷ excluded_after_directives
 
-abbrev pub input_value_first_tokens : List TokenClass
-input_value_first_tokens = a_string_value ∷ a_name [] ∷ []
+abbrev pub input_value_definition_first_tokens : List TokenClass
+input_value_definition_first_tokens = a_string_value ∷ a_name [] ∷ []
 
-unfoldable pub input_value_reader : Parser InputValueTree
-input_value_reader =
+unfoldable pub input_value_definition_reader : Parser InputValueDefinitionTree
+input_value_definition_reader =
     description_reader >>= λ d. parse_name [] >>= λ s. accept (a_punctuator colon) >>= λ t. type_reader >>= λ y. default_value_reader >>= λ v. directives_reader Const >>= λ ds.
     pure (record { description = d; name = s; type = y; default_value = v; directives = ds })
 
-pub input_value_is_read : {k : ℕ} (v : InputValueTree) → Reads k input_value_reader v (input_value_form v) excluded_after_input_value input_value_first_tokens false
-unfolding input_value_reader input_value_form
-input_value_is_read v =
+pub input_value_definition_is_read : {k : ℕ} (v : InputValueDefinitionTree) → Reads k input_value_definition_reader v (input_value_definition_form v) excluded_after_input_value_definition input_value_definition_first_tokens false
+unfolding input_value_definition_reader input_value_definition_form
+input_value_definition_is_read v =
     seq _ (description_is_read v.description) (seq _ (name_reads [] v.name) (seq _ (mark_reads colon) (seq _ (type_is_read v.type)
-    (seq _ (default_value_is_read v.default_value) (last _ (before excluded_after_input_value (directives_are_read Const v.directives) refl)) refl) refl) refl) refl) refl
+    (seq _ (default_value_is_read v.default_value) (last _ (before excluded_after_input_value_definition (directives_are_read Const v.directives) refl)) refl) refl) refl) refl) refl
 
-unfoldable pub arguments_definition_reader : Parser (List InputValueTree)
-arguments_definition_reader = parse_group lparen input_value_first_tokens input_value_reader rparen
+unfoldable pub arguments_definition_reader : Parser (List InputValueDefinitionTree)
+arguments_definition_reader = parse_group lparen input_value_definition_first_tokens input_value_definition_reader rparen
 
-pub arguments_definition_is_read : {k : ℕ} (vs : List InputValueTree) → Reads k arguments_definition_reader vs (arguments_definition_form vs) (a_punctuator lparen ∷ []) (a_punctuator lparen ∷ []) true
+pub arguments_definition_is_read : {k : ℕ} (vs : List InputValueDefinitionTree) → Reads k arguments_definition_reader vs (arguments_definition_form vs) (a_punctuator lparen ∷ []) (a_punctuator lparen ∷ []) true
 unfolding arguments_definition_reader
-arguments_definition_is_read = group_reads input_value_form (a_string_value ∷ a_name [] ∷ excluded_after_input_value) lparen rparen input_value_is_read refl refl refl refl
+arguments_definition_is_read = group_reads input_value_definition_form (a_string_value ∷ a_name [] ∷ excluded_after_input_value_definition) lparen rparen input_value_definition_is_read refl refl refl refl
 
 -- DIRECTIVE DEFINITIONS
 

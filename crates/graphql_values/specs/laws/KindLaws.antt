@@ -9,15 +9,15 @@ use Rattle.graphql_values.specs.Values.{ValueTree, NonConst, value_form, value_s
 use Rattle.graphql_values.specs.TypeReferences.{TypeTree, type_form, type_shape}
 use Rattle.graphql_values.specs.Arguments.{ArgumentTree, argument_form, argument_shape, argument_obeys}
 use Rattle.graphql_values.specs.Directives.{DirectiveTree, directive_form, directives_form, directive_shape, directives_shape, directive_nesting, directives_nesting, directive_obeys, directives_obey}
-use Rattle.graphql_values.specs.InputValues.{InputValueTree, input_value_form, input_value_shape, input_value_nesting, input_value_obeys}
+use Rattle.graphql_values.specs.InputValueDefinitions.{InputValueDefinitionTree, input_value_definition_form, input_value_definition_shape, input_value_definition_nesting, input_value_definition_obeys}
 use Rattle.graphql_values.specs.DirectiveDefinitions.{DirectiveDefinitionTree, directive_definition_form, directive_definition_shape, directive_definition_nesting, directive_definition_obeys}
 use Rattle.graphql_values.specs.laws.ValueReading.{value_is_read}
 use Rattle.graphql_values.specs.laws.DirectiveReading.{argument_is_read, directive_is_read, directives_are_read}
 use Rattle.graphql_values.specs.laws.TypeReading.{type_is_read}
-use Rattle.graphql_values.specs.laws.DefinitionReading.{input_value_is_read, directive_definition_is_read}
-use Rattle.graphql_values.specs.laws.ReadBack.{type_written, value_written, argument_written, directive_written, directives_written, input_value_written, directive_definition_written, value_obeyed, argument_obeyed, directive_obeyed, directives_obeyed, input_value_obeyed, directive_definition_obeyed}
-use Rattle.graphql_values.specs.laws.Told.{told_reference, told_value, told_argument, told_directive, told_directives, told_input_value, told_directive_definition}
-use Rattle.graphql_values.specs.laws.PrintedTokens.{value_tokens, type_tokens, argument_tokens, directive_tokens, directives_tokens, input_value_tokens, directive_definition_tokens}
+use Rattle.graphql_values.specs.laws.DefinitionReading.{input_value_definition_is_read, directive_definition_is_read}
+use Rattle.graphql_values.specs.laws.ReadBack.{type_written, value_written, argument_written, directive_written, directives_written, input_value_definition_written, directive_definition_written, value_obeyed, argument_obeyed, directive_obeyed, directives_obeyed, input_value_definition_obeyed, directive_definition_obeyed}
+use Rattle.graphql_values.specs.laws.Told.{told_reference, told_value, told_argument, told_directive, told_directives, told_input_value_definition, told_directive_definition}
+use Rattle.graphql_values.specs.laws.PrintedTokens.{value_tokens, type_tokens, argument_tokens, directive_tokens, directives_tokens, input_value_definition_tokens, directive_definition_tokens}
 
 value_facts : Facts {Tree = ValueTree} (λ broken front. value_shape broken) value_nesting (λ value. IsTrue (value_obeys NonConst value)) (value_form NonConst) (λ front. value_tokens)
 value_facts = record {
@@ -79,17 +79,17 @@ type_facts = record {
 pub type_laws : Laws {Tree = TypeTree} (λ broken front. type_shape) (λ type. 0) (λ type. Unit {0}) type_form
 type_laws = laws type_facts
 
-input_value_facts : Facts {Tree = InputValueTree} (λ broken front. input_value_shape broken) input_value_nesting (λ input. IsTrue (input_value_obeys input)) input_value_form (λ front. input_value_tokens)
-input_value_facts = record {
-  spelt = λ broken front v. let told = told_input_value broken v in told.spelt;
-  bracketed = λ broken front v. let told = told_input_value broken v in whole told.bracketed;
-  written = λ front v o. input_value_written v o [];
-  once = λ v w ts x y. (one_reading (input_value_is_read v) (input_value_is_read w) x y refl refl).0;
-  obeyed = λ v ts x. input_value_obeyed v ts [] x;
+input_value_definition_facts : Facts {Tree = InputValueDefinitionTree} (λ broken front. input_value_definition_shape broken) input_value_definition_nesting (λ input. IsTrue (input_value_definition_obeys input)) input_value_definition_form (λ front. input_value_definition_tokens)
+input_value_definition_facts = record {
+  spelt = λ broken front v. let told = told_input_value_definition broken v in told.spelt;
+  bracketed = λ broken front v. let told = told_input_value_definition broken v in whole told.bracketed;
+  written = λ front v o. input_value_definition_written v o [];
+  once = λ v w ts x y. (one_reading (input_value_definition_is_read v) (input_value_definition_is_read w) x y refl refl).0;
+  obeyed = λ v ts x. input_value_definition_obeyed v ts [] x;
 }
 
-pub input_value_laws : Laws {Tree = InputValueTree} (λ broken front. input_value_shape broken) input_value_nesting (λ input. IsTrue (input_value_obeys input)) input_value_form
-input_value_laws = laws input_value_facts
+pub input_value_definition_laws : Laws {Tree = InputValueDefinitionTree} (λ broken front. input_value_definition_shape broken) input_value_definition_nesting (λ input. IsTrue (input_value_definition_obeys input)) input_value_definition_form
+input_value_definition_laws = laws input_value_definition_facts
 
 directive_definition_facts : Facts {Tree = DirectiveDefinitionTree} (λ broken front. directive_definition_shape broken) directive_definition_nesting (λ definition. IsTrue (directive_definition_obeys definition)) directive_definition_form (λ front. directive_definition_tokens)
 directive_definition_facts = record {

@@ -7,13 +7,13 @@ use Rattle.graphql_values.specs.Values.{Constness, value_form}
 use Rattle.graphql_values.specs.Arguments.{argument_form}
 use Rattle.graphql_values.specs.Directives.{directive_form, directives_form}
 use Rattle.graphql_values.specs.TypeReferences.{type_form}
-use Rattle.graphql_values.specs.InputValues.{input_value_form, arguments_definition_form}
+use Rattle.graphql_values.specs.InputValueDefinitions.{input_value_definition_form, arguments_definition_form}
 use Rattle.graphql_values.specs.DirectiveDefinitions.{directive_definition_form}
 use Rattle.graphql_text.specs.OneReading.{IsReadOneWay}
 use Rattle.graphql_values.specs.laws.ValueReading.{value_is_read}
 use Rattle.graphql_values.specs.laws.DirectiveReading.{argument_is_read, directive_is_read, directives_are_read}
 use Rattle.graphql_values.specs.laws.TypeReading.{type_is_read}
-use Rattle.graphql_values.specs.laws.DefinitionReading.{input_value_is_read, arguments_definition_is_read, directive_definition_is_read}
+use Rattle.graphql_values.specs.laws.DefinitionReading.{input_value_definition_is_read, arguments_definition_is_read, directive_definition_is_read}
 
 pub values_one_way : (c : Constness) → IsReadOneWay (value_form c) []
 values_one_way c a b tokens r s d e stop stop' = one_reading (value_is_read c a) (value_is_read c b) d e stop stop'
@@ -30,8 +30,8 @@ directive_lists_one_way c a b tokens r s d e stop stop' = one_reading (directive
 pub types_one_way : IsReadOneWay type_form (a_punctuator bang ∷ [])
 types_one_way a b tokens r s d e stop stop' = one_reading (type_is_read a) (type_is_read b) d e stop stop'
 
-pub input_values_one_way : IsReadOneWay input_value_form (a_punctuator bang ∷ a_punctuator equals ∷ a_punctuator at ∷ a_punctuator lparen ∷ [])
-input_values_one_way a b tokens r s d e stop stop' = one_reading (input_value_is_read a) (input_value_is_read b) d e stop stop'
+pub input_value_definitions_one_way : IsReadOneWay input_value_definition_form (a_punctuator bang ∷ a_punctuator equals ∷ a_punctuator at ∷ a_punctuator lparen ∷ [])
+input_value_definitions_one_way a b tokens r s d e stop stop' = one_reading (input_value_definition_is_read a) (input_value_definition_is_read b) d e stop stop'
 
 pub arguments_definitions_one_way : IsReadOneWay arguments_definition_form (a_punctuator lparen ∷ [])
 arguments_definitions_one_way a b tokens r s d e stop stop' = one_reading (arguments_definition_is_read a) (arguments_definition_is_read b) d e stop stop'

@@ -7,7 +7,7 @@ use Rattle.graphql_values.specs.Values.{ValueTree, ValueTrees, ObjectFieldTrees,
 use Rattle.graphql_values.specs.TypeReferences.{TypeTree, named_type, non_null_named_type, list_type, non_null_list_type}
 use Rattle.graphql_values.specs.Arguments.{ArgumentTree}
 use Rattle.graphql_values.specs.Directives.{DirectiveTree}
-use Rattle.graphql_values.specs.InputValues.{InputValueTree}
+use Rattle.graphql_values.specs.InputValueDefinitions.{InputValueDefinitionTree}
 use Rattle.graphql_values.specs.DirectiveLocations.{DirectiveLocationTree, location_name}
 use Rattle.graphql_values.specs.DirectiveDefinitions.{DirectiveDefinitionTree}
 
@@ -56,13 +56,13 @@ description_tokens = optional_tokens (λ string rest. StringValue string.text �
 abbrev pub default_value_tokens : Option ValueTree → Tail
 default_value_tokens = optional_tokens (λ value rest. Punctuation equals ∷ value_tokens value rest)
 
-unfoldable pub input_value_tokens : InputValueTree → Tail
-input_value_tokens input rest =
+unfoldable pub input_value_definition_tokens : InputValueDefinitionTree → Tail
+input_value_definition_tokens input rest =
     description_tokens input.description (Name input.name.text ∷ Punctuation colon ∷ type_tokens input.type
     (default_value_tokens input.default_value (directives_tokens input.directives rest)))
 
-abbrev pub arguments_definition_tokens : List InputValueTree → Tail
-arguments_definition_tokens = group_tokens lparen input_value_tokens rparen
+abbrev pub arguments_definition_tokens : List InputValueDefinitionTree → Tail
+arguments_definition_tokens = group_tokens lparen input_value_definition_tokens rparen
 
 abbrev pub repeatable_tokens : Bool → Tail
 repeatable_tokens true rest = Name (codes "repeatable") ∷ rest

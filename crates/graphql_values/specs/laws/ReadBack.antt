@@ -13,10 +13,10 @@ use Rattle.graphql_values.specs.Arguments.{ArgumentTree, argument_form, argument
 use Rattle.graphql_values.specs.Directives.{DirectiveTree, directive_form, directives_form, directive_obeys, directives_obey}
 use Rattle.graphql_values.specs.Descriptions.{description_form}
 use Rattle.graphql_values.specs.DefaultValues.{default_value_form, default_value_obeys}
-use Rattle.graphql_values.specs.InputValues.{InputValueTree, input_value_form, input_value_obeys, arguments_definition_form, arguments_definition_obeys}
+use Rattle.graphql_values.specs.InputValueDefinitions.{InputValueDefinitionTree, input_value_definition_form, input_value_definition_obeys, arguments_definition_form, arguments_definition_obeys}
 use Rattle.graphql_values.specs.DirectiveLocations.{DirectiveLocationTree, location_name, location_form}
 use Rattle.graphql_values.specs.DirectiveDefinitions.{DirectiveDefinitionTree, repeatable_form, directive_locations_form, directive_definition_body_form, directive_definition_form, directive_definition_obeys}
-use Rattle.graphql_values.specs.laws.PrintedTokens.{value_tokens, values_tokens, object_fields_tokens, type_tokens, argument_tokens, arguments_tokens, directive_tokens, directives_tokens, description_tokens, default_value_tokens, input_value_tokens, arguments_definition_tokens, repeatable_tokens, directive_locations_tokens, directive_definition_tokens}
+use Rattle.graphql_values.specs.laws.PrintedTokens.{value_tokens, values_tokens, object_fields_tokens, type_tokens, argument_tokens, arguments_tokens, directive_tokens, directives_tokens, description_tokens, default_value_tokens, input_value_definition_tokens, arguments_definition_tokens, repeatable_tokens, directive_locations_tokens, directive_definition_tokens}
 
 -- BOTH CONDITIONS, AND THOSE OF EACH PART
 
@@ -106,15 +106,15 @@ unfolding token no_tokens ◌⨟◌
 default_value_written None o r = refl
 default_value_written (Some v) o r = (_, refl, value_written Const v o r)
 
-pub input_value_written : (v : InputValueTree) → IsTrue (input_value_obeys v) → (r : List Token) → input_value_form v (input_value_tokens v r) r
-unfolding input_value_form input_value_tokens token name_except ◌⨟◌
-input_value_written v o r =
+pub input_value_definition_written : (v : InputValueDefinitionTree) → IsTrue (input_value_definition_obeys v) → (r : List Token) → input_value_definition_form v (input_value_definition_tokens v r) r
+unfolding input_value_definition_form input_value_definition_tokens token name_except ◌⨟◌
+input_value_definition_written v o r =
     let default_obeys = first_holds (default_value_obeys v.default_value) (directives_obey Const v.directives) o in
     let directives_obeyed = second_holds (default_value_obeys v.default_value) (directives_obey Const v.directives) o in
     (_, description_written v.description _, (_, (refl, refl), (_, refl, (_, type_written v.type _, (_, default_value_written v.default_value default_obeys _, directives_written Const v.directives directives_obeyed r)))))
 
-pub arguments_definition_written : (vs : List InputValueTree) → IsTrue (arguments_definition_obeys vs) → (r : List Token) → arguments_definition_form vs (arguments_definition_tokens vs r) r
-arguments_definition_written vs o = group_written (λ v. IsTrue (input_value_obeys v)) lparen rparen input_value_form input_value_tokens input_value_written vs (every_of input_value_obeys vs o)
+pub arguments_definition_written : (vs : List InputValueDefinitionTree) → IsTrue (arguments_definition_obeys vs) → (r : List Token) → arguments_definition_form vs (arguments_definition_tokens vs r) r
+arguments_definition_written vs o = group_written (λ v. IsTrue (input_value_definition_obeys v)) lparen rparen input_value_definition_form input_value_definition_tokens input_value_definition_written vs (every_of input_value_definition_obeys vs o)
 
 repeatable_written : (b : Bool) (r : List Token) → repeatable_form b (repeatable_tokens b r) r
 unfolding token no_tokens
@@ -183,13 +183,13 @@ unfolding ◌⨟◌
 default_value_obeyed None ts r x = refl
 default_value_obeyed (Some v) ts r x = value_obeyed Const v _ _ x.2
 
-pub input_value_obeyed : (v : InputValueTree) (ts r : List Token) → input_value_form v ts r → IsTrue (input_value_obeys v)
-unfolding input_value_form ◌⨟◌
-input_value_obeyed v ts r x =
+pub input_value_definition_obeyed : (v : InputValueDefinitionTree) (ts r : List Token) → input_value_definition_form v ts r → IsTrue (input_value_definition_obeys v)
+unfolding input_value_definition_form ◌⨟◌
+input_value_definition_obeyed v ts r x =
     both_hold (default_value_obeys v.default_value) (directives_obey Const v.directives) (default_value_obeyed v.default_value _ _ x.2.2.2.2.1) (directives_obeyed Const v.directives _ _ x.2.2.2.2.2)
 
-pub arguments_definition_obeyed : (vs : List InputValueTree) (ts r : List Token) → arguments_definition_form vs ts r → IsTrue (arguments_definition_obeys vs)
-arguments_definition_obeyed vs ts r x = all_of input_value_obeys vs (group_obeys (λ v. IsTrue (input_value_obeys v)) lparen rparen input_value_form input_value_obeyed vs ts r x)
+pub arguments_definition_obeyed : (vs : List InputValueDefinitionTree) (ts r : List Token) → arguments_definition_form vs ts r → IsTrue (arguments_definition_obeys vs)
+arguments_definition_obeyed vs ts r x = all_of input_value_definition_obeys vs (group_obeys (λ v. IsTrue (input_value_definition_obeys v)) lparen rparen input_value_definition_form input_value_definition_obeyed vs ts r x)
 
 directive_locations_obeyed : (ls : List DirectiveLocationTree) (ts r : List Token) → directive_locations_form ls ts r → IsTrue (not (length ls == 0))
 unfolding never

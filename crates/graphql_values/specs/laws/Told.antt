@@ -14,11 +14,11 @@ use Rattle.graphql_values.specs.Arguments.{ArgumentTree, argument_items, argumen
 use Rattle.graphql_values.specs.Directives.{DirectiveTree, directive_shape, directives_shape, directive_nesting, directives_nesting}
 use Rattle.graphql_values.specs.Descriptions.{description_shape}
 use Rattle.graphql_values.specs.DefaultValues.{default_value_shape, default_value_nesting}
-use Rattle.graphql_values.specs.InputValues.{InputValueTree, input_value_shape, input_value_nesting, has_description_or_directives, arguments_definition_shape, arguments_definition_nesting}
+use Rattle.graphql_values.specs.InputValueDefinitions.{InputValueDefinitionTree, input_value_definition_shape, input_value_definition_nesting, has_description_or_directives, arguments_definition_shape, arguments_definition_nesting}
 use Rattle.graphql_values.specs.JoinedNames.{joined_names_shape}
 use Rattle.graphql_values.specs.DirectiveLocations.{DirectiveLocationTree, location_name, Query, Mutation, Subscription, Field, FragmentDefinition, FragmentSpread, InlineFragment, VariableDefinition, Schema, Scalar, Object, FieldDefinition, ArgumentDefinition, Interface, Union, Enum, EnumValue, InputObject, InputFieldDefinition}
 use Rattle.graphql_values.specs.DirectiveDefinitions.{DirectiveDefinitionTree, repeatable_shape, directive_locations_shape, directive_definition_shape, directive_definition_nesting}
-use Rattle.graphql_values.specs.laws.PrintedTokens.{value_tokens, values_tokens, object_fields_tokens, type_tokens, argument_tokens, arguments_tokens, directive_tokens, directives_tokens, description_tokens, default_value_tokens, input_value_tokens, arguments_definition_tokens, repeatable_tokens, directive_locations_tokens, directive_definition_tokens}
+use Rattle.graphql_values.specs.laws.PrintedTokens.{value_tokens, values_tokens, object_fields_tokens, type_tokens, argument_tokens, arguments_tokens, directive_tokens, directives_tokens, description_tokens, default_value_tokens, input_value_definition_tokens, arguments_definition_tokens, repeatable_tokens, directive_locations_tokens, directive_definition_tokens}
 
 mutual
   unfolding value_tokens
@@ -74,18 +74,18 @@ pub told_default_value : (broken : Bool) (d : Option ValueTree) → Told 0 (defa
 told_default_value broken None = told_nothing
 told_default_value broken (Some v) = told_space (told_mark equals refl (told_space (told_value broken v)))
 
-pub told_input_value : (broken : Bool) (v : InputValueTree) → Told 0 (input_value_shape broken v) (input_value_tokens v) false (input_value_nesting v)
-unfolding input_value_shape input_value_tokens
-told_input_value broken v =
+pub told_input_value_definition : (broken : Bool) (v : InputValueDefinitionTree) → Told 0 (input_value_definition_shape broken v) (input_value_definition_tokens v) false (input_value_definition_nesting v)
+unfolding input_value_definition_shape input_value_definition_tokens
+told_input_value_definition broken v =
     told_described v.description (told_name v.name (told_mark colon refl (told_space (told_after (told_reference 0 v.type) (told_then (told_default_value broken v.default_value) (told_directives v.directives))))))
 
-pub told_arguments_definition : (broken : Bool) (vs : List InputValueTree) → Told 0 (arguments_definition_shape broken vs) (arguments_definition_tokens vs) true (arguments_definition_nesting vs)
+pub told_arguments_definition : (broken : Bool) (vs : List InputValueDefinitionTree) → Told 0 (arguments_definition_shape broken vs) (arguments_definition_tokens vs) true (arguments_definition_nesting vs)
 told_arguments_definition broken [] = told_nothing
 told_arguments_definition broken (v ∷ more) = in_mode (list_any has_description_or_directives (v ∷ more))
   where
-    in_mode : (b : Bool) → Told 0 (cond b (comma_group lparen rparen broken (map (input_value_shape broken) (v ∷ more))) (flat (comma_group lparen rparen false (map (input_value_shape false) (v ∷ more))))) (group_tokens lparen input_value_tokens rparen (v ∷ more)) true (arguments_definition_nesting (v ∷ more))
-    in_mode true = told_comma_group lparen rparen broken refl refl refl (parts_of (told_input_value broken) (v ∷ more))
-    in_mode false = told_flat (told_comma_group lparen rparen false refl refl refl (parts_of (told_input_value false) (v ∷ more)))
+    in_mode : (b : Bool) → Told 0 (cond b (comma_group lparen rparen broken (map (input_value_definition_shape broken) (v ∷ more))) (flat (comma_group lparen rparen false (map (input_value_definition_shape false) (v ∷ more))))) (group_tokens lparen input_value_definition_tokens rparen (v ∷ more)) true (arguments_definition_nesting (v ∷ more))
+    in_mode true = told_comma_group lparen rparen broken refl refl refl (parts_of (told_input_value_definition broken) (v ∷ more))
+    in_mode false = told_flat (told_comma_group lparen rparen false refl refl refl (parts_of (told_input_value_definition false) (v ∷ more)))
 
 -- a name, or a punctuator that is no bracket
 abbrev pub IsNameOrMark : Token → Type 0

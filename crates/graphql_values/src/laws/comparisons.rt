@@ -1,6 +1,6 @@
 //! What holds of trees and errors as they are compared, hashed and cloned.
 ghost use Rattle.std.specs.Prelude.{◌≡◌, ◌↔◌, IsTrue};
-ghost use Rattle.graphql_values.specs.DefinitionTrees.{directive_definition_tree, input_value_tree};
+ghost use Rattle.graphql_values.specs.DefinitionTrees.{directive_definition_tree, input_value_definition_tree};
 ghost use Rattle.graphql_values.specs.DirectiveTrees.{argument_tree, directive_tree, directive_trees};
 ghost use Rattle.graphql_values.specs.Literals.{float_text, int_text};
 ghost use Rattle.graphql_values.specs.LocationTrees.{location_tree, operation_type_tree};
@@ -39,7 +39,7 @@ pub fn compared_by_tree()
     ensures arguments { (a b : Argument) → IsTrue (⟦<Argument as PartialEq>⟧.eq a b) ↔ (argument_tree a ≡ argument_tree b) }
     ensures directives { (a b : Directive) → IsTrue (⟦<Directive as PartialEq>⟧.eq a b) ↔ (directive_tree a ≡ directive_tree b) }
     ensures directive_lists { (a b : DirectiveList) → IsTrue (⟦<DirectiveList as PartialEq>⟧.eq a b) ↔ (directive_trees a ≡ directive_trees b) }
-    ensures input_values { (a b : InputValueDefinition) → IsTrue (⟦<InputValueDefinition as PartialEq>⟧.eq a b) ↔ (input_value_tree a ≡ input_value_tree b) }
+    ensures input_value_definitions { (a b : InputValueDefinition) → IsTrue (⟦<InputValueDefinition as PartialEq>⟧.eq a b) ↔ (input_value_definition_tree a ≡ input_value_definition_tree b) }
     ensures directive_definitions { (a b : DirectiveDefinition) → IsTrue (⟦<DirectiveDefinition as PartialEq>⟧.eq a b) ↔ (directive_definition_tree a ≡ directive_definition_tree b) }
     ensures operation_types { (a b : OperationType) → IsTrue (⟦<OperationType as PartialEq>⟧.eq a b) ↔ (operation_type_tree a ≡ operation_type_tree b) }
     ensures locations { (a b : DirectiveLocation) → IsTrue (⟦<DirectiveLocation as PartialEq>⟧.eq a b) ↔ (location_tree a ≡ location_tree b) }
@@ -60,7 +60,7 @@ pub fn equal_trees_hash_alike()
     ensures arguments { (a b : Argument) → IsTrue (⟦<Argument as PartialEq>⟧.eq a b) → ⟦<Argument as Hash>⟧.hash_input a ≡ ⟦<Argument as Hash>⟧.hash_input b }
     ensures directives { (a b : Directive) → IsTrue (⟦<Directive as PartialEq>⟧.eq a b) → ⟦<Directive as Hash>⟧.hash_input a ≡ ⟦<Directive as Hash>⟧.hash_input b }
     ensures directive_lists { (a b : DirectiveList) → IsTrue (⟦<DirectiveList as PartialEq>⟧.eq a b) → ⟦<DirectiveList as Hash>⟧.hash_input a ≡ ⟦<DirectiveList as Hash>⟧.hash_input b }
-    ensures input_values { (a b : InputValueDefinition) → IsTrue (⟦<InputValueDefinition as PartialEq>⟧.eq a b) → ⟦<InputValueDefinition as Hash>⟧.hash_input a ≡ ⟦<InputValueDefinition as Hash>⟧.hash_input b }
+    ensures input_value_definitions { (a b : InputValueDefinition) → IsTrue (⟦<InputValueDefinition as PartialEq>⟧.eq a b) → ⟦<InputValueDefinition as Hash>⟧.hash_input a ≡ ⟦<InputValueDefinition as Hash>⟧.hash_input b }
     ensures directive_definitions { (a b : DirectiveDefinition) → IsTrue (⟦<DirectiveDefinition as PartialEq>⟧.eq a b) → ⟦<DirectiveDefinition as Hash>⟧.hash_input a ≡ ⟦<DirectiveDefinition as Hash>⟧.hash_input b }
     ensures operation_types { (a b : OperationType) → IsTrue (⟦<OperationType as PartialEq>⟧.eq a b) → ⟦<OperationType as Hash>⟧.hash_input a ≡ ⟦<OperationType as Hash>⟧.hash_input b }
     ensures locations { (a b : DirectiveLocation) → IsTrue (⟦<DirectiveLocation as PartialEq>⟧.eq a b) → ⟦<DirectiveLocation as Hash>⟧.hash_input a ≡ ⟦<DirectiveLocation as Hash>⟧.hash_input b }
@@ -75,9 +75,9 @@ pub fn clones_are_the_same()
     ensures arguments { (a b : Argument) → ⟦<Argument as Clone>⟧.is_clone a b → b ≡ a }
     ensures directives { (a b : Directive) → ⟦<Directive as Clone>⟧.is_clone a b → (b.name ≡ a.name) × (b.arguments.items ≡ a.arguments.items) × (directive_tree b ≡ directive_tree a) }
     ensures directive_lists { (a b : DirectiveList) → ⟦<DirectiveList as Clone>⟧.is_clone a b → (b.0.items ≡ a.0.items) × (directive_trees b ≡ directive_trees a) }
-    ensures input_values { (a b : InputValueDefinition) → ⟦<InputValueDefinition as Clone>⟧.is_clone a b →
+    ensures input_value_definitions { (a b : InputValueDefinition) → ⟦<InputValueDefinition as Clone>⟧.is_clone a b →
         (b.description ≡ a.description) × (b.name ≡ a.name) × (b.ty ≡ a.ty) × (b.default_value ≡ a.default_value) × (b.directives.0.items ≡ a.directives.0.items)
-        × (input_value_tree b ≡ input_value_tree a) }
+        × (input_value_definition_tree b ≡ input_value_definition_tree a) }
     ensures directive_definitions { (a b : DirectiveDefinition) → ⟦<DirectiveDefinition as Clone>⟧.is_clone a b →
         (b.description ≡ a.description) × (b.name ≡ a.name) × (b.arguments.items ≡ a.arguments.items) × (b.repeatable ≡ a.repeatable) × (b.locations.items ≡ a.locations.items)
         × (directive_definition_tree b ≡ directive_definition_tree a) }

@@ -3,12 +3,12 @@ ghost use Rattle.std.specs.Prelude.{◌≡◌, ◌↔◌, ◌++◌, Bool, IsTrue
 ghost use Rattle.graphql_text.specs.Spelling.{tokens_of_items};
 ghost use Rattle.graphql_text.specs.Tokens.{Token};
 ghost use Rattle.graphql_values.specs.Arguments.{ArgumentTree, argument_form, argument_obeys, argument_shape};
-ghost use Rattle.graphql_values.specs.DefinitionParts.{directive_definition_parts, input_value_parts};
-ghost use Rattle.graphql_values.specs.DefinitionTrees.{directive_definition_tree, input_value_tree};
+ghost use Rattle.graphql_values.specs.DefinitionParts.{directive_definition_parts, input_value_definition_parts};
+ghost use Rattle.graphql_values.specs.DefinitionTrees.{directive_definition_tree, input_value_definition_tree};
 ghost use Rattle.graphql_values.specs.DirectiveDefinitions.{DirectiveDefinitionTree, directive_definition_form, directive_definition_nesting, directive_definition_obeys, directive_definition_shape};
 ghost use Rattle.graphql_values.specs.DirectiveTrees.{directive_tree, directive_trees};
 ghost use Rattle.graphql_values.specs.Directives.{DirectiveTree, directive_form, directive_nesting, directive_obeys, directive_shape, directives_form, directives_nesting, directives_obey, directives_shape};
-ghost use Rattle.graphql_values.specs.InputValues.{InputValueTree, input_value_form, input_value_nesting, input_value_obeys, input_value_shape};
+ghost use Rattle.graphql_values.specs.InputValueDefinitions.{InputValueDefinitionTree, input_value_definition_form, input_value_definition_nesting, input_value_definition_obeys, input_value_definition_shape};
 ghost use Rattle.graphql_values.specs.TypeReferences.{TypeTree, type_form, type_shape};
 ghost use Rattle.graphql_values.specs.ValueTrees.{value_tree};
 ghost use Rattle.graphql_values.specs.Values.{Constness, NonConst, ValueTree, value_form, value_nesting, value_obeys, value_shape};
@@ -38,12 +38,12 @@ pub fn syntax_of_each_kind()
     ensures parts_of_directive_lists { ⟦<DirectiveList as Syntax>⟧.parts ≡ directives_nesting }
     ensures obeys_of_directive_lists { (tree : List DirectiveTree) → ⟦<DirectiveList as Syntax>⟧.obeys tree ↔ IsTrue (directives_obey NonConst tree) }
     ensures derives_of_directive_lists { (tree : List DirectiveTree) (tokens rest : List Token) → ⟦<DirectiveList as Syntax>⟧.derives tree tokens rest ↔ directives_form NonConst tree tokens rest }
-    ensures tree_of_input_values { ⟦<InputValueDefinition as Syntax>⟧.tree ≡ input_value_tree }
-    ensures shape_of_input_values { ⟦<InputValueDefinition as Syntax>⟧.shape ≡ (λ broken is_front. input_value_shape broken) }
-    ensures nesting_of_input_values { ⟦<InputValueDefinition as Syntax>⟧.nesting ≡ input_value_nesting }
-    ensures parts_of_input_values { ⟦<InputValueDefinition as Syntax>⟧.parts ≡ input_value_parts }
-    ensures obeys_of_input_values { (tree : InputValueTree) → ⟦<InputValueDefinition as Syntax>⟧.obeys tree ↔ IsTrue (input_value_obeys tree) }
-    ensures derives_of_input_values { (tree : InputValueTree) (tokens rest : List Token) → ⟦<InputValueDefinition as Syntax>⟧.derives tree tokens rest ↔ input_value_form tree tokens rest }
+    ensures tree_of_input_value_definitions { ⟦<InputValueDefinition as Syntax>⟧.tree ≡ input_value_definition_tree }
+    ensures shape_of_input_value_definitions { ⟦<InputValueDefinition as Syntax>⟧.shape ≡ (λ broken is_front. input_value_definition_shape broken) }
+    ensures nesting_of_input_value_definitions { ⟦<InputValueDefinition as Syntax>⟧.nesting ≡ input_value_definition_nesting }
+    ensures parts_of_input_value_definitions { ⟦<InputValueDefinition as Syntax>⟧.parts ≡ input_value_definition_parts }
+    ensures obeys_of_input_value_definitions { (tree : InputValueDefinitionTree) → ⟦<InputValueDefinition as Syntax>⟧.obeys tree ↔ IsTrue (input_value_definition_obeys tree) }
+    ensures derives_of_input_value_definitions { (tree : InputValueDefinitionTree) (tokens rest : List Token) → ⟦<InputValueDefinition as Syntax>⟧.derives tree tokens rest ↔ input_value_definition_form tree tokens rest }
     ensures tree_of_directive_definitions { ⟦<DirectiveDefinition as Syntax>⟧.tree ≡ directive_definition_tree }
     ensures shape_of_directive_definitions { ⟦<DirectiveDefinition as Syntax>⟧.shape ≡ (λ broken is_front. directive_definition_shape broken) }
     ensures nesting_of_directive_definitions { ⟦<DirectiveDefinition as Syntax>⟧.nesting ≡ directive_definition_nesting }
@@ -63,8 +63,8 @@ pub fn printed_tokens_derive_the_tree()
         directive_form c directive (tokens_of_items (directive_shape directive) ++ rest) rest }
     ensures directive_lists { (c : Constness) (directives : List DirectiveTree) → IsTrue (directives_obey c directives) → (rest : List Token) →
         directives_form c directives (tokens_of_items (directives_shape directives) ++ rest) rest }
-    ensures input_values { (broken : Bool) (input : InputValueTree) → IsTrue (input_value_obeys input) → (rest : List Token) →
-        input_value_form input (tokens_of_items (input_value_shape broken input) ++ rest) rest }
+    ensures input_value_definitions { (broken : Bool) (input : InputValueDefinitionTree) → IsTrue (input_value_definition_obeys input) → (rest : List Token) →
+        input_value_definition_form input (tokens_of_items (input_value_definition_shape broken input) ++ rest) rest }
     ensures directive_definitions { (broken : Bool) (definition : DirectiveDefinitionTree) → IsTrue (directive_definition_obeys definition) → (rest : List Token) →
         directive_definition_form definition (tokens_of_items (directive_definition_shape broken definition) ++ rest) rest }
 {}

@@ -4,7 +4,7 @@ ghost use Rattle.graphql_text.specs.Reading.{ReadsAs};
 ghost use Rattle.graphql_values.specs.DirectiveDefinitions.{DirectiveDefinitionTree, directive_definition_form};
 ghost use Rattle.graphql_values.specs.DirectiveLocations as location;
 ghost use Rattle.graphql_values.specs.Directives.{DirectiveTree, directive_form, directives_form};
-ghost use Rattle.graphql_values.specs.InputValues.{InputValueTree, input_value_form};
+ghost use Rattle.graphql_values.specs.InputValueDefinitions.{InputValueDefinitionTree, input_value_definition_form};
 ghost use Rattle.graphql_values.specs.TypeReferences.{list_type, named_type, non_null_list_type, non_null_named_type, type_form};
 ghost use Rattle.graphql_values.specs.Values.{Const, NonConst, ValueTree, boolean_value, int_value, list_value, more_fields, more_values, no_fields, no_values, null_value, object_value, string_value, value_form, variable};
 
@@ -27,7 +27,7 @@ pub fn worked_readings()
     ensures directives { ReadsAs (directives_form NonConst) (codes " @a @b") (record { name = (record { text = codes "a"; valid = refl }); arguments = [] } ∷ record { name = (record { text = codes "b"; valid = refl }); arguments = [] } ∷ []) }
     ensures comment { ReadsAs (directives_form NonConst) (codes "#") [] }
     ensures no_directives { ReadsAs (directives_form NonConst) [] [] }
-    ensures input_value_definition { ReadsAs input_value_form (codes "\"d\" a: [Int!] = [1] @x")
+    ensures input_value_definition { ReadsAs input_value_definition_form (codes "\"d\" a: [Int!] = [1] @x")
         (record { description = Some (record { text = codes "d"; valid = refl }); name = (record { text = codes "a"; valid = refl }); type = list_type (non_null_named_type (record { text = codes "Int"; valid = refl })); default_value = Some (list_value (more_values (int_value (record { text = codes "1"; valid = refl })) no_values)); directives = (record { name = (record { text = codes "x"; valid = refl }); arguments = [] } ∷ []) }) }
     ensures directive_definition { ReadsAs directive_definition_form (codes "directive @d(a: Int @x, b: Int) repeatable on | FIELD | QUERY")
         (record { description = None; name = (record { text = codes "d"; valid = refl }); arguments = (record { description = None; name = (record { text = codes "a"; valid = refl }); type = named_type (record { text = codes "Int"; valid = refl }); default_value = None; directives = (record { name = (record { text = codes "x"; valid = refl }); arguments = [] } ∷ []) }) ∷ (record { description = None; name = (record { text = codes "b"; valid = refl }); type = named_type (record { text = codes "Int"; valid = refl }); default_value = None; directives = [] }) ∷ []; repeatable = true; locations = location.Field ∷ location.Query ∷ [] }) }
@@ -61,7 +61,7 @@ pub fn refused_readings()
     ensures two_dollars { (value : ValueTree) → ReadsAs (value_form NonConst) (codes "$ $a") value → ⊥ }
     ensures no_arguments { (directive : DirectiveTree) → ReadsAs (directive_form NonConst) (codes "@d()") directive → ⊥ }
     ensures constant_variable { (value : ValueTree) → ReadsAs (value_form Const) (codes "$a") value → ⊥ }
-    ensures default_variable { (input : InputValueTree) → ReadsAs input_value_form (codes "a: Int = $x") input → ⊥ }
+    ensures default_variable { (input : InputValueDefinitionTree) → ReadsAs input_value_definition_form (codes "a: Int = $x") input → ⊥ }
     ensures no_location { (definition : DirectiveDefinitionTree) → ReadsAs directive_definition_form (codes "directive @d") definition → ⊥ }
     ensures unknown_location { (definition : DirectiveDefinitionTree) → ReadsAs directive_definition_form (codes "directive @d on Field") definition → ⊥ }
 {}

@@ -2,7 +2,7 @@
 ghost use Rattle.std.specs.Prelude.{◌≡◌, OnErr, OnOk};
 ghost use Rattle.graphql_values.specs.ArgumentLoans.{with_value_of};
 
-use crate::samples::{directive_definition, input_value, number, with_argument};
+use crate::samples::{directive_definition, input_value_definition, number, with_argument};
 use graphql_base::name;
 use graphql_base::name::Name;
 use graphql_base::node::Node;
@@ -22,12 +22,12 @@ fn argument(
     ty: Type,
     default_value: Option<Node<Value>>,
 ) -> Result<Node<InputValueDefinition>, AllocError> {
-    let mut argument = input_value(alloc, name, ty)?;
+    let mut argument = input_value_definition(alloc, name, ty)?;
     argument.default_value = default_value;
     Node::new(alloc, argument)
 }
 
-// `required: Int!, default: Int! = 1, free: Int`
+/// `required: Int!, default: Int! = 1, free: Int`
 fn arguments(alloc: Global) -> Result<Vec<Node<InputValueDefinition>>, AllocError> {
     let one = number(alloc, 1)?;
     let arguments = vec![in alloc;
@@ -38,7 +38,7 @@ fn arguments(alloc: Global) -> Result<Vec<Node<InputValueDefinition>>, AllocErro
     Ok(arguments)
 }
 
-// `directive @a(required: Int!, default: Int! = 1, free: Int)`, which may stand nowhere
+/// `directive @a(required: Int!, default: Int! = 1, free: Int)`, which may stand nowhere
 fn definition(alloc: Global) -> Result<DirectiveDefinition, AllocError> {
     let mut definition = directive_definition(alloc, name!(a));
     definition.arguments = arguments(alloc)?;
@@ -54,7 +54,7 @@ fn definitions(
     Ok(map)
 }
 
-// what a test compares: a number, or the answer without a value
+/// what a test compares: a number, or the answer without a value
 fn told(answer: Result<ArgumentValue<'_>, ArgumentByNameError>) -> (Option<i32>, &'static str) {
     match answer {
         Ok(ArgumentValue::Value(value)) => (value.to_i32(), "value"),
@@ -125,14 +125,14 @@ fn specified_before_defined(rt: HostRuntime) {
     assert!(rt; value.is_some_and(|value| value.is_null()));
 }
 
-// `@a(x: 1, y: N)`
+/// `@a(x: 1, y: N)`
 fn directive(alloc: Global, y: i32) -> Result<Directive, AllocError> {
     let bare = Directive::new(alloc, name!(a));
     let with_x = with_argument(alloc, bare, name!(x), number(alloc, 1)?)?;
     with_argument(alloc, with_x, name!(y), number(alloc, y)?)
 }
 
-// What a caller knows of a value that it wrote.
+/// What a caller knows of a value that it wrote.
 fn set_argument(
     directive: &mut Directive,
     name: &str,
@@ -163,7 +163,7 @@ fn is_shared(directive: &mut Directive, place: usize) -> bool {
     }
 }
 
-// Whether each argument still is another directive's too.
+/// Whether each argument still is another directive's too.
 fn sharing(directive: &mut Directive) -> [bool; 2] {
     [is_shared(directive, 0), is_shared(directive, 1)]
 }
@@ -187,7 +187,7 @@ fn only_what_is_lent_is_copied(rt: HostRuntime) {
     }
 }
 
-// `@a(x: 1, y: 2, x: 1, y: 3)`
+/// `@a(x: 1, y: 2, x: 1, y: 3)`
 fn repeated(alloc: Global) -> Result<Directive, AllocError> {
     let mut directive = Directive::new(alloc, name!(a));
     for (name, value) in [(name!(x), 1), (name!(y), 2), (name!(x), 1), (name!(y), 3)] {

@@ -2,9 +2,9 @@
 ghost use Rattle.std.specs.Prelude.{◌≡◌};
 ghost use Rattle.std.specs.Bool.{OnFalse, OnTrue};
 ghost use Rattle.graphql_values.specs.FirstChanged.{first_changed};
-ghost use Rattle.graphql_values.specs.NamedDefinitions.{is_input_value_named};
+ghost use Rattle.graphql_values.specs.NamedDefinitions.{is_input_value_definition_named};
 
-use crate::samples::{directive_definition, input_value};
+use crate::samples::{directive_definition, input_value_definition};
 use graphql_base::name;
 use graphql_base::name::Name;
 use graphql_base::node::{Node, NodeStr};
@@ -17,7 +17,7 @@ use std::collections::HashSet;
 use std::process::Abort;
 
 fn argument(alloc: Global, name: Name, ty: Name) -> Result<Node<InputValueDefinition>, AllocError> {
-    let mut argument = input_value(alloc, name, Type::Named(ty))?;
+    let mut argument = input_value_definition(alloc, name, Type::Named(ty))?;
     argument.description = Some(NodeStr::new_str(alloc, "é")?);
     Node::new(alloc, argument)
 }
@@ -31,7 +31,7 @@ fn arguments(alloc: Global) -> Result<Vec<Node<InputValueDefinition>>, AllocErro
     Ok(arguments)
 }
 
-// `directive @d(a: A, b: B, a: C) on FIELD`, with the same description each
+/// `directive @d(a: A, b: B, a: C) on FIELD`, with the same description each
 fn definition(alloc: Global) -> Result<DirectiveDefinition, AllocError> {
     let mut definition = directive_definition(alloc, name!(d));
     definition.arguments = arguments(alloc)?;
@@ -55,13 +55,13 @@ fn arguments_by_name(rt: HostRuntime) {
     check_type(&rt, &definition, "c", None);
 }
 
-// What a caller knows of an argument that it wrote.
+/// What a caller knows of an argument that it wrote.
 fn set_argument(
     definition: &mut DirectiveDefinition,
     name: &str,
     node: Node<InputValueDefinition>,
 ) -> bool
-    ensures written { OnTrue result (definition.new.arguments.items ≡ first_changed (is_input_value_named name.now) (λ _. node) definition.old.arguments.items) }
+    ensures written { OnTrue result (definition.new.arguments.items ≡ first_changed (is_input_value_definition_named name.now) (λ _. node) definition.old.arguments.items) }
     ensures none { OnFalse result (definition.new ≡ definition.old) }
     ensures name { definition.new.name ≡ definition.old.name }
 {
@@ -95,7 +95,7 @@ fn what_is_required(rt: HostRuntime) {
         (Type::NonNullNamed(name!(Int)), Some(null), false),
         (Type::Named(name!(Int)), None, false),
     ] {
-        let mut input = input_value(alloc, name!(a), ty).expect(&rt, "memory");
+        let mut input = input_value_definition(alloc, name!(a), ty).expect(&rt, "memory");
         input.default_value = default_value;
         assert_eq!(rt; input.is_required(), is_required);
     }

@@ -9,7 +9,7 @@ use graphql_values::value::Value;
 use std::alloc::{AllocError, Global};
 use std::collections::HashSet;
 
-// `@a(x: 1)` with its argument at a place in a file.
+/// `@a(x: 1)` with its argument at a place in a file.
 fn placed(alloc: Global, file: u64) -> Result<Directive, AllocError> {
     let mut directive = Directive::new(alloc, name!(a));
     let argument = Argument {

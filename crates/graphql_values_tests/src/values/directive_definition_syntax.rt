@@ -1,6 +1,6 @@
 //! Worked prints of directive definitions.
 use crate::checks::check_made;
-use crate::samples::{directive_definition, input_value, one, push};
+use crate::samples::{directive_definition, input_value_definition, one, push};
 use graphql_base::name;
 use graphql_base::name::Name;
 use graphql_base::node::{Node, NodeStr};
@@ -11,17 +11,17 @@ use graphql_values::location::DirectiveLocation;
 use graphql_values::ty;
 use std::alloc::{AllocError, Global};
 
-// `directive @d(NAME: Int)`
+/// `directive @d(NAME: Int)`
 fn of_one(alloc: Global, name: Name) -> Result<DirectiveDefinition, AllocError> {
-    let argument = input_value(alloc, name, ty!(Int))?;
+    let argument = input_value_definition(alloc, name, ty!(Int))?;
     let mut definition = directive_definition(alloc, name!(d));
     definition.arguments.push(Node::new(alloc, argument)?)?;
     Ok(definition)
 }
 
-// `directive @d(a: Int, b: Int) on FIELD`, with these directives at its first argument
+/// `directive @d(a: Int, b: Int) on FIELD`, with these directives at its first argument
 fn of_two(alloc: Global, directives: DirectiveList) -> Result<DirectiveDefinition, AllocError> {
-    let mut first = input_value(alloc, name!(a), ty!(Int))?;
+    let mut first = input_value_definition(alloc, name!(a), ty!(Int))?;
     first.directives = directives;
     let mut definition = of_one(alloc, name!(b))?;
     definition.arguments.insert(0, Node::new(alloc, first)?)?;
@@ -66,9 +66,9 @@ fn a_directive_sets_arguments_on_lines(rt: HostRuntime) {
     check_made(&rt, format!(in alloc; "{definition}"), OVER_LINES);
 }
 
-// `directive @f(a: [Int] = [1] @x) on FIELD`
+/// `directive @f(a: [Int] = [1] @x) on FIELD`
 fn of_a_list(alloc: Global) -> Result<DirectiveDefinition, AllocError> {
-    let mut argument = input_value(alloc, name!(a), ty!(in alloc; [Int])?)?;
+    let mut argument = input_value_definition(alloc, name!(a), ty!(in alloc; [Int])?)?;
     argument.default_value = Some(Node::new(alloc, one(alloc)?)?);
     push(
         alloc,
@@ -91,7 +91,7 @@ fn a_default_value_stands_over_lines_too(rt: HostRuntime) {
     );
 }
 
-// With a description, `repeatable` and two locations
+/// With a description, `repeatable` and two locations
 fn described(alloc: Global) -> Result<DirectiveDefinition, AllocError> {
     let mut definition = of_one(alloc, name!(a))?;
     definition.description = Some(NodeStr::new_str(alloc, "D")?);

@@ -12,7 +12,7 @@ fn node(alloc: Global, name: Name, number: i32) -> Result<Node<Directive>, Alloc
     Node::new(alloc, directive)
 }
 
-// `@a(x: 1) @b @a(x: 2)`
+/// `@a(x: 1) @b @a(x: 2)`
 fn list(alloc: Global) -> Result<DirectiveList, AllocError> {
     let nodes = vec![in alloc;
         node(alloc, name!(a), 1)?,

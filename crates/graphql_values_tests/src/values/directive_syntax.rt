@@ -10,7 +10,7 @@ use graphql_values::value::Value;
 use graphql_values::well_formed::{Constness, are_directives_well_formed};
 use std::alloc::{AllocError, Global};
 
-// `@a` with arguments
+/// `@a` with arguments
 fn directive(alloc: Global, arguments: [(Name, Node<Value>); 2]) -> Result<Directive, AllocError> {
     let mut directive = Directive::new(alloc, name!(a));
     for (name, value) in arguments {
@@ -19,7 +19,7 @@ fn directive(alloc: Global, arguments: [(Name, Node<Value>); 2]) -> Result<Direc
     Ok(directive)
 }
 
-// `@a @b`
+/// `@a @b`
 fn list(alloc: Global) -> Result<DirectiveList, AllocError> {
     let mut list = DirectiveList::new(alloc);
     for name in [name!(a), name!(b)] {
@@ -28,7 +28,7 @@ fn list(alloc: Global) -> Result<DirectiveList, AllocError> {
     Ok(list)
 }
 
-// `{k: "v"}`
+/// `{k: "v"}`
 fn object(alloc: Global) -> Result<Value, AllocError> {
     let text = Node::new(alloc, Value::from_text(alloc, "v")?)?;
     Ok(Value::Object(vec![in alloc; (name!(k), text)]?))
@@ -114,7 +114,7 @@ fn arguments_of_one_name_are_kept(rt: HostRuntime) {
     check_made(&rt, format!(in alloc; "{directive}"), "@a(x: 1, x: 2)");
 }
 
-// Whether it prints as this text.
+/// Whether it prints as this text.
 fn prints(directive: &Directive, alloc: Global, wanted: &str) -> bool {
     directive
         .serialize()
@@ -139,7 +139,7 @@ fn what_is_lent_is_printed_of_one_directive(rt: HostRuntime) {
     assert!(rt; prints(&other, alloc, "@a(x: 1, y: 2)"));
 }
 
-// How its print ends on one line from a level on: with bytes, or with an error.
+/// How its print ends on one line from a level on: with bytes, or with an error.
 fn told<T: Syntax>(tree: &T, level: usize) -> Result<(), PrintError> {
     let mut sink = Counting::with_room(usize::MAX);
     Serialize::new(tree)

@@ -30,17 +30,17 @@ fn directive_then_printed_takes_1(rt: HostRuntime) {
 }
 
 #[test]
-fn input_value_built(rt: HostRuntime) {
+fn input_value_definition_built(rt: HostRuntime) {
     let _input = input(rt.alloc()).expect(&rt, "memory");
 }
 
 #[test]
-fn input_value_then_printed_takes_2(rt: HostRuntime) {
+fn input_value_definition_then_printed_takes_2(rt: HostRuntime) {
     let input = input(rt.alloc()).expect(&rt, "memory");
     check_printed(&rt, &input, "a: [[I!]] = [[], 1.5]");
 }
 
-// `@a(x: true, y: false)` twice, which share both arguments.
+/// `@a(x: true, y: false)` twice, which share both arguments.
 fn all_shared(alloc: Global) -> Result<(Directive, Directive), AllocError> {
     let directive = directive(alloc)?;
     let copy = directive.clone()?;

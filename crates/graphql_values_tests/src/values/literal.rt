@@ -1,3 +1,4 @@
+//! Texts of ints and floats.
 use crate::checks::{check_made, check_text};
 use graphql_values::literal::{FloatValue, IntValue};
 use std::alloc::Global;
@@ -7,7 +8,7 @@ const CHARACTERS: [&str; 9] = ["0", "1", "-", "+", ".", "e", "E", "a", "_"];
 
 const CHARACTERS_OR_NONE: [&str; 10] = ["", "0", "1", "-", "+", ".", "e", "E", "a", "_"];
 
-// Of all texts of at most three of these characters, those that a regular expression over the same grammar takes.
+/// Of all texts of at most three of these characters, those that a regular expression over the same grammar takes.
 const INTS: [&str; 12] = [
     "0", "1", "10", "11", "-0", "-1", "100", "101", "110", "111", "-10", "-11",
 ];

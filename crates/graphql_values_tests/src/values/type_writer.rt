@@ -55,7 +55,7 @@ impl Syntax for Alone {
         let parts = find_list_depth(&self.ty).ok_or(AllocError)?;
         let mut stack: Stack<TypePart> = Stack::reserve(type_allocator(&self.ty), parts)?;
         write_first_indent(out, place);
-        write_type(&self.ty, out, &mut stack);
+        write_type(out, &mut stack, &self.ty);
         Ok(())
     }
 }

@@ -53,7 +53,7 @@ fn width_and_precision_do_not_reach_the_type(rt: HostRuntime) {
     check_made(&rt, format!(in rt.alloc(); "{ty:>9.1}"), "[Foo!]!");
 }
 
-// Two types, and whether the first is assignable to the second.
+/// Two types, and whether the first is assignable to the second.
 const ASSIGNABLE: [(&str, &str, bool); 12] = [
     ("[Foo!]!", "[Foo]", true),
     ("[Foo]", "[Foo!]!", false),

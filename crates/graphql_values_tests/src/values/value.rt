@@ -1,3 +1,4 @@
+//! Queries of values.
 use graphql_base::name;
 use graphql_base::node::Node;
 use graphql_base::span::{FileId, SourceSpan};
@@ -5,7 +6,7 @@ use graphql_values::value::Value;
 use graphql_values::well_formed::{Constness, is_well_formed_at};
 use std::alloc::{AllocError, Global};
 
-// 1 at a place.
+/// 1 at a place.
 fn placed(alloc: Global, file: u64) -> Result<Node<Value>, AllocError> {
     let one = Value::from_i32(alloc, 1)?;
     match SourceSpan::new(FileId::new(file), 3, 4) {
@@ -14,7 +15,7 @@ fn placed(alloc: Global, file: u64) -> Result<Node<Value>, AllocError> {
     }
 }
 
-// The list of 1 at a place, and of a variable.
+/// The list of 1 at a place, and of a variable.
 fn list(alloc: Global, file: u64) -> Result<Value, AllocError> {
     let items = vec![in alloc;
         placed(alloc, file)?,

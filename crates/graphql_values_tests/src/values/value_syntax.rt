@@ -1,3 +1,4 @@
+//! Worked prints of values.
 use crate::checks::check_made;
 use graphql_base::name;
 use graphql_base::node::Node;

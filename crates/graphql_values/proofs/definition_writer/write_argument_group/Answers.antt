@@ -9,8 +9,8 @@ use Rattle.graphql_text.proofs.Slices.{next_item}
 use Rattle.graphql_text.proofs.StackLaws.{kept_twice, kept_unused}
 use Rattle.graphql_text.proofs.WritingLaws.{front_stopped}
 use Rattle.graphql_values.specs.DefinitionParts.{arguments_list_depth}
-use Rattle.graphql_values.specs.DefinitionTrees.{input_value_tree, input_value_trees}
-use Rattle.graphql_values.specs.InputValues.{arguments_definition_nesting, input_value_shape}
+use Rattle.graphql_values.specs.DefinitionTrees.{input_value_definition_tree, input_value_definition_trees}
+use Rattle.graphql_values.specs.InputValueDefinitions.{arguments_definition_nesting, input_value_definition_shape}
 use Rattle.graphql_values.proofs.DefinitionShapes.{argument_group_balanced, argument_group_opened, arguments_nest}
 use Rattle.graphql_values.proofs.definition_writer.write_argument_group.Goals as goal
 
@@ -20,7 +20,7 @@ inner-inner-requires g c = omega (arith, c.requires.fits, arguments_nest c.args.
 pub loop-argument-init : goal.loop-argument-init
 loop-argument-init g c =
     let broken = is_broken (mode_of c.args.place.now.prefix) in
-    let shapes = map (input_value_shape broken) (input_value_trees c.args.arguments.now) in
+    let shapes = map (input_value_definition_shape broken) (input_value_definition_trees c.args.arguments.now) in
     let opened = argument_group_opened broken c.args.arguments.now c.requires.some in
     let bracket = c.write_words.ensures.items (mode_of c.args.place.now.prefix) c.args.place.now.level (Word (Punctuation lparen) ∷ []) refl in
     record {
@@ -34,23 +34,23 @@ loop-argument-init g c =
 pub returns-then-is_stopped-clause-written : goal.returns-then-is_stopped-clause-written
 returns-then-is_stopped-clause-written g c =
     front_stopped g.met.O.Target.more c.loop-argument.invariant.written (λ x. g.met.O.Target.idle _ x (c.is_stopped.ensures.0 c.if-is_stopped.true))
-    (argument_group_balanced (is_broken (mode_of c.args.place.now.prefix)) (input_value_trees c.args.arguments.now))
+    (argument_group_balanced (is_broken (mode_of c.args.place.now.prefix)) (input_value_definition_trees c.args.arguments.now))
 
 pub loop-argument-preserved : goal.loop-argument-preserved
 loop-argument-preserved g c =
     let i = c.loop-argument.invariant in
     let broken = is_broken (mode_of c.args.place.now.prefix) in
     let step = next_item c.args.arguments.now c.loop-argument.argument-index c.argument-item.result c.loop-argument-test.true c.argument-item.is in
-    let left = ap (λ arguments. comma_rest rparen broken c.loop-argument.is_first (map (input_value_shape broken) (input_value_trees arguments))) step in
+    let left = ap (λ arguments. comma_rest rparen broken c.loop-argument.is_first (map (input_value_definition_shape broken) (input_value_definition_trees arguments))) step in
     let lead = rw c.inner-inner.ensures.prefix at c.write_comma_lead.ensures in
-    let argument = rw (c.inner-inner.ensures.prefix, c.deref.ensures) at c.write_input_value.ensures.written in
-    let shape = input_value_shape broken (input_value_tree (node_value c.argument-item.result)) in
-    let shapes = map (input_value_shape broken) (input_value_trees (drop (c.loop-argument.argument-index + 1) c.args.arguments.now)) in
+    let argument = rw (c.inner-inner.ensures.prefix, c.deref.ensures) at c.write_input_value_definition.ensures.written in
+    let shape = input_value_definition_shape broken (input_value_definition_tree (node_value c.argument-item.result)) in
+    let shapes = map (input_value_definition_shape broken) (input_value_definition_trees (drop (c.loop-argument.argument-index + 1) c.args.arguments.now)) in
     record {
-      nesting = omega (arith, i.nesting, ap (λ arguments. arguments_definition_nesting (input_value_trees arguments)) step);
-      depth = omega (arith, i.depth, ap (λ arguments. arguments_list_depth (input_value_trees arguments)) step);
-      values = kept_twice i.values c.write_input_value.ensures.values;
-      types = kept_twice i.types c.write_input_value.ensures.types;
+      nesting = omega (arith, i.nesting, ap (λ arguments. arguments_definition_nesting (input_value_definition_trees arguments)) step);
+      depth = omega (arith, i.depth, ap (λ arguments. arguments_list_depth (input_value_definition_trees arguments)) step);
+      values = kept_twice i.values c.write_input_value_definition.ensures.values;
+      types = kept_twice i.types c.write_input_value_definition.ensures.types;
       written = comma_next g.met.O.Target.more rparen broken c.loop-argument.is_first shape shapes i.written left lead argument;
     }
 
@@ -58,7 +58,7 @@ pub returns-clause-written : goal.returns-clause-written
 returns-clause-written g c =
     let mode = mode_of c.args.place.now.prefix in
     let broken = is_broken mode in
-    let none = ap (λ arguments. comma_rest rparen broken c.loop-argument.is_first (map (input_value_shape broken) (input_value_trees arguments))) (drop_of_length-le c.args.arguments.now c.loop-argument-test.false) in
+    let none = ap (λ arguments. comma_rest rparen broken c.loop-argument.is_first (map (input_value_definition_shape broken) (input_value_definition_trees arguments))) (drop_of_length-le c.args.arguments.now c.loop-argument-test.false) in
     let comma = rw c.inner-inner.ensures.prefix at c.write_last_comma.ensures in
     let bracket = c.write_words-2.ensures.items mode c.args.place.now.level (Word (Punctuation rparen) ∷ []) refl in
     comma_closed g.met.O.Target.nothing g.met.O.Target.more rparen broken c.loop-argument.invariant.written none c.inner-inner.ensures.level comma c.write_tight.ensures bracket

@@ -1,4 +1,4 @@
-use Rattle.graphql_values.specs.laws.KindLaws.{value_laws, type_laws, argument_laws, directive_laws, directives_laws, input_value_laws, directive_definition_laws}
+use Rattle.graphql_values.specs.laws.KindLaws.{value_laws, type_laws, argument_laws, directive_laws, directives_laws, input_value_definition_laws, directive_definition_laws}
 use Rattle.graphql_values.proofs.laws.trees_are_read_back.Goals as goal
 
 pub returns-clause-values : goal.returns-clause-values
@@ -16,8 +16,8 @@ returns-clause-directives c = directive_laws
 pub returns-clause-directive_lists : goal.returns-clause-directive_lists
 returns-clause-directive_lists c = directives_laws
 
-pub returns-clause-input_values : goal.returns-clause-input_values
-returns-clause-input_values c = input_value_laws
+pub returns-clause-input_value_definitions : goal.returns-clause-input_value_definitions
+returns-clause-input_value_definitions c = input_value_definition_laws
 
 pub returns-clause-directive_definitions : goal.returns-clause-directive_definitions
 returns-clause-directive_definitions c = directive_definition_laws

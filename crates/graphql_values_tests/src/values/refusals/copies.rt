@@ -31,7 +31,7 @@ fn a_type_is_made_and_copied_or_refused(rt: HostRuntime) {
 }
 
 #[test]
-fn an_input_value_is_copied_or_refused(rt: HostRuntime) {
+fn an_input_value_definition_is_copied_or_refused(rt: HostRuntime) {
     if let Ok(input) = input(rt.alloc()) {
         check_cloned_or_refused(&rt, &input);
     }

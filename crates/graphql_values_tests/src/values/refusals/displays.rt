@@ -32,7 +32,7 @@ fn directives_are_displayed_or_none_is(rt: HostRuntime) {
 }
 
 #[test]
-fn an_input_value_is_displayed_or_nothing_is(rt: HostRuntime) {
+fn an_input_value_definition_is_displayed_or_nothing_is(rt: HostRuntime) {
     if let Ok(input) = input(rt.alloc()) {
         check_displayed_or_refused(&rt, &input, "a: [[I!]] = [\n  [],\n  1.5,\n]");
     }

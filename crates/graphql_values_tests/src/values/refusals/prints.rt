@@ -51,7 +51,7 @@ fn directives_are_printed_or_none_is(rt: HostRuntime) {
 }
 
 #[test]
-fn an_input_value_is_printed_or_nothing_is(rt: HostRuntime) {
+fn an_input_value_definition_is_printed_or_nothing_is(rt: HostRuntime) {
     if let Ok(input) = input(rt.alloc()) {
         check_print_or_refused(&rt, &input, "a: [[I!]] = [[], 1.5]");
     }
@@ -86,7 +86,7 @@ fn the_text_of_directives_is_whole_or_refused(rt: HostRuntime) {
 }
 
 #[test]
-fn the_text_of_an_input_value_is_whole_or_refused(rt: HostRuntime) {
+fn the_text_of_an_input_value_definition_is_whole_or_refused(rt: HostRuntime) {
     if let Ok(input) = input(rt.alloc()) {
         check_text_or_refused(&rt, rt.alloc(), &input, "a: [[I!]] = [[], 1.5]");
     }
@@ -99,7 +99,7 @@ fn the_text_of_a_definition_is_whole_or_refused(rt: HostRuntime) {
     }
 }
 
-// The sink grows several times for so many bytes.
+/// The sink grows several times for so many bytes.
 fn check_vector(rt: &impl Abort, printed: Result<(), PrintError>, sink: &VecSink, wanted: &[u8]) {
     let bytes = sink.bytes();
     assert_eq!(rt; sink.faults(), u64::from(printed == Err(PrintError::Sink)));

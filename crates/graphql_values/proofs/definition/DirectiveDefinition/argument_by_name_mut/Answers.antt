@@ -1,11 +1,11 @@
 use Rattle.std.proofs.Common.{Some, refl, sym, ap, ◌∙◌}
-use Rattle.graphql_values.specs.NamedDefinitions.{is_input_value_named}
+use Rattle.graphql_values.specs.NamedDefinitions.{is_input_value_definition_named}
 use Rattle.graphql_values.proofs.FirstPlaces.{changed_at_position, found_at_position, not_found}
 use Rattle.graphql_values.proofs.definition.DirectiveDefinition.argument_by_name_mut.Goals as goal
 
 pub returns-in-Some : goal.returns-in-Some
 returns-in-Some c =
-    let test = is_input_value_named c.args.name.now in
+    let test = is_input_value_definition_named c.args.name.now in
     let items = c.args.self.now.arguments.items in
     let is_place = sym c.argument_position.ensures.place ∙ c.in-Some.is in (
       (
@@ -18,5 +18,5 @@ returns-in-Some c =
 
 pub returns-in-None : goal.returns-in-None
 returns-in-None c =
-    let none = not_found (is_input_value_named c.args.name.now) c.args.self.now.arguments.items (sym c.argument_position.ensures.place ∙ c.in-None.is) in
+    let none = not_found (is_input_value_definition_named c.args.name.now) c.args.self.now.arguments.items (sym c.argument_position.ensures.place ∙ c.in-None.is) in
     ((refl, (λ node none. absurd cc), refl), sym none)

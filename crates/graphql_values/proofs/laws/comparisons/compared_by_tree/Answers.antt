@@ -1,4 +1,4 @@
-use Rattle.graphql_values.proofs.DefinitionEquality.{directive_definitions_decide, input_values_decide, locations_decide}
+use Rattle.graphql_values.proofs.DefinitionEquality.{directive_definitions_decide, input_value_definitions_decide, locations_decide}
 use Rattle.graphql_values.proofs.DirectiveEquality.{arguments_decide, directive_lists_decide, directives_decide}
 use Rattle.graphql_values.proofs.Equality.{values_decide}
 use Rattle.graphql_values.proofs.TypeEquality.{types_decide}
@@ -19,8 +19,8 @@ returns-clause-directives c = directives_decide
 pub returns-clause-directive_lists : goal.returns-clause-directive_lists
 returns-clause-directive_lists c = directive_lists_decide
 
-pub returns-clause-input_values : goal.returns-clause-input_values
-returns-clause-input_values c = input_values_decide
+pub returns-clause-input_value_definitions : goal.returns-clause-input_value_definitions
+returns-clause-input_value_definitions c = input_value_definitions_decide
 
 pub returns-clause-directive_definitions : goal.returns-clause-directive_definitions
 returns-clause-directive_definitions c = directive_definitions_decide

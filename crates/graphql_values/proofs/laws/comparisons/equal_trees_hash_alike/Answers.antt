@@ -5,7 +5,7 @@ use Rattle.graphql_values.specs.contracts.types.TypeHash.TheImpl.Laws as type_re
 use Rattle.graphql_values.specs.contracts.directive.ArgumentHash.TheImpl.Laws as argument
 use Rattle.graphql_values.specs.contracts.directive.DirectiveHash.TheImpl.Laws as directive
 use Rattle.graphql_values.specs.contracts.directive.DirectiveListHash.TheImpl.Laws as directive_list
-use Rattle.graphql_values.specs.contracts.definition.InputValueDefinitionHash.TheImpl.Laws as input_value
+use Rattle.graphql_values.specs.contracts.definition.InputValueDefinitionHash.TheImpl.Laws as input_value_definition
 use Rattle.graphql_values.specs.contracts.definition.DirectiveDefinitionHash.TheImpl.Laws as directive_definition
 use Rattle.graphql_values.specs.contracts.operation_type.OperationTypeHash.TheImpl.Laws as operation_type
 use Rattle.graphql_values.specs.contracts.location.DirectiveLocationHash.TheImpl.Laws as location
@@ -32,8 +32,8 @@ returns-clause-directives c = directive.respects_eq-law
 pub returns-clause-directive_lists : goal.returns-clause-directive_lists
 returns-clause-directive_lists c = directive_list.respects_eq-law
 
-pub returns-clause-input_values : goal.returns-clause-input_values
-returns-clause-input_values c = input_value.respects_eq-law
+pub returns-clause-input_value_definitions : goal.returns-clause-input_value_definitions
+returns-clause-input_value_definitions c = input_value_definition.respects_eq-law
 
 pub returns-clause-directive_definitions : goal.returns-clause-directive_definitions
 returns-clause-directive_definitions c = directive_definition.respects_eq-law

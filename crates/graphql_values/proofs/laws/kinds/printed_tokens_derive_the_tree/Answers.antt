@@ -3,10 +3,10 @@ use Rattle.graphql_values.specs.Values.{value_form}
 use Rattle.graphql_values.specs.TypeReferences.{type_form}
 use Rattle.graphql_values.specs.Arguments.{argument_form}
 use Rattle.graphql_values.specs.Directives.{directive_form, directives_form}
-use Rattle.graphql_values.specs.InputValues.{input_value_form}
+use Rattle.graphql_values.specs.InputValueDefinitions.{input_value_definition_form}
 use Rattle.graphql_values.specs.DirectiveDefinitions.{directive_definition_form}
-use Rattle.graphql_values.specs.laws.ReadBack.{value_written, type_written, argument_written, directive_written, directives_written, input_value_written, directive_definition_written}
-use Rattle.graphql_values.specs.laws.Told.{told_value, told_reference, told_argument, told_directive, told_directives, told_input_value, told_directive_definition}
+use Rattle.graphql_values.specs.laws.ReadBack.{value_written, type_written, argument_written, directive_written, directives_written, input_value_definition_written, directive_definition_written}
+use Rattle.graphql_values.specs.laws.Told.{told_value, told_reference, told_argument, told_directive, told_directives, told_input_value_definition, told_directive_definition}
 use Rattle.graphql_values.proofs.laws.kinds.printed_tokens_derive_the_tree.Goals as goal
 
 pub returns-clause-values : goal.returns-clause-values
@@ -24,8 +24,8 @@ returns-clause-directives c = λ k directive obeys rest. told_derives (directive
 pub returns-clause-directive_lists : goal.returns-clause-directive_lists
 returns-clause-directive_lists c = λ k directives obeys rest. told_derives (directives_form k directives) rest (told_directives directives) (directives_written k directives obeys rest)
 
-pub returns-clause-input_values : goal.returns-clause-input_values
-returns-clause-input_values c = λ broken input obeys rest. told_derives (input_value_form input) rest (told_input_value broken input) (input_value_written input obeys rest)
+pub returns-clause-input_value_definitions : goal.returns-clause-input_value_definitions
+returns-clause-input_value_definitions c = λ broken input obeys rest. told_derives (input_value_definition_form input) rest (told_input_value_definition broken input) (input_value_definition_written input obeys rest)
 
 pub returns-clause-directive_definitions : goal.returns-clause-directive_definitions
 returns-clause-directive_definitions c = λ broken definition obeys rest.

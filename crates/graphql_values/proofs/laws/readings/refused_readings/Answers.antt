@@ -3,10 +3,10 @@ use Rattle.graphql_text.specs.Tokens.{Punctuation, Name, IntValue, dollar, colon
 use Rattle.graphql_text.proofs.Parsing.{not_read}
 use Rattle.graphql_values.specs.Values.{Const, NonConst}
 use Rattle.graphql_values.specs.Directives.{directive_form}
-use Rattle.graphql_values.specs.InputValues.{input_value_form}
+use Rattle.graphql_values.specs.InputValueDefinitions.{input_value_definition_form}
 use Rattle.graphql_values.specs.DirectiveDefinitions.{directive_definition_form}
 use Rattle.graphql_values.specs.laws.DirectiveReading.{directive_is_read}
-use Rattle.graphql_values.specs.laws.DefinitionReading.{input_value_is_read, directive_definition_is_read}
+use Rattle.graphql_values.specs.laws.DefinitionReading.{input_value_definition_is_read, directive_definition_is_read}
 use Rattle.graphql_values.proofs.Readings.{no_tokens_read, no_tree_read, no_value_read, open_list_found, constant_variable_found, no_colon_found, two_dollars_found, no_arguments_found, default_variable_found, no_location_found, unknown_location_found}
 use Rattle.graphql_values.proofs.laws.readings.refused_readings.Goals as goal
 
@@ -38,7 +38,7 @@ returns-clause-constant_variable c = no_value_read Const (codes "$a") (Punctuati
 
 pub returns-clause-default_variable : goal.returns-clause-default_variable
 returns-clause-default_variable c = λ input.
-    no_tree_read input_value_form (codes "a: Int = $x") (Name (codes "a") ∷ Punctuation colon ∷ Name (codes "Int") ∷ Punctuation equals ∷ Punctuation dollar ∷ Name (codes "x") ∷ []) refl input (not_read (input_value_is_read input) default_variable_found refl)
+    no_tree_read input_value_definition_form (codes "a: Int = $x") (Name (codes "a") ∷ Punctuation colon ∷ Name (codes "Int") ∷ Punctuation equals ∷ Punctuation dollar ∷ Name (codes "x") ∷ []) refl input (not_read (input_value_definition_is_read input) default_variable_found refl)
 
 pub returns-clause-no_location : goal.returns-clause-no_location
 returns-clause-no_location c = λ definition.

@@ -5,12 +5,12 @@ use Rattle.graphql_text.proofs.Sound.{lex_sound}
 use Rattle.graphql_values.specs.Values.{NonConst, boolean_value}
 use Rattle.graphql_values.specs.TypeReferences.{named_type, type_form}
 use Rattle.graphql_values.specs.Directives.{DirectiveTree, directive_form, directives_form}
-use Rattle.graphql_values.specs.InputValues.{InputValueTree, input_value_form}
+use Rattle.graphql_values.specs.InputValueDefinitions.{InputValueDefinitionTree, input_value_definition_form}
 use Rattle.graphql_values.specs.DirectiveLocations.{Field, Query}
 use Rattle.graphql_values.specs.DirectiveDefinitions.{directive_definition_form, directive_definition_body_form}
 use Rattle.graphql_values.specs.laws.KindLaws.{value_laws}
-use Rattle.graphql_values.specs.laws.ReadBack.{type_written, directive_written, directives_written, input_value_written, arguments_definition_written, directive_definition_written}
-use Rattle.graphql_values.specs.laws.PrintedTokens.{value_tokens, type_tokens, directive_tokens, input_value_tokens, directive_definition_tokens}
+use Rattle.graphql_values.specs.laws.ReadBack.{type_written, directive_written, directives_written, input_value_definition_written, arguments_definition_written, directive_definition_written}
+use Rattle.graphql_values.specs.laws.PrintedTokens.{value_tokens, type_tokens, directive_tokens, input_value_definition_tokens, directive_definition_tokens}
 use Rattle.graphql_values.proofs.Readings.{reads, reads_as}
 use Rattle.graphql_values.proofs.laws.readings.worked_readings.Goals as goal
 
@@ -78,16 +78,16 @@ unfolding no_tokens
 returns-clause-no_directives c = (refl, [], lex_sound [] [] refl, refl)
 
 pub returns-clause-input_value_definition : goal.returns-clause-input_value_definition
-unfolding input_value_tokens type_tokens value_tokens directive_tokens
-returns-clause-input_value_definition c = reads_as input_value_form (codes "\"d\" a: [Int!] = [1] @x") _ _ refl refl (input_value_written _ refl [])
+unfolding input_value_definition_tokens type_tokens value_tokens directive_tokens
+returns-clause-input_value_definition c = reads_as input_value_definition_form (codes "\"d\" a: [Int!] = [1] @x") _ _ refl refl (input_value_definition_written _ refl [])
 
-abbrev two_arguments : List InputValueTree
+abbrev two_arguments : List InputValueDefinitionTree
 two_arguments =
     (record { description = None; name = (record { text = codes "a"; valid = refl }); type = named_type (record { text = codes "Int"; valid = refl }); default_value = None; directives = (record { name = (record { text = codes "x"; valid = refl }); arguments = [] } ∷ []) })
     ∷ (record { description = None; name = (record { text = codes "b"; valid = refl }); type = named_type (record { text = codes "Int"; valid = refl }); default_value = None; directives = [] }) ∷ []
 
 pub returns-clause-directive_definition : goal.returns-clause-directive_definition
-unfolding directive_definition_form directive_definition_body_form input_value_tokens type_tokens directive_tokens token no_tokens optional_token name_except ◌⨟◌
+unfolding directive_definition_form directive_definition_body_form input_value_definition_tokens type_tokens directive_tokens token no_tokens optional_token name_except ◌⨟◌
 returns-clause-directive_definition c =
     reads_as directive_definition_form (codes "directive @d(a: Int @x, b: Int) repeatable on | FIELD | QUERY")
     (Name (codes "directive") ∷ Punctuation at ∷ Name (codes "d") ∷ Punctuation lparen ∷ Name (codes "a") ∷ Punctuation colon ∷ Name (codes "Int") ∷ Punctuation at ∷ Name (codes "x")

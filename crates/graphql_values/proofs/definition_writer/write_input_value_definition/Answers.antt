@@ -3,11 +3,11 @@ use Rattle.graphql_base.specs.Name.{name_text}
 use Rattle.graphql_text.specs.Layout.{Space, Word}
 use Rattle.graphql_text.specs.Tokens.{colon, Punctuation, Name}
 use Rattle.graphql_text.proofs.WritingLaws.{writes_then}
-use Rattle.graphql_values.specs.InputValues.{input_value_shape}
-use Rattle.graphql_values.proofs.definition_writer.write_input_value.Goals as goal
+use Rattle.graphql_values.specs.InputValueDefinitions.{input_value_definition_shape}
+use Rattle.graphql_values.proofs.definition_writer.write_input_value_definition.Goals as goal
 
 pub returns-clause-written : goal.returns-clause-written
-unfolding input_value_shape
+unfolding input_value_definition_shape
 returns-clause-written g c =
     let more = g.met.O.Target.more in
     let description = rw c.as_ref.ensures.value at c.write_leading_description.ensures in

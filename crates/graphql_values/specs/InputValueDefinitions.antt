@@ -13,7 +13,7 @@ use Rattle.graphql_values.specs.Descriptions.{description_form, description_shap
 use Rattle.graphql_values.specs.DefaultValues.{default_value_form, default_value_shape, default_value_nesting, default_value_obeys}
 
 -- An input value definition without locations: an argument of a field or directive definition, or a field of an input object.
-pub record InputValueTree : Type 0 where
+pub record InputValueDefinitionTree : Type 0 where
   pub description : Option StringText
   pub name : NameText
   pub type : TypeTree
@@ -21,45 +21,45 @@ pub record InputValueTree : Type 0 where
   pub directives : List DirectiveTree
 
 -- The grammar of InputValueDefinition, section 3.6.1.
-unfoldable pub input_value_form : InputValueTree → Form
-input_value_form input =
+unfoldable pub input_value_definition_form : InputValueDefinitionTree → Form
+input_value_definition_form input =
     description_form input.description ⨟ name_except [] input.name ⨟ token (Punctuation colon) ⨟ type_form input.type
     ⨟ default_value_form input.default_value ⨟ directives_form Const input.directives
 
 -- The layout of an input value definition.
-unfoldable pub input_value_shape : Bool → InputValueTree → List Item
-input_value_shape broken input =
+unfoldable pub input_value_definition_shape : Bool → InputValueDefinitionTree → List Item
+input_value_definition_shape broken input =
     description_shape input.description
     ++ (Word (Name input.name.text) ∷ Word (Punctuation colon) ∷ Space
     ∷ (type_shape input.type ++ (default_value_shape broken input.default_value ++ directives_shape input.directives)))
 
 -- It nests as its default value or its directives do, whichever nest more.
-abbrev pub input_value_nesting : InputValueTree → ℕ
-input_value_nesting input = max (default_value_nesting input.default_value) (directives_nesting input.directives)
+abbrev pub input_value_definition_nesting : InputValueDefinitionTree → ℕ
+input_value_definition_nesting input = max (default_value_nesting input.default_value) (directives_nesting input.directives)
 
 -- The side conditions are those of the default value and the directives, both at constant places.
-abbrev pub input_value_obeys : InputValueTree → Bool
-input_value_obeys input = default_value_obeys input.default_value && directives_obey Const input.directives
+abbrev pub input_value_definition_obeys : InputValueDefinitionTree → Bool
+input_value_definition_obeys input = default_value_obeys input.default_value && directives_obey Const input.directives
 
 -- The grammar of ArgumentsDefinition, section 3.6.1, or nothing where there is no argument.
-abbrev pub arguments_definition_form : List InputValueTree → Form
-arguments_definition_form = optional_group lparen input_value_form rparen
+abbrev pub arguments_definition_form : List InputValueDefinitionTree → Form
+arguments_definition_form = optional_group lparen input_value_definition_form rparen
 
-abbrev pub has_description_or_directives : InputValueTree → Bool
+abbrev pub has_description_or_directives : InputValueDefinitionTree → Bool
 has_description_or_directives input = is_some input.description || not (length input.directives == 0)
 
 -- The layout of an arguments definition. It stands on one line in every layout, unless one of its arguments has a description or a
 -- directive; then it has the mode around it. Without arguments there are no brackets.
-abbrev pub arguments_definition_shape : Bool → List InputValueTree → List Item
+abbrev pub arguments_definition_shape : Bool → List InputValueDefinitionTree → List Item
 arguments_definition_shape broken [] = []
 arguments_definition_shape broken (argument ∷ more) =
     cond (list_any has_description_or_directives (argument ∷ more))
-    (comma_group lparen rparen broken (map (input_value_shape broken) (argument ∷ more)))
-    (flat (comma_group lparen rparen false (map (input_value_shape false) (argument ∷ more))))
+    (comma_group lparen rparen broken (map (input_value_definition_shape broken) (argument ∷ more)))
+    (flat (comma_group lparen rparen false (map (input_value_definition_shape false) (argument ∷ more))))
 
 -- An arguments definition is a group.
-abbrev pub arguments_definition_nesting : List InputValueTree → ℕ
-arguments_definition_nesting arguments = group_nesting (map input_value_nesting arguments)
+abbrev pub arguments_definition_nesting : List InputValueDefinitionTree → ℕ
+arguments_definition_nesting arguments = group_nesting (map input_value_definition_nesting arguments)
 
-abbrev pub arguments_definition_obeys : List InputValueTree → Bool
-arguments_definition_obeys = list_all input_value_obeys
+abbrev pub arguments_definition_obeys : List InputValueDefinitionTree → Bool
+arguments_definition_obeys = list_all input_value_definition_obeys

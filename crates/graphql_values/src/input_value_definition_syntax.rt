@@ -2,15 +2,17 @@
 ghost use Rattle.std.specs.Prelude.{◌≡◌, Some, IsTrue, codes, encode_utf8_all};
 ghost use Rattle.graphql_text.specs.Reading.{layout_of};
 ghost use Rattle.graphql_text.specs.Printing.{print_tree, print_mode, print_level};
-ghost use Rattle.graphql_values.specs.DefinitionParts.{input_value_parts};
-ghost use Rattle.graphql_values.specs.DefinitionTrees.{input_value_tree};
-ghost use Rattle.graphql_values.specs.InputValues.{InputValueTree, input_value_form, input_value_nesting, input_value_obeys, input_value_shape};
-ghost use Rattle.graphql_values.specs.laws.KindLaws.{input_value_laws};
+ghost use Rattle.graphql_values.specs.DefinitionParts.{input_value_definition_parts};
+ghost use Rattle.graphql_values.specs.DefinitionTrees.{input_value_definition_tree};
+ghost use Rattle.graphql_values.specs.InputValueDefinitions.{InputValueDefinitionTree, input_value_definition_form, input_value_definition_nesting, input_value_definition_obeys, input_value_definition_shape};
+ghost use Rattle.graphql_values.specs.laws.KindLaws.{input_value_definition_laws};
 
 use crate::definition::InputValueDefinition;
-use crate::definition_writer::{DefinitionStacks, find_input_value_nesting, write_input_value};
+use crate::definition_writer::{
+    DefinitionStacks, find_input_value_definition_nesting, write_input_value_definition,
+};
 use crate::type_writer::find_list_depth;
-use crate::well_formed::is_input_value_well_formed;
+use crate::well_formed::is_input_value_definition_well_formed;
 use graphql_text::engine::{Serialize, Syntax};
 use graphql_text::place::Place;
 use graphql_text::target::Target;
@@ -31,35 +33,35 @@ impl InputValueDefinition {
     /// Whether no enum value in the default value and the directives is `true`, `false` or `null`, and no variable stands in them:
     /// both are constant.
     pub fn is_well_formed(&self) -> bool
-        ensures { result ≡ input_value_obeys (input_value_tree self.now) }
+        ensures { result ≡ input_value_definition_obeys (input_value_definition_tree self.now) }
     {
-        is_input_value_well_formed(self)
+        is_input_value_definition_well_formed(self)
     }
 }
 
 impl Syntax for InputValueDefinition {
-    ghost Tree = { InputValueTree };
+    ghost Tree = { InputValueDefinitionTree };
 
-    ghost tree = { input_value_tree };
+    ghost tree = { input_value_definition_tree };
 
-    ghost shape = { λ broken is_front. input_value_shape broken };
+    ghost shape = { λ broken is_front. input_value_definition_shape broken };
 
-    ghost nesting = { input_value_nesting };
+    ghost nesting = { input_value_definition_nesting };
 
-    ghost parts = { input_value_parts };
+    ghost parts = { input_value_definition_parts };
 
-    ghost obeys = { λ input. IsTrue (input_value_obeys input) };
+    ghost obeys = { λ input. IsTrue (input_value_definition_obeys input) };
 
-    ghost derives = { input_value_form };
+    ghost derives = { input_value_definition_form };
 
-    ghost laws = { input_value_laws };
+    ghost laws = { input_value_definition_laws };
 
     fn is_well_formed(&self) -> bool {
         InputValueDefinition::is_well_formed(self)
     }
 
     fn find_nesting(&self) -> Option<usize> {
-        find_input_value_nesting(self)
+        find_input_value_definition_nesting(self)
     }
 
     fn write<O: Target>(
@@ -72,13 +74,13 @@ impl Syntax for InputValueDefinition {
         let list_depth = find_list_depth(&self.ty).ok_or(AllocError)?;
         let mut stacks = DefinitionStacks::reserve(alloc, depth, list_depth)?;
         write_first_indent(out, place);
-        write_input_value(out, place, &mut stacks, self);
+        write_input_value_definition(out, place, &mut stacks, self);
         Ok(())
     }
 }
 
 impl fmt::Display for InputValueDefinition {
-    ghost output = { λ input. Some (encode_utf8_all (layout_of (λ broken is_front. input_value_shape broken) (Some (codes "  ")) 0 (input_value_tree input))) };
+    ghost output = { λ input. Some (encode_utf8_all (layout_of (λ broken is_front. input_value_definition_shape broken) (Some (codes "  ")) 0 (input_value_definition_tree input))) };
 
     fn fmt<W: fmt::Write>(&self, f: &mut fmt::Formatter<W>) -> fmt::Result {
         self.serialize().fmt(f)

@@ -1,6 +1,6 @@
 //! Worked prints of input value definitions.
 use crate::checks::check_made;
-use crate::samples::{input_value, push, with_argument};
+use crate::samples::{input_value_definition, push, with_argument};
 use graphql_base::name;
 use graphql_base::node::Node;
 use graphql_text::engine::{PrintError, Syntax};
@@ -10,24 +10,24 @@ use graphql_values::ty;
 use graphql_values::value::Value;
 use std::alloc::{AllocError, Global};
 
-// `["x\ny"]`
+/// `["x\ny"]`
 fn lines(alloc: Global) -> Result<Node<Value>, AllocError> {
     let text = Node::new(alloc, Value::from_text(alloc, "x\ny")?)?;
     Node::new(alloc, Value::List(vec![in alloc; text]?))
 }
 
-// `a: [S] = ["x\ny"]`
+/// `a: [S] = ["x\ny"]`
 fn with_default(alloc: Global) -> Result<InputValueDefinition, AllocError> {
-    let mut input = input_value(alloc, name!(a), ty!(in alloc; [S])?)?;
+    let mut input = input_value_definition(alloc, name!(a), ty!(in alloc; [S])?)?;
     input.default_value = Some(lines(alloc)?);
     Ok(input)
 }
 
-// `a: I @d(a: $x)`
+/// `a: I @d(a: $x)`
 fn with_variable(alloc: Global) -> Result<InputValueDefinition, AllocError> {
     let variable = Node::new(alloc, Value::Variable(name!(x)))?;
     let directive = with_argument(alloc, Directive::new(alloc, name!(d)), name!(a), variable)?;
-    let mut input = input_value(alloc, name!(a), ty!(I))?;
+    let mut input = input_value_definition(alloc, name!(a), ty!(I))?;
     push(alloc, &mut input.directives, directive)?;
     Ok(input)
 }

@@ -7,7 +7,7 @@ use Rattle.graphql_text.specs.BlockStringValue.{lines_of, is_blank}
 use Rattle.graphql_text.specs.Strings.{IsBlockRest, closing, escaped, itself, IsBlock}
 use Rattle.graphql_text.specs.BlockForm.{escape_quotes, begins_unindented, can_be_block, would_join_closing_quotes, broken_line, block_on_one_line, block_over_lines, block_form}
 use Rattle.std.proofs.lemmas.Bool.{and_parts}
-use Rattle.graphql_text.proofs.Tests.{all_three, and-false}
+use Rattle.graphql_text.proofs.Tests.{all_three, outer_fail, and-false}
 use Rattle.graphql_text.proofs.BlockValue.{raw_line, raw_lines, plain_space, many_value, one_value}
 
 -- no `"` at the front
@@ -231,12 +231,9 @@ pub block_form_is : (prefix : List ℕ) (level : ℕ) (long : Bool) (value : Lis
 block_form_is prefix level long value h k =
     go (list_any (λ c. c == 0xA) value || long || would_join_closing_quotes value) refl
   where
-    neither : (a b c : Bool) → (a || b || c) ≡ false → (a ≡ false) × (c ≡ false)
-    neither a b c h = grind arith
-
     go : (b : Bool) →
         (list_any (λ c. c == 0xA) value || long || would_join_closing_quotes value) ≡ b →
         IsBlock (if b then block_over_lines (repeat level prefix) value else block_on_one_line value) value
     go true e = over_lines_is (repeat level prefix) value (blank_repeat level prefix h) k
     go false e =
-        let (lf, open_end) = neither (list_any (λ c. c == 0xA) value) long (would_join_closing_quotes value) e in on_one_line_is value k lf open_end
+        let (lf, open_end) = outer_fail (list_any (λ c. c == 0xA) value) long (would_join_closing_quotes value) e in on_one_line_is value k lf open_end

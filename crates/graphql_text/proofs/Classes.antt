@@ -1,10 +1,11 @@
 -- Which classes of characters are apart.
-use Rattle.std.proofs.Common.{◌≡◌, ℕ, Bool, true, false, ◌||◌, ◌==◌, List, [], ◌∷◌, codes, arith, refl}
+use Rattle.std.proofs.Common.{◌≡◌, ℕ, ◌<◌, Bool, true, false, not, ◌&&◌, ◌||◌, ◌==◌, nat_lt, None, List, [], ◌∷◌, codes, arith, refl}
 use Rattle.std.proofs.lemmas.Bool.Decides.{nat_tests}
 use Rattle.std.specs.Char.{is_ascii_digit}
 use Rattle.std.specs.Int.{is_in_range}
 use Rattle.std.specs.List.{list_all, list_any, AllByRecursion}
-use Rattle.graphql_text.specs.Characters.{is_line_terminator, is_ignored, follows_no_number, is_quote}
+use Rattle.graphql_text.specs.Characters.{is_line_terminator, is_ignored, follows_no_number, is_quote, is_plain_string_character}
+use Rattle.graphql_text.specs.QuotedForm.{escape_letter}
 use Rattle.std.proofs.lemmas.Bool.{and_parts, and_from}
 use Rattle.graphql_base.specs.Names.{is_name_start}
 use Rattle.graphql_text.specs.Literals.{is_exponent_indicator, begins_float_part}
@@ -98,3 +99,9 @@ positive_not_zero c h = grind (arith, nat_tests)
 
 pub mark_either : (c : ℕ) → is_exponent_indicator c ≡ true → begins_float_part c ≡ true
 mark_either c h = grind (arith, nat_tests)
+
+pub below_space : (c : ℕ) → (nat_lt c 0x20 && not (c == 0x9)) ≡ true → c < 32
+below_space c h = grind (arith, nat_tests)
+
+pub unescaped_plain : (c : ℕ) → escape_letter c ≡ None → is_plain_string_character c ≡ true
+unescaped_plain c h = grind (arith, nat_tests)

@@ -7,6 +7,7 @@ use Rattle.graphql_text.specs.BlockStringValue.{lines_of, is_blank}
 use Rattle.graphql_text.specs.BlockForm.{escape_quotes, would_join_closing_quotes, block_on_one_line, broken_line, block_over_lines, block_form}
 use Rattle.graphql_text.specs.Lines.{ScanState, Outside, OneQuote, TwoQuotes, InBlock}
 use Rattle.graphql_text.proofs.EscapeSteps.{escape_from, escape_from_is}
+use Rattle.graphql_text.proofs.Tests.{outer_fail}
 use Rattle.graphql_text.proofs.LineScan.{has_no_lf, stays_indented, first_is_indented, step, line_feed, line_break}
 
 -- Where a scan stands within a written line of a block string: behind no quote, one, or two that end nothing,
@@ -224,10 +225,7 @@ module _ (prefix : List ℕ) (level depth times : ℕ) (rest : List ℕ) (blank 
   pub block_step : (long : Bool) (value : List ℕ) → stays_indented prefix level Outside depth (block_form indent long value ++ rest) ≡ true
   block_step long value = go (list_any (λ c. c == 10) value || long || would_join_closing_quotes value) refl
     where
-      apart : (a b c : Bool) → (a || b || c) ≡ false → (a ≡ false) × (c ≡ false)
-      apart a b c h = grind arith
-
       go : (b : Bool) → (list_any (λ c. c == 10) value || long || would_join_closing_quotes value) ≡ b →
           stays_indented prefix level Outside depth ((if b then block_over_lines indent value else block_on_one_line value) ++ rest) ≡ true
       go true e = over_lines value
-      go false e = let (no_lf, no_join) = apart (list_any (λ c. c == 10) value) long (would_join_closing_quotes value) e in on_one_line value no_lf no_join
+      go false e = let (no_lf, no_join) = outer_fail (list_any (λ c. c == 10) value) long (would_join_closing_quotes value) e in on_one_line value no_lf no_join

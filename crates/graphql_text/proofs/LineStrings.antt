@@ -8,6 +8,7 @@ use Rattle.graphql_base.specs.Names.{begins_in}
 use Rattle.graphql_text.specs.Characters.{is_line_terminator, is_quote, is_plain_string_character}
 use Rattle.graphql_text.specs.QuotedForm.{escape_letter, upper_hex_digit, written, quoted_character, quoted_form}
 use Rattle.graphql_text.specs.Lines.{ScanState, Outside, OneQuote, TwoQuotes, InQuoted, HasNoLineBreak}
+use Rattle.graphql_text.proofs.Classes.{below_space, unescaped_plain}
 use Rattle.graphql_text.proofs.LineScan.{stays_indented, step}
 
 -- THE QUOTED FORM
@@ -25,9 +26,6 @@ hex_plain d h = go (nat_lt d 10)
 plain_parts : (c : ℕ) → is_plain_string_character c ≡ true → ((c == 10) ≡ false) × (is_quote c ≡ false) × ((c == 92) ≡ false) × (is_line_terminator c ≡ false)
 plain_parts c h = grind (arith, nat_tests)
 
-unescaped_plain : (c : ℕ) → escape_letter c ≡ None → is_plain_string_character c ≡ true
-unescaped_plain c h = grind (arith, nat_tests)
-
 no_lf : (c : ℕ) → is_line_terminator c ≡ false → (c == 10) ≡ false
 no_lf c h = grind (arith, nat_tests)
 
@@ -40,13 +38,9 @@ written_cases : (P : List ℕ → Type 0) → ((letter : ℕ) → is_line_termin
     ((c : ℕ) → is_plain_string_character c ≡ true → P (c ∷ [])) → (c : ℕ) → P (quoted_character c)
 written_cases P letters digits plain c = go (escape_letter c) refl
   where
-    small : (a b : Bool) → nat_lt c 0x20 ≡ a → (a && b) ≡ true → c < 32
-    small true b e k = grind (arith, nat_tests)
-    small false b e k = cc
-
     unescaped : (b : Bool) → escape_letter c ≡ None → (nat_lt c 0x20 && not (c == 0x9)) ≡ b → P (cond b (codes "\\u00" ++ (upper_hex_digit (c / 16) ∷ upper_hex_digit (c % 16) ∷ [])) (c ∷ []))
     unescaped true none e =
-        let less : c < 32 = small (nat_lt c 0x20) (not (c == 0x9)) refl e in
+        let less : c < 32 = below_space c e in
         digits (upper_hex_digit (c / 16)) (upper_hex_digit (c % 16)) (hex_plain (c / 16) (omega (arith, less))) (hex_plain (c % 16) (omega (arith, less)))
     unescaped false none e = plain c (unescaped_plain c none)
 

@@ -17,7 +17,7 @@ pub begins_fewer : (larger smaller : ℕ → Bool) (text : List ℕ) →
 begins_fewer larger smaller [] fewer h = refl
 begins_fewer larger smaller (c ∷ cs) fewer h = fewer c h
 
-is_point : ℕ → Bool
+pub is_point : ℕ → Bool
 is_point c = c == 0x2E
 
 past_digits-append : (digits after : List ℕ) → IsDigits digits →

@@ -1,13 +1,14 @@
 -- The quoted form spells its value.
-use Rattle.std.proofs.Common.{◌≡◌, ℕ, zero, suc, ◌<◌, ◌/◌, ◌%◌, Bool, true, false, cond, ◌&&◌, not, ◌==◌, nat_lt, List, [], ◌∷◌, ◌++◌, codes, refl, ap, ◌∙◌, subst, inl, inr, ◌⊎◌, arith, flat_map, Option, Some, None, ltb-true, eqb-true}
+use Rattle.std.proofs.Common.{◌≡◌, ℕ, zero, suc, ◌<◌, ◌/◌, ◌%◌, Bool, true, false, cond, ◌&&◌, not, ◌==◌, nat_lt, List, [], ◌∷◌, ◌++◌, codes, refl, ap, ◌∙◌, subst, inl, inr, ◌⊎◌, arith, flat_map, Option, Some, None, eqb-true}
 use Rattle.std.proofs.lemmas.Bool.Decides.{nat_tests}
 use Rattle.std.specs.Char.{is_ascii_hexdigit}
-use Rattle.graphql_text.specs.Characters.{is_quote, is_plain_string_character, is_surrogate, escaped_character_value, unicode_escape_value}
+use Rattle.graphql_text.specs.Characters.{is_quote, is_surrogate, escaped_character_value, unicode_escape_value}
 use Rattle.graphql_base.specs.Names.{begins_in}
 use Rattle.graphql_text.specs.Strings.{StandsFor, plain, unicode, letter, StringCharacters}
 use Rattle.graphql_text.specs.Tokens.{StringValue, Spells}
 use Rattle.graphql_text.specs.QuotedForm.{escape_letter, upper_hex_digit, written, quoted_character, quoted_form}
 use Rattle.graphql_text.proofs.Tests.{and-0, and-1}
+use Rattle.graphql_text.proofs.Classes.{below_space, unescaped_plain}
 
 -- a test that passes at each number below n
 abbrev all_below : ℕ → (ℕ → Bool) → Bool
@@ -39,12 +40,6 @@ letter_stands c e h = grind (arith, nat_tests)
 no_surrogate_below : (c : ℕ) → c < 32 → is_surrogate c ≡ false
 no_surrogate_below c lt = grind (arith, nat_tests)
 
-plain_stands : (c : ℕ) → escape_letter c ≡ None → is_plain_string_character c ≡ true
-plain_stands c h = grind (arith, nat_tests)
-
-low : (c : ℕ) → (nat_lt c 0x20 && not (c == 0x9)) ≡ true → c < 32
-low c h = ltb-true c 32 (and-0 (nat_lt c 0x20) (not (c == 0x9)) h)
-
 both_more : (a b : Bool) → (a && b) ≡ true → (a && (b && true)) ≡ true
 both_more true true h = refl
 both_more true false h = cc
@@ -53,9 +48,9 @@ both_more false b h = cc
 unescaped_stands : (c : ℕ) (b : Bool) → escape_letter c ≡ None →
     (nat_lt c 0x20 && not (c == 0x9)) ≡ b →
     StandsFor (cond b (codes "\\u00" ++ (upper_hex_digit (c / 16) ∷ upper_hex_digit (c % 16) ∷ [])) (c ∷ [])) c
-unescaped_stands c false none is = plain (plain_stands c none)
+unescaped_stands c false none is = plain (unescaped_plain c none)
 unescaped_stands c true none is =
-    let lt = low c is in
+    let lt = below_space c is in
     let right = hex_right c lt in
     let same = eqb-true _ _ (and-0 _ _ right) in
     let digits = and-1 _ _ right in

@@ -12,7 +12,7 @@ use Rattle.graphql_text.specs.Tokens.{Punctuator, bang, dollar, amp, lparen, rpa
 use Rattle.graphql_text.specs.Layout.{Item, Word, StringItem, StringRole, wants_block, Space, Comma, Soft, Tight, Blank, Finish, Raise, Lower, IsBlankMode, break_text, string_text, word_text, text_of_items, layout}
 use Rattle.graphql_text.specs.Spelling.{StandsBefore}
 use Rattle.graphql_text.proofs.Spelling.{Gives}
-use Rattle.graphql_text.proofs.Classes.{list_all_each}
+use Rattle.graphql_text.proofs.Classes.{list_all_each, below_space}
 use Rattle.std.proofs.lemmas.Bool.{and_parts, and_from}
 use Rattle.graphql_text.proofs.Ascii.{low_each, low_scalars, name_low, int_low, float_low}
 
@@ -62,14 +62,10 @@ character_scalars c h =
     by_test true x y p q = p
     by_test false x y p q = q
 
-    small : (a b : Bool) → nat_lt c 0x20 ≡ a → (a && b) ≡ true → c < 32
-    small true b e k = grind (arith, nat_tests)
-    small false b e k = cc
-
     plain : (b : Bool) → (nat_lt c 0x20 && not (c == 0x9)) ≡ b →
         all_scalars (cond b (codes "\\u00" ++ (upper_hex_digit (c / 16) ∷ upper_hex_digit (c % 16) ∷ [])) (c ∷ [])) ≡ true
     plain true e =
-        let less : c < 32 = small (nat_lt c 0x20) (not (c == 0x9)) refl e in
+        let less : c < 32 = below_space c e in
         and_from (scalar (upper_hex_digit (c / 16))) (all_scalars (upper_hex_digit (c % 16) ∷ [])) (low_scalar (upper_hex_digit (c / 16)) (low_hex (c / 16) (omega (arith, less))))
         (and_from (scalar (upper_hex_digit (c % 16))) true (low_scalar (upper_hex_digit (c % 16)) (low_hex (c % 16) (omega (arith, less)))) refl)
     plain false e = and_from (scalar c) true h refl

@@ -135,9 +135,6 @@ PartIs P mark text None = Unit {0}
 PartIs P mark text (Some rest) =
     ((first : List ℕ) × (text ≡ first ++ rest) × P first × (begins_in mark text ≡ true)) ⊎ ((rest ≡ text) × (begins_in mark text ≡ false))
 
-is_point : ℕ → Bool
-is_point c = c == 0x2E
-
 fraction_from_digits : (c : ℕ) (cs : List ℕ) (o : Option (List ℕ)) → (c == 0x2E) ≡ true →
     FrontIs IsDigits cs o → PartIs IsFraction (λ c. c == 0x2E) (c ∷ cs) o
 fraction_from_digits c cs None point h = tt

@@ -1,5 +1,5 @@
 -- Tests made of tests.
-use Rattle.std.proofs.Common.{◌≡◌, Bool, true, false, ◌&&◌, refl}
+use Rattle.std.proofs.Common.{◌≡◌, Bool, true, false, ◌&&◌, ◌||◌, refl, arith}
 use Rattle.std.proofs.lemmas.Bool.{and_right}
 
 pub and-0 : (a b : Bool) → (a && b) ≡ true → a ≡ true
@@ -12,6 +12,9 @@ and-1 false b e = cc
 
 pub all_three : (a b c : Bool) → (a && b && c) ≡ true → (a ≡ true) × (b ≡ true) × (c ≡ true)
 all_three a b c e = (and-0 a b (and-0 (a && b) c e), and-1 a b (and-0 (a && b) c e), and-1 (a && b) c e)
+
+pub outer_fail : (a b c : Bool) → (a || b || c) ≡ false → (a ≡ false) × (c ≡ false)
+outer_fail a b c h = grind arith
 
 pub and-false : (a : Bool) → (a && false) ≡ false
 and-false a = and_right a false refl

@@ -82,21 +82,6 @@ module _ (broken : Bool) where
       go [] k = absurd (omega arith)
       go (f ∷ fs) k = object_opens f fs
 
--- by how much a list and an object raise the level
-pub list_level : (v : Vec (Node Value) Global) → 0 < length v.items → opened_level (value_tree (variant.List v)) ≡ 1
-list_level v h = rw (value_tree_list v) (go v.items h)
-  where
-    go : (ns : List (Node Value)) → 0 < length ns → opened_level (list_value (value_trees ns)) ≡ 1
-    go [] k = absurd (omega arith)
-    go (n ∷ ns) k = refl
-
-pub object_level : (v : Vec (Name × Node Value) Global) → 0 < length v.items → opened_level (value_tree (variant.Object v)) ≡ 1
-object_level v h = rw (value_tree_object v) (go v.items h)
-  where
-    go : (fs : List (Name × Node Value)) → 0 < length fs → opened_level (object_value (object_field_trees fs)) ≡ 1
-    go [] k = absurd (omega arith)
-    go (f ∷ fs) k = refl
-
 -- an empty list or object
 pub empty_list : (v : Vec (Node Value) Global) → length v.items ≡ 0 → value_tree (variant.List v) ≡ list_value no_values
 empty_list v h = value_tree_list v ∙ go v.items h
@@ -168,20 +153,6 @@ leaf_opening broken (string_value string) e = refl
 leaf_opening broken (float_value float) e = refl
 leaf_opening broken (int_value int) e = refl
 leaf_opening broken (boolean_value boolean) e = refl
-
--- a value that holds nothing nests nothing
-pub leaf_nesting : (value : ValueTree) → opened_level value ≡ 0 → value_nesting value ≡ 0
-leaf_nesting (list_value (more_values value more)) e = absurd (omega arith)
-leaf_nesting (object_value (more_fields name value more)) e = absurd (omega arith)
-leaf_nesting (list_value no_values) e = refl
-leaf_nesting (object_value no_fields) e = refl
-leaf_nesting null_value e = refl
-leaf_nesting (enum_value name) e = refl
-leaf_nesting (variable name) e = refl
-leaf_nesting (string_value string) e = refl
-leaf_nesting (float_value float) e = refl
-leaf_nesting (int_value int) e = refl
-leaf_nesting (boolean_value boolean) e = refl
 
 -- what is written of a value raises the level as often as it lowers it
 mutual

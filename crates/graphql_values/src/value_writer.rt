@@ -51,7 +51,7 @@ pub fn find_value_nesting(value: &Value) -> Option<usize>
 
 #[cycle(nesting)]
 #[inline(never)]
-#[tactic(auto, using(crate::proofs::ValueShapes::leaf_nesting, crate::proofs::ValueShapes::nesting_some, std::proofs::lemmas::Grind::common_steps))]
+#[tactic(auto, using(crate::proofs::ValueShapes::nesting_some))]
 fn find_items_nesting(items: &[Node<Value>]) -> Option<usize>
     ensures { MatchOption result (2 ^ 64 ≤ values_nesting (value_trees items.now)) (λ n. n ≡ values_nesting (value_trees items.now)) }
 {
@@ -69,7 +69,7 @@ fn find_items_nesting(items: &[Node<Value>]) -> Option<usize>
 
 #[cycle(nesting)]
 #[inline(never)]
-#[tactic(auto, using(crate::proofs::ValueShapes::leaf_nesting, crate::proofs::ValueShapes::fields_some, std::proofs::lemmas::Grind::common_steps))]
+#[tactic(auto, using(crate::proofs::ValueShapes::fields_some))]
 fn find_fields_nesting(fields: &[(Name, Node<Value>)]) -> Option<usize>
     ensures { MatchOption result (2 ^ 64 ≤ object_fields_nesting (object_field_trees fields.now)) (λ n. n ≡ object_fields_nesting (object_field_trees fields.now)) }
 {
@@ -87,7 +87,7 @@ fn find_fields_nesting(fields: &[(Name, Node<Value>)]) -> Option<usize>
 
 /// The opening bracket of a list or an object with items. Any other value is written whole at once.
 #[inline(always)]
-#[tactic(auto, using(crate::proofs::ValueShapes::list_level, crate::proofs::ValueShapes::object_level, crate::proofs::ValueShapes::empty_list, crate::proofs::ValueShapes::empty_object, crate::proofs::ValueShapes::list_bracket, crate::proofs::ValueShapes::object_bracket, std::proofs::lemmas::Grind::common_steps))]
+#[tactic(auto, using(crate::proofs::ValueShapes::empty_list, crate::proofs::ValueShapes::empty_object, crate::proofs::ValueShapes::list_bracket, crate::proofs::ValueShapes::object_bracket))]
 fn opening_bracket(value: &Value) -> Option<&'static str>
     ensures { MatchOption result (opened_level (value_tree value.now) ≡ 0)
         (λ bracket. (opened_level (value_tree value.now) ≡ 1) × (fixed_text (opening_word (value_tree value.now)) ≡ Some bracket.now)) }
@@ -136,7 +136,7 @@ fn boolean_word(boolean: bool) -> &'static str
 
 /// Puts on the stack what is in a value: the items or fields of a list or an object that has some.
 #[inline(always)]
-#[tactic(auto, using(crate::proofs::ValueShapes::nesting_some, crate::proofs::ValueShapes::fields_some, crate::proofs::ValueShapes::value_nesting_list, crate::proofs::ValueShapes::value_nesting_object, crate::proofs::ValueShapes::list_opened, crate::proofs::ValueShapes::object_opened, crate::proofs::ValueShapes::list_level, crate::proofs::ValueShapes::object_level, crate::proofs::ValueShapes::empty_list, crate::proofs::ValueShapes::empty_object, crate::proofs::ValueStack::stack_items_push, crate::proofs::ValueStack::stack_need_push, std::proofs::lemmas::Grind::common_steps))]
+#[tactic(auto, using(crate::proofs::ValueShapes::nesting_some, crate::proofs::ValueShapes::fields_some, crate::proofs::ValueShapes::value_nesting_list, crate::proofs::ValueShapes::value_nesting_object, crate::proofs::ValueShapes::list_opened, crate::proofs::ValueShapes::object_opened, crate::proofs::ValueStack::stack_items_push, crate::proofs::ValueStack::stack_need_push, std::proofs::lemmas::Grind::common_steps))]
 fn put_inner<'a>(stack: &mut Stack<ValuePart<'a>>, value: &'a Value)
     requires room { max (length (stack_parts stack.old) + value_nesting (value_tree value.now)) (stack_need (stack_parts stack.old)) ≤ stack_room stack.old }
     ensures room { stack_room stack.old ≤ stack_room stack.new }

@@ -2,6 +2,7 @@
 ghost use Rattle.std.specs.Prelude.{◌≡◌, ◌↔◌, IsTrue};
 ghost use Rattle.std.specs.Ordering.{nat_cmp};
 ghost use Rattle.std.specs.Cmp.Lexicographic.{slice_cmp};
+ghost use Rattle.std.specs.Hash as fed;
 ghost use Rattle.std.specs.declared.cmp.Ordering.TheVariants.{Equal};
 ghost use Rattle.graphql_base.specs.Names.{is_name};
 ghost use Rattle.graphql_base.specs.Span.{file_number, span_file, span_start, span_end};
@@ -47,9 +48,11 @@ pub fn name_order_agrees_with_equality(a: &Name, b: &Name)
     ensures { (⟦<Name as Ord>⟧.cmp a.now b.now ≡ Equal) ↔ IsTrue (⟦<Name as PartialEq>⟧.eq a.now b.now) }
 {}
 
-/// Equal names hash alike.
-pub fn equal_names_hash_alike(a: &Name, b: &Name)
-    ensures { IsTrue (⟦<Name as PartialEq>⟧.eq a.now b.now)
+/// A name hashes as its text does, wherever it stands, and whether its text is static or shared: so equal names
+/// hash alike.
+pub fn names_hash_by_text(a: &Name, b: &Name)
+    ensures text { ⟦<Name as Hash>⟧.hash_input a.now ≡ fed.str (name_text a.now) }
+    ensures alike { IsTrue (⟦<Name as PartialEq>⟧.eq a.now b.now)
         → ⟦<Name as Hash>⟧.hash_input a.now ≡ ⟦<Name as Hash>⟧.hash_input b.now }
 {}
 
@@ -58,14 +61,10 @@ pub fn nodes_compare_by_value<T: PartialEq>(a: &Node<T>, b: &Node<T>)
     ensures { ⟦<Node<T> as PartialEq>⟧.eq a.now b.now ≡ T.eq (node_value a.now) (node_value b.now) }
 {}
 
-/// A node hashes as its value does.
-pub fn nodes_hash_by_value<T: Hash>(node: &Node<T>)
-    ensures { ⟦<Node<T> as Hash>⟧.hash_input node.now ≡ T.hash_input (node_value node.now) }
-{}
-
-/// Equal nodes hash alike where their values do.
-pub fn equal_nodes_hash_alike<T: Hash>(a: &Node<T>, b: &Node<T>)
-    ensures { IsTrue (⟦<Node<T> as PartialEq>⟧.eq a.now b.now)
+/// A node hashes as its value does, wherever it stands: so equal nodes hash alike.
+pub fn nodes_hash_by_value<T: Hash>(a: &Node<T>, b: &Node<T>)
+    ensures value { ⟦<Node<T> as Hash>⟧.hash_input a.now ≡ T.hash_input (node_value a.now) }
+    ensures alike { IsTrue (⟦<Node<T> as PartialEq>⟧.eq a.now b.now)
         → ⟦<Node<T> as Hash>⟧.hash_input a.now ≡ ⟦<Node<T> as Hash>⟧.hash_input b.now }
 {}
 
@@ -74,9 +73,10 @@ pub fn node_strs_compare_by_text(a: &NodeStr, b: &NodeStr)
     ensures { IsTrue (⟦<NodeStr as PartialEq>⟧.eq a.now b.now) ↔ (node_str_text a.now ≡ node_str_text b.now) }
 {}
 
-/// Equal shared texts hash alike.
-pub fn equal_node_strs_hash_alike(a: &NodeStr, b: &NodeStr)
-    ensures { IsTrue (⟦<NodeStr as PartialEq>⟧.eq a.now b.now)
+/// A shared text hashes as its text does, wherever it stands: so equal ones hash alike.
+pub fn node_strs_hash_by_text(a: &NodeStr, b: &NodeStr)
+    ensures text { ⟦<NodeStr as Hash>⟧.hash_input a.now ≡ fed.str (node_str_text a.now) }
+    ensures alike { IsTrue (⟦<NodeStr as PartialEq>⟧.eq a.now b.now)
         → ⟦<NodeStr as Hash>⟧.hash_input a.now ≡ ⟦<NodeStr as Hash>⟧.hash_input b.now }
 {}
 

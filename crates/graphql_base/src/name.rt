@@ -1,5 +1,6 @@
 //! Names, with their syntax.
-ghost use Rattle.std.specs.Prelude.{◌≡◌, ◌↔◌, IfOk, IfErr, IfSome, IsTrue, IsSome, IsOk, Some, None, length, true, false};
+ghost use Rattle.std.specs.Prelude.{◌≡◌, ◌↔◌, true, false, length};
+ghost use Rattle.std.specs.Prelude.{IfOk, IfErr, IfSome, IsTrue, IsSome, IsOk, Some, None};
 ghost use Rattle.std.specs.List.{list_all};
 ghost use Rattle.std.specs.Rc.{rc_str_bytes};
 ghost use Rattle.graphql_base.specs.Names.{is_name, is_name_start, is_name_continue, begins_in};

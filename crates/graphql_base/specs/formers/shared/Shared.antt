@@ -1,5 +1,5 @@
--- `Shared<T>` as a type that may hold the type that holds it, as a tree holds its nodes. In memory it is a pointer to an `Rc`'s block, where the one `T` lies;
--- contracts see that `T` alone. The names that are public here are those that the checker asks for.
+-- How a node holds nodes again: what the checker asks for, so that `Shared<T>` may stand within its own `T`. In memory it
+-- is a pointer to the block of an `Rc`, where the one `T` lies; contracts see that `T` alone.
 use mathlib.Core.Path.{refl}
 use mathlib.Core.Former.{Former, this, const, pair, via}
 use base.Fml.{ftrue}

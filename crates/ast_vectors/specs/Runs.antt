@@ -3,10 +3,9 @@ use Rattle.std.specs.Prelude.{ℕ, List, [], ◌∷◌, ◌++◌, Bool, false, O
 use Rattle.std.specs.declared.alloc.Global.{Global}
 use Rattle.std.specs.Io.KnownBytes.{Appends}
 use Rattle.graphql_text.specs.Forms.{is_one_of}
-use Rattle.graphql_text.specs.Layout.{Item}
-use Rattle.graphql_text.specs.Reading.{layout_of}
-use Rattle.graphql_values.specs.DirectiveDefinitions.{DirectiveDefinitionTree, directive_definition_shape}
-use Rattle.graphql_values.specs.Values.{ValueTree, value_shape}
+use Rattle.graphql_text.specs.Kinds.{Kind, layout_of}
+use Rattle.graphql_values.specs.DirectiveDefinitions.{directive_definition_kind}
+use Rattle.graphql_values.specs.Values.{ValueTree, value_kind}
 
 -- the numbers of the vectors
 abbrev pub vector_numbers : List (List ℕ)
@@ -23,18 +22,18 @@ name_a_vector (word ∷ []) = is_vector_number (string_bytes word)
 name_a_vector words = false
 
 -- the line of a tree: its layout with this prefix, or none on one line, from this level on, and a line feed
-abbrev pub line_of : {Tree : Type 0} → (Bool → Bool → Tree → List Item) → Option (List ℕ) → ℕ → Tree → List ℕ
-line_of shape mode level tree = encode_utf8_all (layout_of shape mode level tree) ++ codes "\n"
+abbrev pub line_of : (kind : Kind) → Option (List ℕ) → ℕ → kind.Tree → List ℕ
+line_of kind mode level tree = encode_utf8_all (layout_of kind mode level tree) ++ codes "\n"
 
 -- a tree that a vector may have
 pub data VectorTree : Type 0 where
   a_value : ValueTree → VectorTree
-  a_directive_definition : DirectiveDefinitionTree → VectorTree
+  a_directive_definition : directive_definition_kind.Tree → VectorTree
 
 -- the line of such a tree
 abbrev pub vector_line : Option (List ℕ) → ℕ → VectorTree → List ℕ
-vector_line mode level (a_value tree) = line_of (λ broken is_front. value_shape broken) mode level tree
-vector_line mode level (a_directive_definition tree) = line_of (λ broken is_front. directive_definition_shape broken) mode level tree
+vector_line mode level (a_value tree) = line_of value_kind mode level tree
+vector_line mode level (a_directive_definition tree) = line_of directive_definition_kind mode level tree
 
 -- known bytes grow by the line of some vector
 pub record GrowsByLine (old new : Option (List ℕ)) : Type 0 where

@@ -2,37 +2,12 @@
 #![tactic(auto)]
 
 mod vectors;
+mod words;
 
 use crate::vectors::{VectorError, report, run_vectors};
-use std::alloc::{AllocError, Global};
-use std::env::{Env, FillError};
+use crate::words::words;
+use std::alloc::AllocError;
 use std::process::ExitCode;
-
-/// The word at a place after the program's name, if there is one. One that isn't UTF-8, or too long to be a vector's number, is
-/// the empty text.
-fn word<R: Env>(env: &R, alloc: Global, place: usize) -> Result<Option<String>, AllocError> {
-    let mut buffer = [0u8; 64];
-    match env.arg(place, &mut buffer) {
-        Ok(len) => {
-            let text = str::from_utf8(&buffer[..len]).unwrap_or("");
-            Ok(Some(String::from_str(alloc, text)?))
-        }
-        Err(FillError::TooLong) => Ok(Some(String::new(alloc))),
-        Err(FillError::NotPresent) => Ok(None),
-    }
-}
-
-/// The words after the program's name.
-fn words<R: Env>(env: &R, alloc: Global) -> Result<Vec<String>, AllocError> {
-    let mut words = Vec::new(alloc);
-    for place in 1..usize::MAX {
-        match word(env, alloc, place)? {
-            Some(word) => words.push(word)?,
-            None => break,
-        }
-    }
-    Ok(words)
-}
 
 fn main(rt: HostRuntime) -> ExitCode {
     let alloc = rt.alloc();

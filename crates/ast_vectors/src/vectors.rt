@@ -11,10 +11,12 @@ use graphql_base::name::Name;
 use graphql_base::node::Node;
 use graphql_text::engine::{PrintError, Serialize, Syntax};
 use graphql_text::sink::{SinkFault, StreamSink, TextSink};
-use graphql_values::definition::{DirectiveDefinition, InputValueDefinition};
-use graphql_values::directive::{Directive, DirectiveList};
+use graphql_values::directive::Directive;
+use graphql_values::directive_definition::DirectiveDefinition;
+use graphql_values::directive_list::DirectiveList;
+use graphql_values::directive_location::DirectiveLocation;
+use graphql_values::input_value_definition::InputValueDefinition;
 use graphql_values::literal::FloatValue;
-use graphql_values::location::DirectiveLocation;
 use graphql_values::ty;
 use graphql_values::value::Value;
 use std::alloc::{AllocError, Global};
@@ -204,7 +206,10 @@ fn print_line<T: Syntax, W: Write>(
     sink: &mut StreamSink<W>,
 ) -> Result<(), VectorError>
     requires { CanFault (⟦<StreamSink<W> as TextSink>⟧.fault_count sink.old) }
-    ensures printed { OnOk result (Appends (⟦<StreamSink<W> as TextSink>⟧.taken sink.old) (⟦<StreamSink<W> as TextSink>⟧.taken sink.new) (line_of T.shape (mode_of prefix.entry) level (T.tree tree.now))) }
+    ensures printed { OnOk result (Appends
+        (⟦<StreamSink<W> as TextSink>⟧.taken sink.old)
+        (⟦<StreamSink<W> as TextSink>⟧.taken sink.new)
+        (line_of T.kind (mode_of prefix.entry) level (T.tree tree.now))) }
     ensures known { ¬ IsErrOf result VectorError.Unknown }
 {
     let flat = Serialize::new(tree).no_indent().initial_indent_level(level);
@@ -245,7 +250,10 @@ impl Vector {
     /// Prints the tree, and a line feed.
     fn print<W: Write>(&self, sink: &mut StreamSink<W>) -> Result<(), VectorError>
         requires { CanFault (⟦<StreamSink<W> as TextSink>⟧.fault_count sink.old) }
-        ensures printed { OnOk result (Appends (⟦<StreamSink<W> as TextSink>⟧.taken sink.old) (⟦<StreamSink<W> as TextSink>⟧.taken sink.new) (vector_line (mode_of self.now.prefix) self.now.level (vector_tree self.now.tree))) }
+        ensures printed { OnOk result (Appends
+            (⟦<StreamSink<W> as TextSink>⟧.taken sink.old)
+            (⟦<StreamSink<W> as TextSink>⟧.taken sink.new)
+            (vector_line (mode_of self.now.prefix) self.now.level (vector_tree self.now.tree))) }
         ensures known { ¬ IsErrOf result VectorError.Unknown }
     {
         match &self.tree {
@@ -283,7 +291,9 @@ fn print_vector<W: Write>(
     sink: &mut StreamSink<W>,
 ) -> Result<(), VectorError>
     requires { CanFault (⟦<StreamSink<W> as TextSink>⟧.fault_count sink.old) }
-    ensures printed { OnOk result (GrowsByLine (⟦<StreamSink<W> as TextSink>⟧.taken sink.old) (⟦<StreamSink<W> as TextSink>⟧.taken sink.new)) }
+    ensures printed { OnOk result (GrowsByLine
+        (⟦<StreamSink<W> as TextSink>⟧.taken sink.old)
+        (⟦<StreamSink<W> as TextSink>⟧.taken sink.new)) }
     ensures unknown { IsErrOf result VectorError.Unknown ↔ (is_vector_number number.now ≡ false) }
     ensures untouched { IsErrOf result VectorError.Unknown → sink.new ≡ sink.old }
 {

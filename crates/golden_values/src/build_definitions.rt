@@ -5,9 +5,12 @@ use crate::described::{
     DescribedLocation, DescribedType, DescribedValue, NamedValue,
 };
 use graphql_base::node::{Node, NodeStr};
-use graphql_values::definition::{DirectiveDefinition, InputValueDefinition};
-use graphql_values::directive::{Argument, Directive, DirectiveList};
-use graphql_values::location::DirectiveLocation;
+use graphql_values::argument::Argument;
+use graphql_values::directive::Directive;
+use graphql_values::directive_definition::DirectiveDefinition;
+use graphql_values::directive_list::DirectiveList;
+use graphql_values::directive_location::DirectiveLocation;
+use graphql_values::input_value_definition::InputValueDefinition;
 use graphql_values::types::Type;
 use graphql_values::value::Value;
 use std::alloc::{AllocError, Global};

@@ -57,11 +57,11 @@ one_before a [] s = and-false (is_quote a)
 one_before a (c ∷ t) s = rw s (and-false (is_quote a))
 
 two_before : (a b : ℕ) (t : List ℕ) → Stops t → begins_with quotes (a ∷ b ∷ t) ≡ false
-two_before a b t s = ap (λ x. is_quote a && x) (one_more b t s) ∙ and-false (is_quote a)
+two_before a b t s = ap (λ x. is_quote a && x) (row_more b t s) ∙ and-false (is_quote a)
   where
-    one_more : (b : ℕ) (t : List ℕ) → Stops t → begins_with (codes "\"\"") (b ∷ t) ≡ false
-    one_more b [] s = and-false (is_quote b)
-    one_more b (c ∷ t) s = rw s (and-false (is_quote b))
+    row_more : (b : ℕ) (t : List ℕ) → Stops t → begins_with (codes "\"\"") (b ∷ t) ≡ false
+    row_more b [] s = and-false (is_quote b)
+    row_more b (c ∷ t) s = rw s (and-false (is_quote b))
 
 -- what was escaped begins with no `"""`
 none_escaped : (l t : List ℕ) → Stops t → begins_with quotes (escape_quotes l ++ t) ≡ false

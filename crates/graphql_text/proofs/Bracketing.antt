@@ -2,8 +2,9 @@
 use Rattle.std.proofs.lemmas.Bool.{and_parts}
 use Rattle.std.proofs.Common.{ℕ, zero, suc, ◌+◌, ◌-◌, max, ◌≡◌, Bool, true, false, ◌&&◌, List, [], ◌∷◌, ◌++◌, refl, ap, sym, ◌∙◌, arith, append_assoc, append-nil, subst, map}
 use Rattle.graphql_text.specs.Tokens.{Punctuator, bang, dollar, amp, lparen, rparen, spread, colon, equals, at, lbracket, rbracket, lbrace, bar, rbrace, Token, Punctuation, Name, IntValue, FloatValue, StringValue}
-use Rattle.graphql_text.specs.Layout.{Item, Word, StringItem, StringRole, OnOneLine, AsValue, AsDescription, Space, Comma, Soft, Tight, Blank, Finish, Raise, Lower, flat, enclosed, each_after, last_comma, comma_group, curly_group}
+use Rattle.graphql_text.specs.Layout.{Item, Word, StringItem, StringRole, OnOneLine, AsValue, AsDescription, Space, Comma, Soft, Tight, Blank, Finish, Raise, Lower, raises, raises_at, lowers, lowers_at, flat, enclosed, each_after, last_comma, comma_group, curly_group}
 use Rattle.graphql_text.specs.Nesting.{deepest, group_nesting}
+use Rattle.graphql_text.proofs.LevelLaws.{raises_append, lowers_append, raises_flat, lowers_flat}
 
 -- What an item does to the open brackets that no Raise mark counts: it opens one more or closes one, it raises or lowers
 -- (from there on a mark counts one of them, or one less), it stands only where there is none (a string that can have lines),
@@ -66,14 +67,17 @@ unfoldable pub fits : ℕ → ℕ → List Item → Bool
 fits uncounted counted [] = true
 fits uncounted counted (item ∷ items) = fits_effect (effect item) uncounted counted items (λ u c. fits u c items)
 
--- A part fits where so many brackets are open that no Raise mark counts, before all items that fit there, and nests so deep.
+-- A part fits where so many brackets are open that no Raise mark counts, before all items that fit there, and nests so deep; it raises the level
+-- as often as it lowers it.
 pub record Bracketed (uncounted : ℕ) (items : List Item) (nesting : ℕ) : Type 0 where
   pub fitting : (counted : ℕ) (rest : List Item) → fits uncounted counted rest ≡ true → fits uncounted counted (items ++ rest) ≡ true
   pub nested : (rest : List Item) → deepest (items ++ rest) ≡ max nesting (deepest rest)
+  pub balanced : raises items ≡ lowers items
 
 -- nothing
 pub bracketed_nothing : {u : ℕ} → Bracketed u [] 0
-bracketed_nothing = record { fitting = λ c rest h. h; nested = λ rest. omega arith }
+unfolding raises lowers
+bracketed_nothing = record { fitting = λ c rest h. h; nested = λ rest. omega arith; balanced = refl }
 
 -- one part and then another
 pub bracketed_then : {u m n : ℕ} {xs ys : List Item} → Bracketed u xs m → Bracketed u ys n → Bracketed u (xs ++ ys) (max m n)
@@ -83,6 +87,7 @@ bracketed_then {u} {m} {n} {xs} {ys} a b = record {
       let x = a.nested (ys ++ rest) in
       let y = b.nested rest in
       ap deepest (append_assoc xs ys rest) ∙ omega (arith, x, y);
+  balanced = omega (arith, raises_append xs ys, lowers_append xs ys, a.balanced, b.balanced);
 }
 
 -- a part without a group, and then another
@@ -95,45 +100,46 @@ bracketed_as {u} {m} {n} {xs} e a = subst (λ k. Bracketed u xs k) e a
 
 -- a word that is no bracket, before a part
 pub bracketed_word : {u n : ℕ} {token : Token} {xs : List Item} → effect (Word token) ≡ Passes → Bracketed u xs n → Bracketed u (Word token ∷ xs) n
-unfolding fits deepest
-bracketed_word e a = record { fitting = λ c rest h. rw e (a.fitting c rest h); nested = a.nested }
+unfolding fits deepest raises lowers
+bracketed_word e a = record { fitting = λ c rest h. rw e (a.fitting c rest h); nested = a.nested; balanced = omega (arith, a.balanced) }
 
 pub bracketed_space : {u n : ℕ} {xs : List Item} → Bracketed u xs n → Bracketed u (Space ∷ xs) n
-unfolding fits deepest
-bracketed_space a = record { fitting = a.fitting; nested = a.nested }
+unfolding fits deepest raises lowers
+bracketed_space a = record { fitting = a.fitting; nested = a.nested; balanced = omega (arith, a.balanced) }
 
 pub bracketed_comma : {u n : ℕ} {xs : List Item} → Bracketed u xs n → Bracketed u (Comma ∷ xs) n
-unfolding fits deepest
-bracketed_comma a = record { fitting = a.fitting; nested = a.nested }
+unfolding fits deepest raises lowers
+bracketed_comma a = record { fitting = a.fitting; nested = a.nested; balanced = omega (arith, a.balanced) }
 
 -- a string, or a break, before a part
 pub bracketed_string : {n : ℕ} {xs : List Item} (value : List ℕ) (role : StringRole) → Bracketed 0 xs n → Bracketed 0 (StringItem value role ∷ xs) n
-unfolding fits deepest
-bracketed_string value OnOneLine a = record { fitting = a.fitting; nested = a.nested }
-bracketed_string value AsValue a = record { fitting = a.fitting; nested = a.nested }
-bracketed_string value AsDescription a = record { fitting = a.fitting; nested = a.nested }
+unfolding fits deepest raises lowers
+bracketed_string value OnOneLine a = record { fitting = a.fitting; nested = a.nested; balanced = omega (arith, a.balanced) }
+bracketed_string value AsValue a = record { fitting = a.fitting; nested = a.nested; balanced = omega (arith, a.balanced) }
+bracketed_string value AsDescription a = record { fitting = a.fitting; nested = a.nested; balanced = omega (arith, a.balanced) }
 
 pub bracketed_soft : {n : ℕ} {xs : List Item} → Bracketed 0 xs n → Bracketed 0 (Soft ∷ xs) n
-unfolding fits deepest
-bracketed_soft a = record { fitting = a.fitting; nested = a.nested }
+unfolding fits deepest raises lowers
+bracketed_soft a = record { fitting = a.fitting; nested = a.nested; balanced = omega (arith, a.balanced) }
 
 pub bracketed_tight : {n : ℕ} {xs : List Item} → Bracketed 0 xs n → Bracketed 0 (Tight ∷ xs) n
-unfolding fits deepest
-bracketed_tight a = record { fitting = a.fitting; nested = a.nested }
+unfolding fits deepest raises lowers
+bracketed_tight a = record { fitting = a.fitting; nested = a.nested; balanced = omega (arith, a.balanced) }
 
 pub bracketed_blank : {n : ℕ} {xs : List Item} → Bracketed 0 xs n → Bracketed 0 (Blank ∷ xs) n
-unfolding fits deepest
-bracketed_blank a = record { fitting = a.fitting; nested = a.nested }
+unfolding fits deepest raises lowers
+bracketed_blank a = record { fitting = a.fitting; nested = a.nested; balanced = omega (arith, a.balanced) }
 
 -- Brackets that are no group, as those of a type: no break stands between them.
 pub bracketed_type : {u m n : ℕ} {xs ys : List Item} → Bracketed (suc u) xs m → Bracketed u ys n → Bracketed u (Word (Punctuation lbracket) ∷ (xs ++ (Word (Punctuation rbracket) ∷ ys))) (max m n)
-unfolding fits deepest
+unfolding fits deepest raises lowers
 bracketed_type {u} {m} {n} {xs} {ys} a b = record {
   fitting = λ c rest h. subst (λ l. fits (suc u) c l ≡ true) (sym (append_assoc xs (Word (Punctuation rbracket) ∷ ys) rest)) (a.fitting c (Word (Punctuation rbracket) ∷ (ys ++ rest)) (b.fitting c rest h));
   nested = λ rest.
       let x = a.nested (Word (Punctuation rbracket) ∷ (ys ++ rest)) in
       let y = b.nested rest in
       ap deepest (append_assoc xs (Word (Punctuation rbracket) ∷ ys) rest) ∙ omega (arith, x, y);
+  balanced = omega (arith, raises_append xs (Word (Punctuation rbracket) ∷ ys), lowers_append xs (Word (Punctuation rbracket) ∷ ys), a.balanced, b.balanced);
 }
 
 -- PARTS THAT ARE ALWAYS FLAT
@@ -215,17 +221,21 @@ deepest_flat (Raise ∷ xs) rest = ap (λ n. n + 1) (deepest_flat xs rest)
 deepest_flat (Lower ∷ xs) rest = ap (λ n. n - 1) (deepest_flat xs rest)
 
 pub bracketed_flat : {u n : ℕ} {xs : List Item} → Bracketed u xs n → Bracketed u (flat xs) n
-bracketed_flat {u} {n} {xs} a = record { fitting = λ c rest h. fits_flat u c xs rest (a.fitting c rest h); nested = λ rest. deepest_flat xs rest ∙ a.nested rest }
+bracketed_flat {u} {n} {xs} a = record {
+  fitting = λ c rest h. fits_flat u c xs rest (a.fitting c rest h);
+  nested = λ rest. deepest_flat xs rest ∙ a.nested rest;
+  balanced = raises_flat xs ∙ a.balanced ∙ sym (lowers_flat xs);
+}
 
 -- GROUPS
 
 -- items between brackets at the next level
 abbrev closes_group : Item → Type 0
-closes_group item = (effect item ≡ Breaks) × ((items : List Item) → deepest (item ∷ items) ≡ deepest items)
+closes_group item = (effect item ≡ Breaks) × ((items : List Item) → deepest (item ∷ items) ≡ deepest items) × (raises_at item ≡ lowers_at item)
 
 bracketed_group : {n : ℕ} {xs : List Item} (opening closing : Punctuator) (item : Item) → punctuator_effect opening ≡ Opens → punctuator_effect closing ≡ Closes → closes_group item → Bracketed 0 xs n →
     Bracketed 0 (Word (Punctuation opening) ∷ (enclosed xs ++ (item ∷ Word (Punctuation closing) ∷ []))) (n + 1)
-unfolding fits deepest
+unfolding fits deepest raises lowers
 bracketed_group {n} {xs} opening closing item o k b a = record {
   fitting = λ c rest h.
       let parts : ((xs ++ (Lower ∷ [])) ++ (item ∷ Word (Punctuation closing) ∷ [])) ++ rest ≡ xs ++ (Lower ∷ item ∷ Word (Punctuation closing) ∷ rest) = simp append_assoc in
@@ -236,17 +246,20 @@ bracketed_group {n} {xs} opening closing item o k b a = record {
       let x = a.nested (Lower ∷ item ∷ Word (Punctuation closing) ∷ rest) in
       let y = b.1 (Word (Punctuation closing) ∷ rest) in
       ap (λ l. deepest l + 1) parts ∙ omega (arith, x, y);
+  balanced =
+      let last = item ∷ Word (Punctuation closing) ∷ [] in
+      omega (arith, raises_append (xs ++ (Lower ∷ [])) last, lowers_append (xs ++ (Lower ∷ [])) last, raises_append xs (Lower ∷ []), lowers_append xs (Lower ∷ []), a.balanced, b.2);
 }
 
 -- each part is bracketed, and nests so deep
-pub data Parts : List (List Item) → List ℕ → Type 0 where
-  no_parts : Parts [] []
-  one_more : {x : List Item} {xs : List (List Item)} {n : ℕ} {ns : List ℕ} → Bracketed 0 x n → Parts xs ns → Parts (x ∷ xs) (n ∷ ns)
+pub data Row : List (List Item) → List ℕ → Type 0 where
+  no_row : Row [] []
+  row_more : {x : List Item} {xs : List (List Item)} {n : ℕ} {ns : List ℕ} → Bracketed 0 x n → Row xs ns → Row (x ∷ xs) (n ∷ ns)
 
 -- the parts of a list
-pub parts_of : {A : Type 0} {shape : A → List Item} {nesting : A → ℕ} → ((a : A) → Bracketed 0 (shape a) (nesting a)) → (more : List A) → Parts (map shape more) (map nesting more)
-parts_of part [] = no_parts
-parts_of part (a ∷ more) = one_more (part a) (parts_of part more)
+pub row_of : {A : Type 0} {shape : A → List Item} {nesting : A → ℕ} → ((a : A) → Bracketed 0 (shape a) (nesting a)) → (more : List A) → Row (map shape more) (map nesting more)
+row_of part [] = no_row
+row_of part (a ∷ more) = row_more (part a) (row_of part more)
 
 abbrev greatest : List ℕ → ℕ
 greatest [] = 0
@@ -256,13 +269,13 @@ group_is_greatest : (n : ℕ) (ns : List ℕ) → greatest (n ∷ ns) + 1 ≡ gr
 group_is_greatest n [] = omega arith
 group_is_greatest n (m ∷ ns) = let more = group_is_greatest m ns in omega (arith, more)
 
-bracketed_rest : {xs : List (List Item)} {ns : List ℕ} (other : List Item) → ((x : List Item) (n : ℕ) → Bracketed 0 x n → Bracketed 0 (other ++ x) n) → Parts xs ns → Bracketed 0 (each_after other other xs) (greatest ns)
+bracketed_rest : {xs : List (List Item)} {ns : List ℕ} (other : List Item) → ((x : List Item) (n : ℕ) → Bracketed 0 x n → Bracketed 0 (other ++ x) n) → Row xs ns → Bracketed 0 (each_after other other xs) (greatest ns)
 unfolding each_after
-bracketed_rest other next no_parts = bracketed_nothing
-bracketed_rest other next (one_more a more) = bracketed_then (next _ _ a) (bracketed_rest other next more)
+bracketed_rest other next no_row = bracketed_nothing
+bracketed_rest other next (row_more a more) = bracketed_then (next _ _ a) (bracketed_rest other next more)
 
 bracketed_each : {x : List Item} {xs : List (List Item)} {n : ℕ} {ns : List ℕ} (first other : List Item) → ((x : List Item) (n : ℕ) → Bracketed 0 x n → Bracketed 0 (first ++ x) n) →
-    ((x : List Item) (n : ℕ) → Bracketed 0 x n → Bracketed 0 (other ++ x) n) → Bracketed 0 x n → Parts xs ns → Bracketed 0 (each_after first other (x ∷ xs)) (greatest (n ∷ ns))
+    ((x : List Item) (n : ℕ) → Bracketed 0 x n → Bracketed 0 (other ++ x) n) → Bracketed 0 x n → Row xs ns → Bracketed 0 (each_after first other (x ∷ xs)) (greatest (n ∷ ns))
 unfolding each_after
 bracketed_each first other lead next a more = bracketed_then (lead _ _ a) (bracketed_rest other next more)
 
@@ -271,22 +284,22 @@ bracketed_last true = bracketed_comma bracketed_nothing
 bracketed_last false = bracketed_nothing
 
 -- a comma group, whose brackets are known
-pub bracketed_comma_group : {xs : List (List Item)} {ns : List ℕ} (opening closing : Punctuator) (broken : Bool) → punctuator_effect opening ≡ Opens → punctuator_effect closing ≡ Closes → Parts xs ns →
+pub bracketed_comma_group : {xs : List (List Item)} {ns : List ℕ} (opening closing : Punctuator) (broken : Bool) → punctuator_effect opening ≡ Opens → punctuator_effect closing ≡ Closes → Row xs ns →
     Bracketed 0 (comma_group opening closing broken xs) (group_nesting ns)
-unfolding fits deepest
-bracketed_comma_group opening closing broken o k no_parts = record { fitting = λ c rest h. rw (o, k) h; nested = λ rest. omega arith }
-bracketed_comma_group opening closing broken o k (one_more {n = n} {ns = ns} a more) =
+unfolding fits deepest raises lowers
+bracketed_comma_group opening closing broken o k no_row = record { fitting = λ c rest h. rw (o, k) h; nested = λ rest. omega arith; balanced = refl }
+bracketed_comma_group opening closing broken o k (row_more {n = n} {ns = ns} a more) =
     bracketed_as (omega (arith, group_is_greatest n ns))
-    (bracketed_group opening closing Tight o k (refl, λ items. refl)
+    (bracketed_group opening closing Tight o k (refl, λ items. refl, refl)
     (bracketed_then (bracketed_each (Tight ∷ []) (Comma ∷ Soft ∷ []) (λ x n b. bracketed_tight b) (λ x n b. bracketed_comma (bracketed_soft b)) a more) (bracketed_last broken)))
 
 -- a curly group
-pub bracketed_curly_group : {xs : List (List Item)} {ns : List ℕ} → Parts xs ns → Bracketed 0 (curly_group xs) (group_nesting ns)
-unfolding fits deepest
-bracketed_curly_group no_parts = record { fitting = λ c rest h. h; nested = λ rest. omega arith }
-bracketed_curly_group (one_more {n = n} {ns = ns} a more) =
+pub bracketed_curly_group : {xs : List (List Item)} {ns : List ℕ} → Row xs ns → Bracketed 0 (curly_group xs) (group_nesting ns)
+unfolding fits deepest raises lowers
+bracketed_curly_group no_row = record { fitting = λ c rest h. h; nested = λ rest. omega arith; balanced = refl }
+bracketed_curly_group (row_more {n = n} {ns = ns} a more) =
     bracketed_as (group_is_greatest n ns)
-    (bracketed_group lbrace rbrace Soft refl refl (refl, λ items. refl) (bracketed_each (Soft ∷ []) (Soft ∷ []) (λ x n b. bracketed_soft b) (λ x n b. bracketed_soft b) a more))
+    (bracketed_group lbrace rbrace Soft refl refl (refl, λ items. refl, refl) (bracketed_each (Soft ∷ []) (Soft ∷ []) (λ x n b. bracketed_soft b) (λ x n b. bracketed_soft b) a more))
 
 -- THE WHOLE
 

@@ -13,7 +13,7 @@ use Rattle.graphql_text.specs.Layout.{Item, Word, StringItem, StringRole, wants_
 use Rattle.graphql_text.specs.Spelling.{leaves_room, StandsBefore}
 use Rattle.graphql_text.proofs.Spelling.{Gives}
 use Rattle.graphql_text.proofs.Numbers.{begins_fewer}
-use Rattle.graphql_text.proofs.Tests.{and-1}
+use Rattle.graphql_text.proofs.Tests.{second_holds}
 use Rattle.graphql_text.proofs.Compose.{lexes-append, lexes-token, ignored_before}
 use Rattle.graphql_text.proofs.Quoted.{form_spells}
 use Rattle.graphql_text.proofs.BlockLaw.{blank_repeat, block_form_is}
@@ -85,7 +85,7 @@ string_spells (Some prefix) level value role after blank stops =
     go : (b : Bool) → ((wants_block role value) && can_be_block value) ≡ b →
         Spells (StringValue value) (cond b (block_form (repeat level prefix) (nat_lt 70 (length (encode_utf8_all value))) value) (quoted_form value)) after
     go true e =
-        inr (block_form_is prefix level (nat_lt 70 (length (encode_utf8_all value))) value blank (and-1 (wants_block role value) (can_be_block value) e))
+        inr (block_form_is prefix level (nat_lt 70 (length (encode_utf8_all value))) value blank (second_holds (wants_block role value) (can_be_block value) e))
     go false e = form_spells value after stops
 
 blank_ignored : (text : List ℕ) → is_blank text ≡ true → Each is_ignored text

@@ -4,10 +4,10 @@ use Rattle.graphql_text.specs.Literals.{NameText}
 use Rattle.graphql_text.specs.Tokens.{Punctuator, punctuator_text, lbrace, rbrace, Token, Punctuation, Name}
 use Rattle.graphql_text.specs.Forms.{Form, token, no_tokens, ◌⨟◌, optional_token, optional, list_of, optional_group, name_except, not_followed_by, only_if, either, never, nonempty_list_of, optional_braces, joined_by, TokenClass, a_punctuator, a_keyword, a_name, admits, any_admits, begins, is_one_of}
 use Rattle.std.proofs.lemmas.Bool.{or_cases, or_left, or_right, not_from_false}
-use Rattle.graphql_text.proofs.Tests.{and-0, and-1}
+use Rattle.graphql_text.proofs.Tests.{first_holds, second_holds}
 use Rattle.graphql_text.proofs.TokenClasses.{text_itself, covers-refl, within-begins, within-none, apart-begins, within-more}
 pub use Rattle.graphql_text.proofs.TokenClasses.{within, all_apart, within_refl}
-use Rattle.graphql_text.proofs.Such.{such, such_found}
+use Rattle.graphql_text.proofs.Checked.{checked_text, checked_text_found}
 
 abbrev pub Parser : Type 0 → Type 0
 Parser A = List Token → Option (A × List Token)
@@ -71,9 +71,9 @@ fits excluded first_tokens false then = all_apart excluded first_tokens
 fits-none : (excluded first_tokens : List TokenClass) (n : Bool) (then : List TokenClass) (m r : List Token) →
     fits excluded first_tokens n then ≡ true → Opening first_tokens n m r → begins then r ≡ false → begins excluded m ≡ false
 fits-none excluded first_tokens true then m r e (inl x) g =
-    apart-begins excluded first_tokens m (and-0 (all_apart excluded first_tokens) (within excluded then) e) x.0
+    apart-begins excluded first_tokens m (first_holds (all_apart excluded first_tokens) (within excluded then) e) x.0
 fits-none excluded first_tokens true then m r e (inr y) g =
-    subst (λ z. begins excluded z ≡ false) (sym y.1) (within-none excluded then r (and-1 (all_apart excluded first_tokens) (within excluded then) e) g)
+    subst (λ z. begins excluded z ≡ false) (sym y.1) (within-none excluded then r (second_holds (all_apart excluded first_tokens) (within excluded then) e) g)
 fits-none excluded first_tokens false then m r e (inl x) g = apart-begins excluded first_tokens m e x.0
 fits-none excluded first_tokens false then m r e (inr y) g = cc (y.0)
 
@@ -410,7 +410,7 @@ pub word_reads : {k : ℕ} (w : List ℕ) →
 word_reads w = accept_reads (a_keyword w) (Name w) (text_itself w)
 
 unfoldable pub named : List (List ℕ) → Token → Option NameText
-named ws (Name s) = elim (is_one_of ws s) [ true ↦ None | false ↦ such s ]
+named ws (Name s) = elim (is_one_of ws s) [ true ↦ None | false ↦ checked_text s ]
 named ws _ = None
 
 unfoldable pub parse_name : List (List ℕ) → Parser NameText
@@ -419,7 +419,7 @@ parse_name ws = leaf (named ws)
 named_found : (ws : List (List ℕ)) (s : NameText) → is_one_of ws s.text ≡ false →
     named ws (Name s.text) ≡ Some s
 unfolding named
-named_found ws s e = rw (e, named) (such_found s)
+named_found ws s e = rw (e, named) (checked_text_found s)
 
 pub name_reads : {k : ℕ} (ws : List (List ℕ)) (s : NameText) →
     Reads k (parse_name ws) s (name_except ws s) [] (a_name ws ∷ []) false

@@ -27,8 +27,3 @@ abbrev pub joined_tokens : {A : Type 0} → Token → Punctuator → (A → Tail
 joined_tokens leading separator tail [] rest = rest
 joined_tokens leading separator tail (part ∷ more) rest =
     leading ∷ tail part (list_tokens (λ other after. Punctuation separator ∷ tail other after) more rest)
-
--- of every part
-abbrev pub Every : {A : Type 0} → (A → Type 0) → List A → Type 0
-Every Holds [] = Unit {0}
-Every Holds (part ∷ more) = Holds part × Every Holds more

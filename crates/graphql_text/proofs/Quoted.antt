@@ -7,7 +7,7 @@ use Rattle.graphql_base.specs.Names.{begins_in}
 use Rattle.graphql_text.specs.Strings.{StandsFor, plain, unicode, letter, StringCharacters}
 use Rattle.graphql_text.specs.Tokens.{StringValue, Spells}
 use Rattle.graphql_text.specs.QuotedForm.{escape_letter, upper_hex_digit, written, quoted_character, quoted_form}
-use Rattle.graphql_text.proofs.Tests.{and-0, and-1}
+use Rattle.graphql_text.proofs.Tests.{first_holds, second_holds}
 use Rattle.graphql_text.proofs.Classes.{below_space, unescaped_plain}
 
 -- a test that passes at each number below n
@@ -20,13 +20,13 @@ at_or_below c n lt = grind arith
 
 below_step : (n : ℕ) (test : ℕ → Bool) (c : ℕ) → all_below (suc n) test ≡ true →
     (c < n → test c ≡ true) → (c ≡ n) ⊎ (c < n) → test c ≡ true
-below_step n test c all rec (inl e) = ap test e ∙ and-0 (test n) (all_below n test) all
+below_step n test c all rec (inl e) = ap test e ∙ first_holds (test n) (all_below n test) all
 below_step n test c all rec (inr l) = rec l
 
 below : (n : ℕ) (test : ℕ → Bool) (c : ℕ) → all_below n test ≡ true → c < n → test c ≡ true
 below zero test c all lt = absurd (omega arith)
 below (suc n) test c all lt =
-    below_step n test c all (below n test c (and-1 (test n) (all_below n test) all)) (at_or_below c n lt)
+    below_step n test c all (below n test c (second_holds (test n) (all_below n test) all)) (at_or_below c n lt)
 
 -- the two digits of a character below 32 write it
 hex_right : (c : ℕ) → c < 32 →
@@ -52,8 +52,8 @@ unescaped_stands c false none is = plain (unescaped_plain c none)
 unescaped_stands c true none is =
     let lt = below_space c is in
     let right = hex_right c lt in
-    let same = eqb-true _ _ (and-0 _ _ right) in
-    let digits = and-1 _ _ right in
+    let same = eqb-true _ _ (first_holds _ _ right) in
+    let digits = second_holds _ _ right in
     let stands : StandsFor (codes "\\u00" ++ (upper_hex_digit (c / 16) ∷ upper_hex_digit (c % 16) ∷ [])) (unicode_escape_value 0x30 0x30 (upper_hex_digit (c / 16)) (upper_hex_digit (c % 16))) =
     unicode {a = 0x30} {b = 0x30} {c = upper_hex_digit (c / 16)} {d = upper_hex_digit (c % 16)} (both_more (is_ascii_hexdigit (upper_hex_digit (c / 16))) (is_ascii_hexdigit (upper_hex_digit (c % 16))) digits) (ap is_surrogate same ∙ no_surrogate_below c lt) in
     subst (StandsFor (codes "\\u00" ++ (upper_hex_digit (c / 16) ∷ upper_hex_digit (c % 16) ∷ []))) same stands

@@ -231,33 +231,33 @@ spelt_flat {xs} {w} a = record {
 -- Groups.
 
 -- each part spells its tokens
-pub data Parts : List (List Item) → Tail → Type 0 where
-  no_parts : Parts [] (λ ts. ts)
-  one_more : {x : List Item} {xs : List (List Item)} {v w : Tail} → Spelling x v false →
-      Parts xs w → Parts (x ∷ xs) (λ ts. v (w ts))
+pub data Row : List (List Item) → Tail → Type 0 where
+  no_row : Row [] (λ ts. ts)
+  row_more : {x : List Item} {xs : List (List Item)} {v w : Tail} → Spelling x v false →
+      Row xs w → Row (x ∷ xs) (λ ts. v (w ts))
 
 -- the parts of a list
-pub parts_of : {A : Type 0} {shape : A → List Item} {w : A → Tail} →
+pub row_of : {A : Type 0} {shape : A → List Item} {w : A → Tail} →
     ((a : A) → Spelling (shape a) (w a) false) → (more : List A) →
-    Parts (map shape more) (list_tokens w more)
-parts_of list_of [] = no_parts
-parts_of list_of (a ∷ more) = one_more (list_of a) (parts_of list_of more)
+    Row (map shape more) (list_tokens w more)
+row_of list_of [] = no_row
+row_of list_of (a ∷ more) = row_more (list_of a) (row_of list_of more)
 
 -- parts with a separator before each
 spelt_rest : {xs : List (List Item)} {w : Tail} (other : List Item) →
     ((x : List Item) (v : Tail) → Spelling x v false → Spelling (other ++ x) v true) →
-    {x : List Item} {v : Tail} → Spelling x v false → Parts xs w → Spelling (each_after other other (x ∷ xs)) (λ ts. v (w ts)) true
+    {x : List Item} {v : Tail} → Spelling x v false → Row xs w → Spelling (each_after other other (x ∷ xs)) (λ ts. v (w ts)) true
 unfolding each_after
-spelt_rest other next a no_parts = spelt_then (next _ _ a) spelt_nothing
-spelt_rest other next a (one_more b bs) = spelt_then (next _ _ a) (spelt_rest other next b bs)
+spelt_rest other next a no_row = spelt_then (next _ _ a) spelt_nothing
+spelt_rest other next a (row_more b bs) = spelt_then (next _ _ a) (spelt_rest other next b bs)
 
 -- the first one has a lead of its own
 spelt_each : {xs : List (List Item)} {w : Tail} (lead other : List Item) {o : Bool} →
     ((x : List Item) (v : Tail) → Spelling x v false → Spelling (lead ++ x) v o) → ((x : List Item) (v : Tail) → Spelling x v false → Spelling (other ++ x) v true) →
-    {x : List Item} {v : Tail} → Spelling x v false → Parts xs w → Spelling (each_after lead other (x ∷ xs)) (λ ts. v (w ts)) o
+    {x : List Item} {v : Tail} → Spelling x v false → Row xs w → Spelling (each_after lead other (x ∷ xs)) (λ ts. v (w ts)) o
 unfolding each_after
-spelt_each lead other first next a no_parts = spelt_then (first _ _ a) spelt_nothing
-spelt_each lead other first next a (one_more b bs) =
+spelt_each lead other first next a no_row = spelt_then (first _ _ a) spelt_nothing
+spelt_each lead other first next a (row_more b bs) =
     spelt_then (first _ _ a) (spelt_rest other next b bs)
 
 spelt_last_comma : (broken : Bool) → Spelling (last_comma broken) (λ ts. ts) true
@@ -267,11 +267,11 @@ spelt_last_comma false = spelt_nothing
 -- a comma group spells its brackets and, between them, its parts
 pub spelt_comma_group :
     {xs : List (List Item)} {w : Tail} (opening closing : Punctuator) (broken : Bool) →
-    punctuator_leaves_room closing ≡ true → Parts xs w →
+    punctuator_leaves_room closing ≡ true → Row xs w →
     Spelling (comma_group opening closing broken xs) (λ ts. Punctuation opening ∷ w (Punctuation closing ∷ ts)) (punctuator_leaves_room opening)
-spelt_comma_group opening closing broken closes no_parts =
+spelt_comma_group opening closing broken closes no_row =
     spelt_mark opening (spelt_mark closing spelt_nothing)
-spelt_comma_group opening closing broken closes (one_more a more) =
+spelt_comma_group opening closing broken closes (row_more a more) =
     spelt_mark opening (spelt_then
     (spelt_enclosed (spelt_then (spelt_each (Tight ∷ []) (Comma ∷ Soft ∷ []) (λ x v. spelt_tight) (λ x v a. spelt_comma (spelt_soft a)) a more) (spelt_last_comma broken)))
     (spelt_tight (spelt_closing closing closes)))
@@ -282,10 +282,10 @@ spelt_comma_group opening closing broken closes (one_more a more) =
         subst (Spelling (Word (Punctuation closing) ∷ []) (λ ts. Punctuation closing ∷ ts)) closes (spelt_mark closing spelt_nothing)
 
 -- a curly group spells its braces and, between them, its parts
-pub spelt_curly_group : {xs : List (List Item)} {w : Tail} → Parts xs w →
+pub spelt_curly_group : {xs : List (List Item)} {w : Tail} → Row xs w →
     Spelling (curly_group xs) (λ ts. Punctuation lbrace ∷ w (Punctuation rbrace ∷ ts)) true
-spelt_curly_group no_parts = spelt_mark lbrace (spelt_mark rbrace spelt_nothing)
-spelt_curly_group (one_more a more) =
+spelt_curly_group no_row = spelt_mark lbrace (spelt_mark rbrace spelt_nothing)
+spelt_curly_group (row_more a more) =
     spelt_mark lbrace (spelt_then
     (spelt_enclosed (spelt_each (Soft ∷ []) (Soft ∷ []) (λ x v. spelt_soft) (λ x v. spelt_soft) a more))
     (spelt_soft (spelt_mark rbrace spelt_nothing)))

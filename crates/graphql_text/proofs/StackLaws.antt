@@ -5,7 +5,7 @@ use Rattle.graphql_text.specs.declared.stack.Stack.{Stack}
 
 module _ {T : Type 0} where
   pub kept_unused : {s : Stack T} {n : ℕ} → IsReady s n → IsKept s s
-  kept_unused {s} {n} ready = record { parts = ready.parts; room = omega arith }
+  kept_unused {s} {n} ready = record { entries = ready.entries; room = omega arith }
 
   pub kept_twice : {a b c : Stack T} → IsKept a b → IsKept b c → IsKept a c
-  kept_twice {a} {b} {c} first second = record { parts = second.parts; room = omega (arith, first.room, second.room) }
+  kept_twice {a} {b} {c} first second = record { entries = second.entries; room = omega (arith, first.room, second.room) }

@@ -4,7 +4,7 @@ use Rattle.graphql_base.specs.Names.{is_name}
 use Rattle.graphql_text.specs.Literals.{NameText, IntText, FloatText, StringText}
 use Rattle.graphql_text.specs.Tokens.{Punctuator, lbracket, rbracket, lbrace, rbrace, Token, Punctuation, Name, IntValue, FloatValue, StringValue}
 use Rattle.graphql_text.specs.Forms.{Form}
-use Rattle.graphql_text.specs.Layout.{Item, Word, StringItem, StringRole, Space, Soft, Blank, flat, comma_group, curly_group}
+use Rattle.graphql_text.specs.Layout.{Item, Word, StringItem, StringRole, Space, Soft, Blank, raises, lowers, flat, comma_group, curly_group}
 use Rattle.graphql_text.specs.Nesting.{group_nesting}
 use Rattle.graphql_text.proofs.PrintedTokens.{Tail, list_tokens}
 use Rattle.graphql_text.specs.Spelling.{punctuator_leaves_room, tokens_of_items}
@@ -77,28 +77,32 @@ pub told_flat : {u n : ℕ} {xs : List Item} {w : Tail} {o : Bool} → Told u xs
 told_flat a = record { spelt = spelt_flat a.spelt; bracketed = bracketed_flat a.bracketed }
 
 -- groups
-pub data Parts : List (List Item) → Tail → List ℕ → Type 0 where
-  no_parts : Parts [] (λ ts. ts) []
-  one_more : {x : List Item} {xs : List (List Item)} {v w : Tail} {n : ℕ} {ns : List ℕ} → Told 0 x v false n → Parts xs w ns → Parts (x ∷ xs) (λ ts. v (w ts)) (n ∷ ns)
+pub data Row : List (List Item) → Tail → List ℕ → Type 0 where
+  no_row : Row [] (λ ts. ts) []
+  row_more : {x : List Item} {xs : List (List Item)} {v w : Tail} {n : ℕ} {ns : List ℕ} → Told 0 x v false n → Row xs w ns → Row (x ∷ xs) (λ ts. v (w ts)) (n ∷ ns)
 
-pub parts_of : {A : Type 0} {shape : A → List Item} {w : A → Tail} {nesting : A → ℕ} → ((a : A) → Told 0 (shape a) (w a) false (nesting a)) → (more : List A) → Parts (map shape more) (list_tokens w more) (map nesting more)
-parts_of part [] = no_parts
-parts_of part (a ∷ more) = one_more (part a) (parts_of part more)
+pub row_of : {A : Type 0} {shape : A → List Item} {w : A → Tail} {nesting : A → ℕ} → ((a : A) → Told 0 (shape a) (w a) false (nesting a)) → (more : List A) → Row (map shape more) (list_tokens w more) (map nesting more)
+row_of part [] = no_row
+row_of part (a ∷ more) = row_more (part a) (row_of part more)
 
-parts_spelt : {xs : List (List Item)} {w : Tail} {ns : List ℕ} → Parts xs w ns → spelling.Parts xs w
-parts_spelt no_parts = spelling.no_parts
-parts_spelt (one_more a more) = spelling.one_more a.spelt (parts_spelt more)
+row_spelt : {xs : List (List Item)} {w : Tail} {ns : List ℕ} → Row xs w ns → spelling.Row xs w
+row_spelt no_row = spelling.no_row
+row_spelt (row_more a more) = spelling.row_more a.spelt (row_spelt more)
 
-parts_bracketed : {xs : List (List Item)} {w : Tail} {ns : List ℕ} → Parts xs w ns → bracketing.Parts xs ns
-parts_bracketed no_parts = bracketing.no_parts
-parts_bracketed (one_more a more) = bracketing.one_more a.bracketed (parts_bracketed more)
+row_bracketed : {xs : List (List Item)} {w : Tail} {ns : List ℕ} → Row xs w ns → bracketing.Row xs ns
+row_bracketed no_row = bracketing.no_row
+row_bracketed (row_more a more) = bracketing.row_more a.bracketed (row_bracketed more)
 
-pub told_comma_group : {xs : List (List Item)} {w : Tail} {ns : List ℕ} (opening closing : Punctuator) (broken : Bool) → punctuator_effect opening ≡ Opens → punctuator_effect closing ≡ Closes → punctuator_leaves_room closing ≡ true → Parts xs w ns →
+pub told_comma_group : {xs : List (List Item)} {w : Tail} {ns : List ℕ} (opening closing : Punctuator) (broken : Bool) → punctuator_effect opening ≡ Opens → punctuator_effect closing ≡ Closes → punctuator_leaves_room closing ≡ true → Row xs w ns →
     Told 0 (comma_group opening closing broken xs) (λ ts. Punctuation opening ∷ w (Punctuation closing ∷ ts)) (punctuator_leaves_room opening) (group_nesting ns)
-told_comma_group opening closing broken o k r parts = record { spelt = spelt_comma_group opening closing broken r (parts_spelt parts); bracketed = bracketed_comma_group opening closing broken o k (parts_bracketed parts) }
+told_comma_group opening closing broken o k r parts = record { spelt = spelt_comma_group opening closing broken r (row_spelt parts); bracketed = bracketed_comma_group opening closing broken o k (row_bracketed parts) }
 
-pub told_curly_group : {xs : List (List Item)} {w : Tail} {ns : List ℕ} → Parts xs w ns → Told 0 (curly_group xs) (λ ts. Punctuation lbrace ∷ w (Punctuation rbrace ∷ ts)) true (group_nesting ns)
-told_curly_group parts = record { spelt = spelt_curly_group (parts_spelt parts); bracketed = bracketed_curly_group (parts_bracketed parts) }
+pub told_curly_group : {xs : List (List Item)} {w : Tail} {ns : List ℕ} → Row xs w ns → Told 0 (curly_group xs) (λ ts. Punctuation lbrace ∷ w (Punctuation rbrace ∷ ts)) true (group_nesting ns)
+told_curly_group parts = record { spelt = spelt_curly_group (row_spelt parts); bracketed = bracketed_curly_group (row_bracketed parts) }
+
+-- a part raises the level as often as it lowers it
+pub told_balanced : {u n : ℕ} {xs : List Item} {w : Tail} {o : Bool} → Told u xs w o n → raises xs ≡ lowers xs
+told_balanced a = let bracketed = a.bracketed in bracketed.balanced
 
 -- what derives from the tokens derives from the words and strings of the items
 pub told_derives : {u n : ℕ} {xs : List Item} {w : Tail} {o : Bool} (form : Form) (rest : List Token) → Told u xs w o n → form (w rest) rest → form (tokens_of_items xs ++ rest) rest

@@ -5,7 +5,7 @@ use Rattle.std.specs.Cmp.Lexicographic.{pointwise}
 use Rattle.graphql_text.specs.Tokens.{punctuator_text, Token, Punctuation, Name, IntValue, FloatValue, StringValue}
 use Rattle.graphql_text.specs.Forms.{TokenClass, a_punctuator, a_keyword, a_name, an_int, a_float, a_string_value, admits, any_admits, begins, is_one_of}
 use Rattle.std.proofs.lemmas.Bool.{or_cases, or_left, or_right, or_from, not-true, not_from_false, not_from_true}
-use Rattle.graphql_text.proofs.Tests.{and-0, and-1, is_true}
+use Rattle.graphql_text.proofs.Tests.{first_holds, second_holds, is_true}
 
 abbrev all_in : List (List ℕ) → List (List ℕ) → Bool
 all_in [] ws = true
@@ -66,8 +66,8 @@ all_in-in : (vs ws : List (List ℕ)) (s : List ℕ) → all_in vs ws ≡ true �
 all_in-in [] ws s e h = cc
 all_in-in (v ∷ vs) ws s e h =
     elim (or_cases (pointwise nat_eq v s) (is_one_of vs s) h) [
-      | inl x ↦ sym (is_one_of-text ws v s x) ∙ and-0 (is_one_of ws v) (all_in vs ws) e
-      | inr y ↦ all_in-in vs ws s (and-1 (is_one_of ws v) (all_in vs ws) e) y
+      | inl x ↦ sym (is_one_of-text ws v s x) ∙ first_holds (is_one_of ws v) (all_in vs ws) e
+      | inr y ↦ all_in-in vs ws s (second_holds (is_one_of ws v) (all_in vs ws) e) y
     ]
 
 covers-admits : (k h : TokenClass) (t : Token) → covers k h ≡ true → admits h t ≡ true →
@@ -115,8 +115,8 @@ within-admits : (hs ks : List TokenClass) (t : Token) → within hs ks ≡ true 
 within-admits [] ks t e g = cc
 within-admits (h ∷ hs) ks t e g =
     elim (or_cases (admits h t) (any_admits hs t) g) [
-      | inl x ↦ covered-admits ks h t (and-0 (covered ks h) (within hs ks) e) x
-      | inr y ↦ within-admits hs ks t (and-1 (covered ks h) (within hs ks) e) y
+      | inl x ↦ covered-admits ks h t (first_holds (covered ks h) (within hs ks) e) x
+      | inr y ↦ within-admits hs ks t (second_holds (covered ks h) (within hs ks) e) y
     ]
 
 apart_from-admits : (h : TokenClass) (ks : List TokenClass) (t : Token) → apart_from h ks ≡ true →
@@ -124,8 +124,8 @@ apart_from-admits : (h : TokenClass) (ks : List TokenClass) (t : Token) → apar
 apart_from-admits h [] t e g = cc
 apart_from-admits h (k ∷ ks) t e g =
     elim (or_cases (admits k t) (any_admits ks t) g) [
-      | inl x ↦ apart-admits t h k (and-0 (apart h k) (apart_from h ks) e) x
-      | inr y ↦ apart_from-admits h ks t (and-1 (apart h k) (apart_from h ks) e) y
+      | inl x ↦ apart-admits t h k (first_holds (apart h k) (apart_from h ks) e) x
+      | inr y ↦ apart_from-admits h ks t (second_holds (apart h k) (apart_from h ks) e) y
     ]
 
 all_apart-admits : (hs ks : List TokenClass) (t : Token) → all_apart hs ks ≡ true →
@@ -133,8 +133,8 @@ all_apart-admits : (hs ks : List TokenClass) (t : Token) → all_apart hs ks ≡
 all_apart-admits [] ks t e g = refl
 all_apart-admits (h ∷ hs) ks t e g =
     or_from (admits h t) (any_admits hs t)
-    (apart_from-admits h ks t (and-0 (apart_from h ks) (all_apart hs ks) e) g)
-    (all_apart-admits hs ks t (and-1 (apart_from h ks) (all_apart hs ks) e) g)
+    (apart_from-admits h ks t (first_holds (apart_from h ks) (all_apart hs ks) e) g)
+    (all_apart-admits hs ks t (second_holds (apart_from h ks) (all_apart hs ks) e) g)
 
 pub within-begins : (hs ks : List TokenClass) (ts : List Token) → within hs ks ≡ true →
     begins hs ts ≡ true → begins ks ts ≡ true
@@ -155,8 +155,8 @@ all_in-more : (vs ws : List (List ℕ)) (w : List ℕ) → all_in vs ws ≡ true
 all_in-more [] ws w e = refl
 all_in-more (v ∷ vs) ws w e =
     rw (
-      or_right (pointwise nat_eq w v) (is_one_of ws v) (and-0 (is_one_of ws v) (all_in vs ws) e),
-      all_in-more vs ws w (and-1 (is_one_of ws v) (all_in vs ws) e),
+      or_right (pointwise nat_eq w v) (is_one_of ws v) (first_holds (is_one_of ws v) (all_in vs ws) e),
+      all_in-more vs ws w (second_holds (is_one_of ws v) (all_in vs ws) e),
     ) refl
 
 all_in-refl : (vs : List (List ℕ)) → all_in vs vs ≡ true
@@ -176,8 +176,8 @@ pub within-more : (hs ks : List TokenClass) (k : TokenClass) → within hs ks �
 within-more [] ks k e = refl
 within-more (h ∷ hs) ks k e =
     rw (
-      or_right (covers k h) (covered ks h) (and-0 (covered ks h) (within hs ks) e),
-      within-more hs ks k (and-1 (covered ks h) (within hs ks) e),
+      or_right (covers k h) (covered ks h) (first_holds (covered ks h) (within hs ks) e),
+      within-more hs ks k (second_holds (covered ks h) (within hs ks) e),
     ) refl
 
 pub within_refl : (hs : List TokenClass) → within hs hs ≡ true

@@ -2,7 +2,7 @@
 use Rattle.std.proofs.Common.{◌≡◌, ℕ, ◌+◌, ◌-◌, List, [], ◌∷◌, ◌++◌, Option, None, refl, ap, sym, ◌∙◌, subst, arith, append_assoc, append-nil, encode_utf8_all}
 use Rattle.std.proofs.lemmas.Str.{encodes-append}
 use Rattle.graphql_text.specs.Layout.{Item, Raise, Lower, flat, item_text, raises, raises_at, lowers, lowers_at, text_of_items}
-use Rattle.graphql_text.specs.Writing.{WritesItems, WritesToLevel, WritesFront}
+use Rattle.graphql_text.specs.Writing.{WritesItems, WritesToLevel, WritesBeginning}
 use Rattle.graphql_text.proofs.LevelLaws.{raises_append, lowers_append, laid_balanced, laid_one, laid_flat, raises_flat, lowers_flat, laid_append, laid_level, raise_text, lower_text}
 
 module _ {O : Type 0} {wrote : O → List ℕ → O → Type 0} where
@@ -52,33 +52,33 @@ module _ {O : Type 0} {wrote : O → List ℕ → O → Type 0} where
   levels_lower nothing {a} {mode} {v} {v'} e = record { text = rw (lower_text mode (v + 0 - 0) []) (nothing a); levels = omega (arith, e) }
 
   -- nothing was written yet
-  pub front_none : (nothing : (a : O) → wrote a [] a) {a : O} {mode : Option (List ℕ)} {v : ℕ} {all : List Item} → WritesFront wrote a a mode v all v all
+  pub beginning_none : (nothing : (a : O) → wrote a [] a) {a : O} {mode : Option (List ℕ)} {v : ℕ} {all : List Item} → WritesBeginning wrote a a mode v all v all
   unfolding text_of_items raises lowers
-  front_none nothing {a} = record { done = []; parted = refl; written = record { text = nothing a; levels = refl } }
+  beginning_none nothing {a} = record { done = []; parted = refl; written = record { text = nothing a; levels = refl } }
 
   -- one more piece was written
-  pub front_next : (more : (a b c : O) (x y : List ℕ) → wrote a x b → wrote b y c → wrote a (x ++ y) c) {a b c : O} {mode : Option (List ℕ)} {v v' v'' : ℕ} {all rest piece rest' : List Item} → WritesFront wrote a b mode v all v' rest → rest ≡ piece ++ rest' → WritesToLevel wrote b c mode v' piece v'' → WritesFront wrote a c mode v all v'' rest'
-  front_next more {a} {b} {c} {mode} {v} {v'} {v''} {all} {rest} {piece} {rest'} f e w = record {
+  pub beginning_next : (more : (a b c : O) (x y : List ℕ) → wrote a x b → wrote b y c → wrote a (x ++ y) c) {a b c : O} {mode : Option (List ℕ)} {v v' v'' : ℕ} {all rest piece rest' : List Item} → WritesBeginning wrote a b mode v all v' rest → rest ≡ piece ++ rest' → WritesToLevel wrote b c mode v' piece v'' → WritesBeginning wrote a c mode v all v'' rest'
+  beginning_next more {a} {b} {c} {mode} {v} {v'} {v''} {all} {rest} {piece} {rest'} f e w = record {
     done = f.done ++ piece;
     parted = f.parted ∙ ap (λ t. f.done ++ t) e ∙ sym (append_assoc f.done piece rest');
     written = levels_then more f.written w;
   }
 
   -- what comes later waits as before
-  pub front_within : {a b : O} {mode : Option (List ℕ)} {v v' : ℕ} {all rest : List Item} (later : List Item) → WritesFront wrote a b mode v all v' rest → WritesFront wrote a b mode v (all ++ later) v' (rest ++ later)
-  front_within {rest = rest} later f = record { done = f.done; parted = ap (λ t. t ++ later) f.parted ∙ append_assoc f.done rest later; written = f.written }
+  pub beginning_within : {a b : O} {mode : Option (List ℕ)} {v v' : ℕ} {all rest : List Item} (later : List Item) → WritesBeginning wrote a b mode v all v' rest → WritesBeginning wrote a b mode v (all ++ later) v' (rest ++ later)
+  beginning_within {rest = rest} later f = record { done = f.done; parted = ap (λ t. t ++ later) f.parted ∙ append_assoc f.done rest later; written = f.written }
 
   -- one front after another
-  pub front_then : (more : (a b c : O) (x y : List ℕ) → wrote a x b → wrote b y c → wrote a (x ++ y) c) {a b c : O} {mode : Option (List ℕ)} {v v' v'' : ℕ} {all rest left left' : List Item} → WritesFront wrote a b mode v all v' rest → rest ≡ left → WritesFront wrote b c mode v' left v'' left' → WritesFront wrote a c mode v all v'' left'
-  front_then more f e g = front_next more f (e ∙ g.parted) g.written
+  pub beginning_then : (more : (a b c : O) (x y : List ℕ) → wrote a x b → wrote b y c → wrote a (x ++ y) c) {a b c : O} {mode : Option (List ℕ)} {v v' v'' : ℕ} {all rest left left' : List Item} → WritesBeginning wrote a b mode v all v' rest → rest ≡ left → WritesBeginning wrote b c mode v' left v'' left' → WritesBeginning wrote a c mode v all v'' left'
+  beginning_then more f e g = beginning_next more f (e ∙ g.parted) g.written
 
   -- nothing is left
-  pub front_all : {a b : O} {mode : Option (List ℕ)} {v v' : ℕ} {all rest : List Item} → WritesFront wrote a b mode v all v' rest → rest ≡ [] → v' ≡ v → WritesItems wrote a b mode v all
-  front_all {a} {b} {mode} {v} {v'} {all} {rest} f e l =
+  pub beginning_all : {a b : O} {mode : Option (List ℕ)} {v v' : ℕ} {all rest : List Item} → WritesBeginning wrote a b mode v all v' rest → rest ≡ [] → v' ≡ v → WritesItems wrote a b mode v all
+  beginning_all {a} {b} {mode} {v} {v'} {all} {rest} f e l =
       let whole : all ≡ f.done = f.parted ∙ ap (λ t. f.done ++ t) e ∙ append-nil f.done in
       let w = rw l at f.written in
       rw whole (levels_writes w)
 
   -- writing stopped before the rest
-  pub front_stopped : (more : (a b c : O) (x y : List ℕ) → wrote a x b → wrote b y c → wrote a (x ++ y) c) {a b : O} {mode : Option (List ℕ)} {v v' : ℕ} {all rest : List Item} → WritesFront wrote a b mode v all v' rest → ((x : List ℕ) → wrote b x b) → raises all ≡ lowers all → WritesItems wrote a b mode v all
-  front_stopped more {a} {b} {mode} {v} {v'} {all} {rest} f idle e = record { text = rw (f.parted, laid_append mode v 0 0 f.done rest, encodes-append) (more a b b _ _ f.written.text (idle _)); balanced = e }
+  pub beginning_stopped : (more : (a b c : O) (x y : List ℕ) → wrote a x b → wrote b y c → wrote a (x ++ y) c) {a b : O} {mode : Option (List ℕ)} {v v' : ℕ} {all rest : List Item} → WritesBeginning wrote a b mode v all v' rest → ((x : List ℕ) → wrote b x b) → raises all ≡ lowers all → WritesItems wrote a b mode v all
+  beginning_stopped more {a} {b} {mode} {v} {v'} {all} {rest} f idle e = record { text = rw (f.parted, laid_append mode v 0 0 f.done rest, encodes-append) (more a b b _ _ f.written.text (idle _)); balanced = e }

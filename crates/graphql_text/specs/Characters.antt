@@ -1,6 +1,6 @@
 -- The classes of characters that the lexical grammar names. A character is its Unicode scalar value, and a text is a
 -- list of characters.
-use Rattle.std.specs.Prelude.{◌≡◌, ℕ, ◌+◌, ◌*◌, Bool, true, false, cond, ◌||◌, ◌&&◌, not, ◌==◌, List, [], ◌∷◌, codes, Option, Some, None}
+use Rattle.std.specs.Prelude.{◌≡◌, ℕ, ◌+◌, ◌*◌, Bool, true, false, if◌then◌else◌, ◌||◌, ◌&&◌, not, ◌==◌, List, [], ◌∷◌, codes, Option, Some, None}
 use Rattle.std.specs.Char.{digit_value}
 use Rattle.std.specs.Int.{is_in_range}
 use Rattle.std.specs.Str.{all_scalars}
@@ -43,13 +43,13 @@ is_plain_string_character c = not ((is_quote c || (c == 0x5C)) || is_line_termin
 -- EscapedCharacter, section 2.9.4: what the character after a backslash stands for
 abbrev pub escaped_character_value : ℕ → Option ℕ
 escaped_character_value c =
-    cond ((is_quote c || (c == 0x5C)) || (c == 0x2F)) (Some c)
-    (cond (c == 0x62) (Some 0x8)
-    (cond (c == 0x66) (Some 0xC)
-    (cond (c == 0x6E) (Some 0xA)
-    (cond (c == 0x72) (Some 0xD)
-    (cond (c == 0x74) (Some 0x9)
-    None)))))
+    if (is_quote c || (c == 0x5C)) || (c == 0x2F) then Some c
+    else if c == 0x62 then Some 0x8
+    else if c == 0x66 then Some 0xC
+    else if c == 0x6E then Some 0xA
+    else if c == 0x72 then Some 0xD
+    else if c == 0x74 then Some 0x9
+    else None
 
 -- EscapedUnicode, section 2.9.4: the number that four hexadecimal digits write
 abbrev pub unicode_escape_value : ℕ → ℕ → ℕ → ℕ → ℕ

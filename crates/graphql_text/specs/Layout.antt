@@ -1,5 +1,5 @@
 -- The layout of a tree: words, strings and marks, and the text that they give under a prefix or on one line.
-use Rattle.std.specs.Prelude.{ℕ, ◌+◌, ◌-◌, List, [], ◌∷◌, ◌++◌, codes, Bool, true, false, cond, ◌&&◌, ◌==◌, Option, Some, None, ◌≡◌}
+use Rattle.std.specs.Prelude.{ℕ, ◌+◌, ◌-◌, List, [], ◌∷◌, ◌++◌, codes, Bool, true, false, if◌then◌else◌, ◌&&◌, ◌==◌, Option, Some, None, ◌≡◌}
 use Rattle.std.specs.List.{list_any, repeat}
 use Rattle.graphql_text.specs.BlockStringValue.{is_blank}
 use Rattle.graphql_text.specs.BlockForm.{can_be_block, block_text}
@@ -10,16 +10,23 @@ use Rattle.graphql_text.specs.Tokens.{Punctuator, lbrace, rbrace, punctuator_tex
 pub data StringRole : Type 0 where
   AsValue AsDescription OnOneLine : StringRole
 
--- A word, a string, a space, a comma, or a mark.
+-- An item of a layout.
 pub data Item : Type 0 where
+  -- a token, as it is
   Word : Token → Item
+  -- a string, quoted or as a block string
   StringItem : List ℕ → StringRole → Item
+  -- a space and a comma, in every layout
   Space : Item
   Comma : Item
+  -- a break under a prefix; on one line a space, or nothing
   Soft : Item
   Tight : Item
+  -- between the definitions of a document: an empty line and a break under a prefix, on one line a space
   Blank : Item
+  -- the end of a document: a line feed under a prefix, on one line nothing
   Finish : Item
+  -- from here on lines stand one level deeper, or one level less deep
   Raise : Item
   Lower : Item
 
@@ -41,11 +48,11 @@ wants_block OnOneLine value = false
 abbrev pub string_text : Option (List ℕ) → ℕ → List ℕ → StringRole → List ℕ
 string_text None level value role = quoted_form value
 string_text (Some prefix) level value role =
-    cond (wants_block role value && can_be_block value) (block_text prefix level value) (quoted_form value)
+    if wants_block role value && can_be_block value then block_text prefix level value else quoted_form value
 
 -- a line feed, and the prefix as often as the level
 abbrev pub break_text : List ℕ → ℕ → List ℕ
-break_text prefix level = 10 ∷ repeat level prefix
+break_text prefix level = codes "\n" ++ repeat level prefix
 
 -- the text of an item at a level
 abbrev pub item_text : Option (List ℕ) → ℕ → Item → List ℕ
@@ -57,7 +64,7 @@ item_text (Some prefix) level Soft = break_text prefix level
 item_text None level Soft = codes " "
 item_text (Some prefix) level Tight = break_text prefix level
 item_text None level Tight = []
-item_text (Some prefix) level Blank = 10 ∷ break_text prefix level
+item_text (Some prefix) level Blank = codes "\n" ++ break_text prefix level
 item_text None level Blank = codes " "
 item_text (Some prefix) level Finish = codes "\n"
 item_text None level Finish = []

@@ -1,5 +1,5 @@
 -- The lines of a printed text, and how far each of them is indented: told by the text alone.
-use Rattle.std.specs.Prelude.{ℕ, ◌+◌, ◌-◌, ◌≡◌, Bool, true, false, cond, ◌&&◌, ◌||◌, ◌==◌, List, [], ◌∷◌, ◌++◌, codes, length}
+use Rattle.std.specs.Prelude.{ℕ, ◌+◌, ◌-◌, ◌≡◌, Bool, true, false, if◌then◌else◌, ◌&&◌, ◌||◌, ◌==◌, List, [], ◌∷◌, ◌++◌, codes, length}
 use Rattle.std.specs.List.{list_any, repeat}
 use Rattle.graphql_text.specs.Characters.{is_line_terminator, is_space_or_tab, is_quote, begins_with}
 use Rattle.graphql_text.specs.BlockStringValue.{lines_of}
@@ -14,13 +14,15 @@ pub data ScanState : Type 0 where
 
 -- The state behind one more character. In a block string `\"""` is part of it, and any other `"""` ends it.
 abbrev pub next_state : ScanState → ℕ → ScanState
-next_state Outside c = cond (is_quote c) OneQuote Outside
-next_state OneQuote c = cond (is_quote c) TwoQuotes (InQuoted (c == 0x5C))
-next_state TwoQuotes c = cond (is_quote c) (InBlock false 0) Outside
+next_state Outside c = if is_quote c then OneQuote else Outside
+next_state OneQuote c = if is_quote c then TwoQuotes else InQuoted (c == 0x5C)
+next_state TwoQuotes c = if is_quote c then InBlock false 0 else Outside
 next_state (InQuoted true) c = InQuoted false
-next_state (InQuoted false) c = cond (is_quote c) Outside (InQuoted (c == 0x5C))
+next_state (InQuoted false) c = if is_quote c then Outside else InQuoted (c == 0x5C)
 next_state (InBlock escaped quotes) c =
-    cond (is_quote c) (cond (quotes == 2) (cond escaped (InBlock false 0) Outside) (InBlock escaped (quotes + 1))) (InBlock (c == 0x5C) 0)
+    if is_quote c
+    then (if quotes == 2 then (if escaped then InBlock false 0 else Outside) else InBlock escaped (quotes + 1))
+    else InBlock (c == 0x5C) 0
 
 -- behind `""` too: what isn't a third quote stands behind an empty string
 abbrev pub is_outside : ScanState → Bool
@@ -36,7 +38,10 @@ closes_bracket c = list_any (λ b. c == b) (codes ")]}")
 
 -- How many brackets are open behind one more character. Those in strings don't count.
 abbrev pub next_depth : ScanState → ℕ → ℕ → ℕ
-next_depth state depth c = cond (is_outside state) (cond (opens_bracket c) (depth + 1) (cond (closes_bracket c) (depth - 1) depth)) depth
+next_depth state depth c =
+    if is_outside state
+    then (if opens_bracket c then depth + 1 else if closes_bracket c then depth - 1 else depth)
+    else depth
 
 -- both behind a text
 abbrev pub state_behind : ScanState → List ℕ → ScanState
@@ -50,12 +55,12 @@ depth_behind state depth (c ∷ text) = depth_behind (next_state state c) (next_
 -- whether the first character of a line that is neither space nor tab closes a bracket
 abbrev pub closes_at_front : List ℕ → Bool
 closes_at_front [] = false
-closes_at_front (c ∷ line) = cond (is_space_or_tab c) (closes_at_front line) (closes_bracket c)
+closes_at_front (c ∷ line) = if is_space_or_tab c then closes_at_front line else closes_bracket c
 
 -- The level of a line: the starting level plus the brackets that are open where the line begins, without one that is closed
 -- at the line's front.
 abbrev pub line_level : ℕ → ScanState → ℕ → List ℕ → ℕ
-line_level level state depth line = level + depth - cond (is_outside state && closes_at_front line) 1 0
+line_level level state depth line = level + depth - (if is_outside state && closes_at_front line then 1 else 0)
 
 -- whether a line is empty, or begins with the prefix that many times
 abbrev pub is_indented : List ℕ → ℕ → List ℕ → Bool

@@ -68,18 +68,18 @@ abbrev pub is_float : List ℕ → Bool
 is_float text = is_cut_before begins_float_part is_int is_float_part text
 
 -- A text that passes a test. A tree holds its names, numbers and strings so: each comes with its syntax.
-pub record Such (test : List ℕ → Bool) : Type 0 where
+pub record Checked (test : List ℕ → Bool) : Type 0 where
   pub text : List ℕ
   pub valid : test text ≡ true
 
 abbrev pub NameText : Type 0
-NameText = Such is_name
+NameText = Checked is_name
 
 abbrev pub IntText : Type 0
-IntText = Such is_int
+IntText = Checked is_int
 
 abbrev pub FloatText : Type 0
-FloatText = Such is_float
+FloatText = Checked is_float
 
 abbrev pub StringText : Type 0
-StringText = Such all_scalars
+StringText = Checked all_scalars

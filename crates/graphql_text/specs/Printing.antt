@@ -1,9 +1,9 @@
 -- What a print is asked for, and how what was printed is read.
-use Rattle.std.specs.Prelude.{◌≡◌, ℕ, List, Bool, Option, encode_utf8_all}
-use Rattle.graphql_text.specs.Forms.{Form}
-use Rattle.graphql_text.specs.Layout.{Item}
+use Rattle.std.specs.Prelude.{◌≡◌, ◌↔◌, ℕ, List, Option, Some, IsTrue, MatchOption, codes, encode_utf8_all}
+use Rattle.graphql_text.specs.Kinds.{Kind, layout_of}
+use Rattle.graphql_text.specs.Levels.{Overflows}
 use Rattle.graphql_text.specs.Place.{mode_of}
-use Rattle.graphql_text.specs.Reading.{BytesReadAs, layout_of}
+use Rattle.graphql_text.specs.Reading.{BytesReadAs}
 use Rattle.graphql_text.specs.declared.engine.Serialize.{Serialize}
 
 module _ {T : Type 0} where
@@ -19,11 +19,37 @@ module _ {T : Type 0} where
   abbrev pub print_level : Serialize T → ℕ
   print_level s = s.level
 
-  -- the bytes of its layout, where `shape` is that of the kind's trees without locations, and `tree` takes a tree to its own
-  abbrev pub print_bytes : {Tree : Type 0} → (Bool → Bool → Tree → List Item) → (T → Tree) → Serialize T → List ℕ
-  print_bytes shape tree s = encode_utf8_all (layout_of shape (print_mode s) (print_level s) (tree (print_tree s)))
+  -- the bytes of its layout, where `tree_of` takes a tree to the one of its kind
+  abbrev pub print_bytes : (kind : Kind) → (T → kind.Tree) → Serialize T → List ℕ
+  print_bytes kind tree_of s = encode_utf8_all (layout_of kind (print_mode s) (print_level s) (tree_of (print_tree s)))
+
+  -- its starting level and the nesting of the tree don't fit together
+  abbrev pub PrintOverflows : (kind : Kind) → (T → kind.Tree) → Serialize T → Type 0
+  PrintOverflows kind tree_of s = Overflows (print_level s) (kind.nesting (tree_of (print_tree s)))
+
+  -- It prints this tree in the default layout: a prefix of two spaces, from level 0.
+  pub record IsDefaultPrint (given : T) (s : Serialize T) : Type 0 where
+    pub tree : print_tree s ≡ given
+    pub mode : print_mode s ≡ Some (codes "  ")
+    pub level : print_level s ≡ 0
+
+-- the bytes of a tree in the default layout
+abbrev pub default_bytes : (kind : Kind) → kind.Tree → List ℕ
+default_bytes kind tree = encode_utf8_all (layout_of kind (Some (codes "  ")) 0 tree)
 
 -- The bytes are read as the tree, and as no other.
-pub record ReadsAlone {Tree : Type 0} (derives : Tree → Form) (bytes : List ℕ) (tree : Tree) : Type 0 where
-  pub itself : BytesReadAs derives bytes tree
-  pub alone : (other : Tree) → BytesReadAs derives bytes other → other ≡ tree
+pub record ReadsAlone (kind : Kind) (bytes : List ℕ) (tree : kind.Tree) : Type 0 where
+  pub itself : BytesReadAs kind.form bytes tree
+  pub alone : (other : kind.Tree) → BytesReadAs kind.form bytes other → other ≡ tree
+
+-- What is printed and read of the trees of `T`, as trees of the first kind, is what is printed and read of them as trees of the other.
+pub record IsKind {T : Type 0} (kind : Kind) (tree_of : T → kind.Tree) (other : Kind) (other_tree : T → other.Tree) : Type 0 where
+  pub printed : (s : Serialize T) → print_bytes kind tree_of s ≡ print_bytes other other_tree s
+  pub read : (bytes : List ℕ) (t : T) → ReadsAlone kind bytes (tree_of t) ↔ ReadsAlone other bytes (other_tree t)
+  pub obeyed : (t : T) → kind.obeys (tree_of t) ≡ other.obeys (other_tree t)
+  pub nested : (t : T) → kind.nesting (tree_of t) ≡ other.nesting (other_tree t)
+  pub stacked : (t : T) → kind.entries (tree_of t) ≡ other.entries (other_tree t)
+
+-- If the tree obeys the side conditions, something was put out, and it is read as the tree, and as no other.
+abbrev pub IsReadWhereItObeys : (kind : Kind) → Option (List ℕ) → kind.Tree → Type 0
+IsReadWhereItObeys kind output tree = IsTrue (kind.obeys tree) → MatchOption output ⊥ (λ bytes. ReadsAlone kind bytes tree)

@@ -22,7 +22,7 @@ module _ {S : Type 0} (taken : S → Option (List ℕ)) (faults : S → ℕ) whe
     pub counted : faults b ≡ faults a + 1
 
   -- some bytes went to the sink, and the others wait
-  pub record SinkTookFront (a : S) (bytes : List ℕ) (b : S) (waiting : List ℕ) : Type 0 where
+  pub record SinkTookBeginning (a : S) (bytes : List ℕ) (b : S) (waiting : List ℕ) : Type 0 where
     pub sent : List ℕ
     pub whole : bytes ≡ sent ++ waiting
     pub took : SinkTook a sent b
@@ -38,5 +38,5 @@ module _ {S : Type 0} (taken : S → Option (List ℕ)) (faults : S → ℕ) whe
   abbrev pub SendsBuffered : S → Bool → List ℕ → List ℕ → S → Bool → List ℕ → Type 0
   SendsBuffered a true before bytes b true after = SinkTook a [] b
   SendsBuffered a true before bytes b false after = ⊥
-  SendsBuffered a false before bytes b false after = CanFault (faults a) → SinkTookFront a (before ++ bytes) b after
+  SendsBuffered a false before bytes b false after = CanFault (faults a) → SinkTookBeginning a (before ++ bytes) b after
   SendsBuffered a false before bytes b true after = CanFault (faults a) → SinkFaulted a (before ++ bytes) b

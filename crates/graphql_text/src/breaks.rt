@@ -1,32 +1,36 @@
 //! Line breaks, and the prefix that lines begin with.
 
-ghost use Rattle.std.specs.Prelude.{◌≡◌, ◌↔◌, ◌≤◌, [], ◌∷◌, IsSome, IsTrue, MatchOption, ⊤, chars, encode_utf8_all};
+ghost use Rattle.std.specs.Prelude.{◌≡◌, ◌↔◌, ◌≤◌, ◌++◌, IsSome, IsTrue, MatchOption, ⊤, chars, codes, encode_utf8_all};
 ghost use Rattle.std.specs.List.{repeat};
 ghost use Rattle.graphql_text.specs.Layout.{break_text};
+ghost use Rattle.graphql_text.specs.declared.breaks.TheConstants.{READY_LEVELS};
 
 use crate::target::Target;
 
-/// A comma, a line feed and 62 spaces.
+/// Up to which level a break under a prefix of two spaces is a text at hand.
+const READY_LEVELS: usize = 30;
+
+/// A comma, a line feed and the spaces of a level more than that.
 const COMMA_AND_SPACES: &str = ",\n                                                              ";
 
 fn is_two_spaces(prefix: &str) -> bool
-    ensures { IsTrue result ↔ (prefix.now ≡ 32 ∷ 32 ∷ []) }
+    ensures { IsTrue result ↔ (prefix.now ≡ codes "  ") }
 {
     prefix == "  "
 }
 
 /// A break under a prefix of two spaces.
 fn two_space_break(level: usize) -> &'static str
-    requires { level ≤ 30 }
-    ensures { result.now ≡ break_text (32 ∷ 32 ∷ []) level }
+    requires { level ≤ READY_LEVELS }
+    ensures { result.now ≡ break_text (codes "  ") level }
 {
     &COMMA_AND_SPACES[1..2 * level + 2]
 }
 
 /// A comma and a break under a prefix of two spaces.
 fn two_space_comma_break(level: usize) -> &'static str
-    requires { level ≤ 30 }
-    ensures { result.now ≡ 44 ∷ break_text (32 ∷ 32 ∷ []) level }
+    requires { level ≤ READY_LEVELS }
+    ensures { result.now ≡ codes "," ++ break_text (codes "  ") level }
 {
     &COMMA_AND_SPACES[..2 * level + 2]
 }
@@ -52,7 +56,7 @@ pub(crate) fn indent<O: Target>(out: &mut O, prefix: &str, level: usize)
 fn ready_break(prefix: &str, level: usize) -> Option<&'static str>
     ensures { MatchOption result ⊤ (λ text. text.now ≡ encode_utf8_all (break_text (chars prefix.now) level)) }
 {
-    if is_two_spaces(prefix) && level <= 30 {
+    if is_two_spaces(prefix) && level <= READY_LEVELS {
         Some(two_space_break(level))
     } else {
         None
@@ -61,10 +65,11 @@ fn ready_break(prefix: &str, level: usize) -> Option<&'static str>
 
 /// A comma, a line feed, and the prefix as often as the level, where that is a text at hand.
 pub(crate) fn ready_comma_break(prefix: &str, level: usize) -> Option<&'static str>
-    ensures text { MatchOption result ⊤ (λ text. text.now ≡ 44 ∷ encode_utf8_all (break_text (chars prefix.now) level)) }
-    ensures ready { prefix.now ≡ 32 ∷ 32 ∷ [] → level ≤ 30 → IsSome result }
+    ensures text { MatchOption result ⊤ (λ text.
+        text.now ≡ codes "," ++ encode_utf8_all (break_text (chars prefix.now) level)) }
+    ensures ready { prefix.now ≡ codes "  " → level ≤ READY_LEVELS → IsSome result }
 {
-    if is_two_spaces(prefix) && level <= 30 {
+    if is_two_spaces(prefix) && level <= READY_LEVELS {
         Some(two_space_comma_break(level))
     } else {
         None
@@ -94,7 +99,7 @@ pub(crate) fn line_break<O: Target>(out: &mut O, prefix: &str, level: usize)
 /// Writes a comma, a line feed, and the prefix as often as the level.
 #[inline(never)]
 pub(crate) fn comma_break<O: Target>(out: &mut O, prefix: &str, level: usize)
-    ensures { O.wrote out.old (44 ∷ encode_utf8_all (break_text (chars prefix.now) level)) out.new }
+    ensures { O.wrote out.old (codes "," ++ encode_utf8_all (break_text (chars prefix.now) level)) out.new }
 {
     match ready_comma_break(prefix, level) {
         Some(text) => out.text(text),

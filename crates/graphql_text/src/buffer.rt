@@ -1,12 +1,16 @@
 //! A buffer of text on its owner's frame.
 ghost use Rattle.std.specs.Prelude.{◌≡◌, ◌≤◌, ◌+◌, ◌++◌, [], IsTrue, IsUtf8, false, length, take};
+ghost use Rattle.graphql_text.specs.declared.buffer.TheConstants.{SIZE};
+
+/// How many bytes a buffer holds.
+const SIZE: usize = 1024;
 
 /// Text that waits to be sent. It takes no memory.
 #[derive(Drop)]
 pub(crate) struct Buffer {
     used: usize,
-    bytes: [u8; 1024],
-    ghost fits: { used ≤ 1024 },
+    bytes: [u8; SIZE],
+    ghost fits: { used ≤ SIZE },
     ghost utf8: { ∥ IsUtf8 (take used bytes) ∥₁ },
 }
 
@@ -18,7 +22,7 @@ impl Buffer {
     {
         Buffer {
             used: 0,
-            bytes: [0u8; 1024],
+            bytes: [0u8; SIZE],
         }
     }
 
@@ -44,10 +48,10 @@ impl Buffer {
     pub(crate) fn add(&mut self, text: &str) -> bool
         ensures added { IsTrue result → waiting_bytes self.new ≡ waiting_bytes self.old ++ text.now }
         ensures full { result ≡ false → self.new ≡ self.old }
-        ensures room { length (waiting_bytes self.old) + length text.now ≤ 1024 → IsTrue result }
+        ensures room { length (waiting_bytes self.old) + length text.now ≤ SIZE → IsTrue result }
     {
         let used = self.used;
-        if text.len() <= 1024 - used {
+        if text.len() <= SIZE - used {
             let end = used + text.len();
             self.bytes[used..end].copy_from_slice(text.as_bytes());
             self.used = end;

@@ -1,12 +1,13 @@
 //! Kinds of trees that are printed, and their prints.
 ghost use Rattle.std.specs.Prelude.{◌≡◌, ℕ, ◌↔◌, [], true, false, List, Bool, Option, Some, None, codes, IfOk, OnOk, OnErr, IsOk, IsErrOf, IsTrue, MatchOption, string_bytes, encode_utf8_all, chars};
 ghost use Rattle.graphql_text.specs.Buffer.{waiting_bytes};
-ghost use Rattle.graphql_text.specs.Forms.{Form};
-ghost use Rattle.graphql_text.specs.Layout.{Item, IsBlankMode};
-ghost use Rattle.graphql_text.specs.Levels.{Fits, Overflows};
+ghost use Rattle.graphql_text.specs.Kinds.{Kind};
+ghost use Rattle.graphql_text.specs.Layout.{IsBlankMode};
+ghost use Rattle.graphql_text.specs.Levels.{Fits, IsCount};
 ghost use Rattle.graphql_text.specs.Place.{mode_of};
-ghost use Rattle.graphql_text.specs.Reading.{Laws, layout_of};
+ghost use Rattle.graphql_text.specs.Reading.{Laws};
 ghost use Rattle.graphql_text.specs.Sinks.{CanFault, SinkTook, SinkFaulted};
+ghost use Rattle.graphql_text.specs.Writing.{WritesTree, bytes_from};
 
 use crate::buffer::Buffer;
 use crate::place::Place;
@@ -18,42 +19,28 @@ use thiserror::Error;
 
 /// A kind of tree that is printed, and read back as itself alone.
 ///
-/// `Serialize` prints it. The ghost members say what the kind is: its trees without locations, how they are laid out, the
-/// grammar that reads them, the side conditions of what can be read; and `laws` is the proof that these fit together.
+/// `Serialize` prints it. The ghost members say which kind it is (`specs/Kinds.antt`), and `laws` is the proof that
+/// what the kind says fits together.
 pub trait Syntax {
-    /// The trees of the kind without locations. Two values that are alike have the same one.
-    ghost Tree: { Type 0 };
+    ghost kind: { Kind };
 
-    ghost tree: { Self → Tree };
+    /// The tree without locations. Two values that are alike have the same one.
+    ghost tree: { Self → kind.Tree };
 
-    /// The items of a tree: told whether the layout is broken, and whether no prefix is written before the tree.
-    ghost shape: { Bool → Bool → Tree → List Item };
+    ghost laws: { Laws kind };
 
-    /// How deep the groups of a tree stand in one another.
-    ghost nesting: { Tree → ℕ };
-
-    /// How many parts of a tree wait on stacks at most while it is written.
-    ghost parts: { Tree → ℕ };
-
-    /// The side conditions.
-    ghost obeys: { Tree → Type 0 };
-
-    /// The grammar: the tokens from a place on, and those that follow the tree.
-    ghost derives: { Tree → Form };
-
-    ghost laws: { Laws shape nesting obeys derives };
-
-    /// Whether the tree keeps the side conditions of its kind: then what is printed of it can be read. It takes no memory.
+    /// Whether the tree keeps the side conditions of its kind: then what is printed of it can be read. It takes no
+    /// memory.
     fn is_well_formed(&self) -> bool
-        ensures { IsTrue result ↔ obeys (tree self.now) };
+        ensures { result ≡ kind.obeys (tree self.now) };
 
     /// How deep the groups of the tree stand in one another. `None` if it is above `usize::MAX`.
     fn find_nesting(&self) -> Option<usize>
-        ensures { MatchOption result (Overflows 0 (nesting (tree self.now))) (λ n. n ≡ nesting (tree self.now)) };
+        ensures { IsCount result (kind.nesting (tree self.now)) };
 
-    /// Writes the whole layout of the tree from a place on. How deep its groups stand in one another is handed over, since
-    /// it was found before. Memory for its stacks is asked for before the first byte: `AllocError` where it is refused, with
-    /// nothing written.
+    /// Writes the whole layout of the tree from a place on. How deep its groups stand in one another is handed over,
+    /// since it was found before. Memory for its stacks is asked for before the first byte: `AllocError` where it is
+    /// refused, with nothing written.
     fn write<O: Target>(
         &self,
         out: &mut O,
@@ -63,10 +50,10 @@ pub trait Syntax {
     where
         Self: Sized,
         requires fits { Fits place.now.level depth }
-        requires depth { depth ≡ nesting (tree self.now) }
-        ensures ok { OnOk result (O.wrote out.old (encode_utf8_all (layout_of shape (mode_of place.now.prefix) place.now.level (tree self.now))) out.new) }
+        requires depth { depth ≡ kind.nesting (tree self.now) }
+        ensures ok { OnOk result (WritesTree O.wrote out.old out.new place.now kind (tree self.now)) }
         ensures err { OnErr result (out.new ≡ out.old) }
-        ensures free { parts (tree self.now) ≡ 0 → IsOk result };
+        ensures free { kind.entries (tree self.now) ≡ 0 → IsOk result };
 }
 
 /// Why a tree was not printed, or not to its end.
@@ -85,8 +72,8 @@ pub enum PrintError {
 
 /// A tree, and the layout that it is printed in.
 ///
-/// `Display` prints the same text. It answers `fmt::Error` where the level overflows or the memory of a stack is refused, with
-/// nothing written, and where the formatter refuses.
+/// `Display` prints the same text. It answers `fmt::Error` where the level overflows or the memory of a stack is
+/// refused, with nothing written, and where the formatter refuses.
 #[derive_where(Clone, Copy)]
 pub struct Serialize<'a, T> {
     tree: &'a T,
@@ -95,13 +82,11 @@ pub struct Serialize<'a, T> {
 }
 
 impl<'a, T> Serialize<'a, T> {
-    ghost use Rattle.graphql_text.specs.Printing.{print_tree, print_mode, print_level};
+    ghost use Rattle.graphql_text.specs.Printing.{IsDefaultPrint, print_tree, print_mode, print_level};
 
     /// The tree in the default layout: a prefix of two spaces, from level 0.
     pub fn new(tree: &'a T) -> Serialize<'a, T>
-        ensures tree { print_tree result ≡ tree.now }
-        ensures mode { print_mode result ≡ Some (codes "  ") }
-        ensures level { print_level result ≡ 0 }
+        ensures { IsDefaultPrint tree.now result }
     {
         Serialize {
             tree,
@@ -152,15 +137,19 @@ fn send_layout<T: Syntax, S: TextSink>(
     depth: usize,
 ) -> Result<(), AllocError>
     requires level { Fits place.now.level depth }
-    requires depth { depth ≡ T.nesting (T.tree tree.now) }
+    requires depth { depth ≡ T.kind.nesting (T.tree tree.now) }
     requires faults { CanFault (S.fault_count out.old.sink.now) }
     requires fresh { out.old.stopped ≡ false }
     requires empty { waiting_bytes out.old.buffer ≡ [] }
     ensures name { out.new.sink.ghost_name ≡ out.old.sink.ghost_name }
     ensures err { OnErr result (out.new.sink.now ≡ out.old.sink.now) }
-    ensures free { T.parts (T.tree tree.now) ≡ 0 → IsOk result }
-    ensures stopped { OnOk result (out.new.stopped ≡ true → SinkFaulted S.taken S.fault_count out.old.sink.now (encode_utf8_all (layout_of T.shape (mode_of place.now.prefix) place.now.level (T.tree tree.now))) out.new.sink.now) }
-    ensures printed { OnOk result (out.new.stopped ≡ false → SinkTook S.taken S.fault_count out.old.sink.now (encode_utf8_all (layout_of T.shape (mode_of place.now.prefix) place.now.level (T.tree tree.now))) out.new.sink.now) }
+    ensures free { T.kind.entries (T.tree tree.now) ≡ 0 → IsOk result }
+    ensures stopped { OnOk result (out.new.stopped ≡ true →
+        SinkFaulted S.taken S.fault_count out.old.sink.now
+        (bytes_from place.now T.kind (T.tree tree.now)) out.new.sink.now) }
+    ensures printed { OnOk result (out.new.stopped ≡ false →
+        SinkTook S.taken S.fault_count out.old.sink.now
+        (bytes_from place.now T.kind (T.tree tree.now)) out.new.sink.now) }
 {
     tree.write(out, place, depth)?;
     finish(out);
@@ -168,12 +157,12 @@ fn send_layout<T: Syntax, S: TextSink>(
 }
 
 impl<'a, T: Syntax> Serialize<'a, T> {
-    ghost use Rattle.graphql_text.specs.Printing.{ReadsAlone, print_tree, print_mode, print_level, print_bytes};
+    ghost use Rattle.graphql_text.specs.Printing.{PrintOverflows, ReadsAlone, print_tree, print_mode, print_level, print_bytes};
 
     /// How deep the groups of the tree stand in one another, where that and the level fit together.
     fn depth(&self) -> Option<usize>
-        ensures { MatchOption result (Overflows (print_level self.now) (T.nesting (T.tree (print_tree self.now))))
-            (λ depth. (depth ≡ T.nesting (T.tree (print_tree self.now))) × Fits (print_level self.now) depth) }
+        ensures { MatchOption result (PrintOverflows T.kind T.tree self.now)
+            (λ depth. (depth ≡ T.kind.nesting (T.tree (print_tree self.now))) × Fits (print_level self.now) depth) }
     {
         match self.tree.find_nesting() {
             Some(depth) if depth <= usize::MAX - self.level => Some(depth),
@@ -194,26 +183,30 @@ impl<'a, T: Syntax> Serialize<'a, T> {
 
     /// Prints into a sink.
     ///
-    /// `Ok`: the sink has taken exactly the bytes of the layout. `LevelOverflow` comes exactly where the starting level and
-    /// the nesting don't fit together, before memory is asked for; `Memory` where the memory of a stack was refused, before
-    /// the first byte; `Sink` at the sink's first fault, after a beginning of the bytes.
+    /// `Ok`: the sink has taken exactly the bytes of the layout. `LevelOverflow` comes exactly where the starting
+    /// level and the nesting don't fit together, before memory is asked for; `Memory` where the memory of a stack was
+    /// refused, before the first byte; `Sink` at the sink's first fault, after a beginning of the bytes.
     ///
     /// Condition: `sink.faults()` is below `u64::MAX`.
     pub fn print_to<S: TextSink>(&self, sink: &mut S) -> Result<(), PrintError>
         requires { CanFault (S.fault_count sink.old) }
-        ensures printed { OnOk result (SinkTook S.taken S.fault_count sink.old (print_bytes T.shape T.tree self.now) sink.new) }
+        ensures printed { OnOk result
+            (SinkTook S.taken S.fault_count sink.old (print_bytes T.kind T.tree self.now) sink.new) }
 
-        ensures overflow { IsErrOf result PrintError.LevelOverflow ↔ Overflows (print_level self.now) (T.nesting (T.tree (print_tree self.now))) }
+        ensures overflow { IsErrOf result PrintError.LevelOverflow ↔ PrintOverflows T.kind T.tree self.now }
         ensures untouched { IsErrOf result PrintError.LevelOverflow → sink.new ≡ sink.old }
         ensures memory { IsErrOf result PrintError.Memory → sink.new ≡ sink.old }
-        ensures free { T.parts (T.tree (print_tree self.now)) ≡ 0 → IsErrOf result PrintError.Memory → ⊥ }
-        ensures stopped { IsErrOf result PrintError.Sink → SinkFaulted S.taken S.fault_count sink.old (print_bytes T.shape T.tree self.now) sink.new }
+        ensures free { T.kind.entries (T.tree (print_tree self.now)) ≡ 0 → IsErrOf result PrintError.Memory → ⊥ }
+        ensures stopped { IsErrOf result PrintError.Sink →
+            SinkFaulted S.taken S.fault_count sink.old (print_bytes T.kind T.tree self.now) sink.new }
 
         // What was printed of a well-formed tree is read as that tree, and as no other.
-        ensures read { OnOk result (T.obeys (T.tree (print_tree self.now)) → IsBlankMode (print_mode self.now) →
-            ReadsAlone T.derives (print_bytes T.shape T.tree self.now) (T.tree (print_tree self.now))) }
+        ensures read { OnOk result
+            (IsTrue (T.kind.obeys (T.tree (print_tree self.now))) → IsBlankMode (print_mode self.now) →
+            ReadsAlone T.kind (print_bytes T.kind T.tree self.now) (T.tree (print_tree self.now))) }
     {
         let Some(depth) = self.depth() else {
+            // before memory is asked for, and before the first byte
             return Err(PrintError::LevelOverflow);
         };
         let mut out = ToSink {
@@ -231,17 +224,18 @@ impl<'a, T: Syntax> Serialize<'a, T> {
         }
     }
 
-    /// The text of the layout. `LevelOverflow` and `Memory` come as in `print_to`, and `Memory` also where the text itself
-    /// cannot grow; it never answers `Sink`.
+    /// The text of the layout. `LevelOverflow` and `Memory` come as in `print_to`, and `Memory` also where the text
+    /// itself cannot grow; it never answers `Sink`.
     pub fn to_text(&self, alloc: Global) -> Result<String, PrintError>
-        ensures printed { IfOk result (λ text. string_bytes text ≡ print_bytes T.shape T.tree self.now) }
+        ensures printed { IfOk result (λ text. string_bytes text ≡ print_bytes T.kind T.tree self.now) }
 
-        ensures overflow { IsErrOf result PrintError.LevelOverflow ↔ Overflows (print_level self.now) (T.nesting (T.tree (print_tree self.now))) }
+        ensures overflow { IsErrOf result PrintError.LevelOverflow ↔ PrintOverflows T.kind T.tree self.now }
         ensures sink { IsErrOf result PrintError.Sink → ⊥ }
 
         // What was printed of a well-formed tree is read as that tree, and as no other.
-        ensures read { IfOk result (λ text. T.obeys (T.tree (print_tree self.now)) → IsBlankMode (print_mode self.now) →
-            ReadsAlone T.derives (string_bytes text) (T.tree (print_tree self.now))) }
+        ensures read { IfOk result (λ text.
+            IsTrue (T.kind.obeys (T.tree (print_tree self.now))) → IsBlankMode (print_mode self.now) →
+            ReadsAlone T.kind (string_bytes text) (T.tree (print_tree self.now))) }
     {
         let Some(depth) = self.depth() else {
             return Err(PrintError::LevelOverflow);
@@ -261,7 +255,7 @@ impl<'a, T: Syntax> Serialize<'a, T> {
 impl<'a, T: Syntax> fmt::Display for Serialize<'a, T> {
     ghost use Rattle.graphql_text.specs.Printing.{print_bytes};
 
-    ghost output = { λ s. Some (print_bytes T.shape T.tree s) };
+    ghost output = { λ s. Some (print_bytes T.kind T.tree s) };
 
     fn fmt<W: fmt::Write>(&self, f: &mut fmt::Formatter<W>) -> fmt::Result {
         let Some(depth) = self.depth() else {

@@ -6,7 +6,8 @@ ghost use Rattle.graphql_base.specs.Names.{begins_in, is_name, is_name_continue}
 ghost use Rattle.graphql_text.specs.BlockForm.{block_text, can_be_block};
 ghost use Rattle.graphql_text.specs.BlockStringValue.{block_string_value, is_blank};
 ghost use Rattle.graphql_text.specs.Characters.{IsSourceText, is_ignored, follows_no_number, is_quote};
-ghost use Rattle.graphql_text.specs.Layout.{AsDescription, Blank, Finish, IsBlankMode, Item, Soft, StringItem, StringRole, Word, comma_group, curly_group, layout, string_text};
+ghost use Rattle.graphql_text.specs.Examples.{described_name, two_definitions, two_integers, two_names};
+ghost use Rattle.graphql_text.specs.Layout.{IsBlankMode, Item, StringRole, comma_group, curly_group, layout, string_text};
 ghost use Rattle.graphql_text.specs.Lines.{LinesAreIndented};
 ghost use Rattle.graphql_text.specs.Literals.{is_float, is_int};
 ghost use Rattle.graphql_text.specs.Printing.{ReadsAlone, print_mode, print_tree};
@@ -27,10 +28,10 @@ pub fn one_token_list()
         Lexes b ys → xs ≡ ys }
 {}
 
-/// Which tokens may stand side by side. A punctuator, a block string and a quoted string may stand before anything (but
-/// `""` before no quote), a name before what doesn't begin with a letter, a digit or `_`, and a number before none of
-/// these and no `.`. Ignored characters may stand anywhere, and a line terminator may follow any text, even one that ends
-/// in a comment. Two texts of which the first may stand before the second have the tokens of both.
+/// Which tokens may stand side by side. A punctuator, a block string and a quoted string may stand before anything
+/// (but `""` before no quote), a name before what doesn't begin with a letter, a digit or `_`, and a number before
+/// none of these and no `.`. Ignored characters may stand anywhere, and a line terminator may follow any text, even
+/// one that ends in a comment. Two texts of which the first may stand before the second have the tokens of both.
 pub fn tokens_side_by_side()
     ensures punctuators { (mark : Punctuator) (after : List ℕ) →
         LexesBefore (punctuator_text mark) (Punctuation mark ∷ []) after }
@@ -51,9 +52,9 @@ pub fn tokens_side_by_side()
         Lexes (a ++ (0xA ∷ b)) (xs ++ ys) }
 {}
 
-/// A printed string is the one token of its value. Its quoted form is, before whatever isn't a quote. So is the block form
-/// of a value that may have one, at every level and under every prefix of spaces and tabs, whatever follows; and so is the
-/// form of the two that a layout chooses.
+/// A printed string is the one token of its value. Its quoted form is, before whatever isn't a quote. So is the block
+/// form of a value that may have one, at every level and under every prefix of spaces and tabs, whatever follows; and
+/// so is the form of the two that a layout chooses.
 pub fn strings_keep_their_value()
     ensures quoted { (value after : List ℕ) → begins_in is_quote after ≡ false →
         LexesBefore (quoted_form value) (StringValue value ∷ []) after }
@@ -67,8 +68,9 @@ pub fn strings_keep_their_value()
         IsBlankMode mode → Lexes (string_text mode level value role) (StringValue value ∷ []) }
 {}
 
-/// The layout of items, each word and string of which may stand before what follows it, is a source text, and lexes as the
-/// words and strings of the items, in order: under every prefix of spaces and tabs, at every level, and on one line.
+/// The layout of items, each word and string of which may stand before what follows it, is a source text, and lexes
+/// as the words and strings of the items, in order: under every prefix of spaces and tabs, at every level, and on one
+/// line.
 pub fn layouts_lex()
     ensures tokens { (mode : Option (List ℕ)) (level : ℕ) (items : List Item) → IsBlankMode mode →
         AreApart items → Lexes (layout mode level items) (tokens_of_items items) }
@@ -79,21 +81,25 @@ pub fn layouts_lex()
 /// What layouts give: groups, a description, and a blank between two parts with a line feed at the end.
 #[tactic(auto, unfolding(crate::specs::Layout::text_of_items, crate::specs::Layout::each_after))]
 pub fn worked_layouts()
-    ensures curly_group { layout (Some (codes "  ")) 1 (curly_group ((Word (Name (codes "a")) ∷ []) ∷ (Word (Name (codes "b")) ∷ []) ∷ [])) ≡ codes "  {\n    a\n    b\n  }" }
-    ensures curly_group_on_one_line { layout None 1 (curly_group ((Word (Name (codes "a")) ∷ []) ∷ (Word (Name (codes "b")) ∷ []) ∷ [])) ≡ codes "{ a b }" }
+    ensures curly_group { layout (Some (codes "  ")) 1 (curly_group two_names) ≡ codes "  {\n    a\n    b\n  }" }
+    ensures curly_group_on_one_line { layout None 1 (curly_group two_names) ≡ codes "{ a b }" }
     ensures empty_curly_group { layout (Some (codes "  ")) 0 (curly_group []) ≡ codes "{}" }
-    ensures comma_group { layout (Some (codes "\t")) 1 (comma_group lbracket rbracket true ((Word (IntValue (codes "1")) ∷ []) ∷ (Word (IntValue (codes "2")) ∷ []) ∷ [])) ≡ codes "\t[\n\t\t1,\n\t\t2,\n\t]" }
-    ensures comma_group_on_one_line { layout None 1 (comma_group lbracket rbracket false ((Word (IntValue (codes "1")) ∷ []) ∷ (Word (IntValue (codes "2")) ∷ []) ∷ [])) ≡ codes "[1, 2]" }
+    ensures comma_group { layout (Some (codes "\t")) 1 (comma_group lbracket rbracket true two_integers)
+        ≡ codes "\t[\n\t\t1,\n\t\t2,\n\t]" }
+    ensures comma_group_on_one_line { layout None 1 (comma_group lbracket rbracket false two_integers)
+        ≡ codes "[1, 2]" }
     ensures empty_comma_group { layout (Some (codes "  ")) 0 (comma_group lbracket rbracket true []) ≡ codes "[]" }
-    ensures description { layout (Some (codes "  ")) 1 (StringItem (codes "d") AsDescription ∷ Soft ∷ Word (Name (codes "a")) ∷ []) ≡ codes "  \"\"\"d\"\"\"\n  a" }
-    ensures description_on_one_line { layout None 0 (StringItem (codes "d") AsDescription ∷ Soft ∷ Word (Name (codes "a")) ∷ []) ≡ codes "\"d\" a" }
-    ensures document { layout (Some (codes "  ")) 1 (Word (Name (codes "a")) ∷ Blank ∷ Word (Name (codes "b")) ∷ Finish ∷ []) ≡ codes "  a\n\n  b\n" }
-    ensures document_on_one_line { layout None 0 (Word (Name (codes "a")) ∷ Blank ∷ Word (Name (codes "b")) ∷ Finish ∷ []) ≡ codes "a b" }
+    ensures description { layout (Some (codes "  ")) 1 described_name ≡ codes "  \"\"\"d\"\"\"\n  a" }
+    ensures description_on_one_line { layout None 0 described_name ≡ codes "\"d\" a" }
+    ensures document { layout (Some (codes "  ")) 1 two_definitions ≡ codes "  a\n\n  b\n" }
+    ensures document_on_one_line { layout None 0 two_definitions ≡ codes "a b" }
 {}
 
 /// Texts that lex, and what to.
 pub fn worked_texts()
-    ensures list { Lexes (codes "[1 2,,3 #c\n]") (Punctuation lbracket ∷ IntValue (codes "1") ∷ IntValue (codes "2") ∷ IntValue (codes "3") ∷ Punctuation rbracket ∷ []) }
+    ensures list { Lexes (codes "[1 2,,3 #c\n]")
+        (Punctuation lbracket ∷ IntValue (codes "1") ∷ IntValue (codes "2") ∷ IntValue (codes "3")
+        ∷ Punctuation rbracket ∷ []) }
     ensures escapes { Lexes (codes "\"\\u0041\\/\"") (StringValue (codes "A/") ∷ []) }
     ensures block { Lexes (codes "\"\"\"\n\ta\n\"\"\"") (StringValue (codes "a") ∷ []) }
     ensures numbers { Lexes (codes "-0 1.50e-3") (IntValue (codes "-0") ∷ FloatValue (codes "1.50e-3") ∷ []) }
@@ -115,11 +121,12 @@ pub fn refused_texts()
     ensures no_greater { IsSourceText (0x110000 ∷ []) → ⊥ }
 {}
 
-/// What raw values of block strings stand for: the example of the specification; each line terminator is a line feed; the
-/// first line keeps its indentation; blank lines at the front and at the end are dropped; a line shorter than the common
-/// indentation becomes empty; a tab counts as one.
+/// What raw values of block strings stand for: the example of the specification; each line terminator is a line feed;
+/// the first line keeps its indentation; blank lines at the front and at the end are dropped; a line shorter than the
+/// common indentation becomes empty; a tab counts as one.
 pub fn block_string_values()
-    ensures example { block_string_value (codes "\n    Hello,\n      World!\n\n    Yours,\n      GraphQL.\n  ") ≡ codes "Hello,\n  World!\n\nYours,\n  GraphQL." }
+    ensures example { block_string_value (codes "\n    Hello,\n      World!\n\n    Yours,\n      GraphQL.\n  ")
+        ≡ codes "Hello,\n  World!\n\nYours,\n  GraphQL." }
     ensures terminators { block_string_value (codes "a\r\nb\rc\nd") ≡ codes "a\nb\nc\nd" }
     ensures first_line { block_string_value (codes "  a\n  b") ≡ codes "  a\nb" }
     ensures blank { block_string_value (codes " \n\t\r\r\n") ≡ codes "" }
@@ -127,11 +134,13 @@ pub fn block_string_values()
     ensures tab { block_string_value (codes "\n\t a\n\t\t\n  b") ≡ codes "a\n\nb" }
 {}
 
-/// Texts of which each line that isn't empty begins with the prefix as often as the level and the brackets open there say.
+/// Texts of which each line that isn't empty begins with the prefix as often as the level and the brackets open there
+/// say.
 pub fn indented_texts()
     ensures group { LinesAreIndented (codes "  ") 0 (codes "{\n  list: [\n    1,\n    2,\n  ],\n}") }
     ensures level { LinesAreIndented (codes "\t") 2 (codes "\t\t[\n\t\t\t1,\n\t\t]") }
-    ensures block { LinesAreIndented (codes "  ") 0 (codes "[\n  \"\"\"\n  [{(\n\n  ) \\\"\"\" ]\n  \"\"\",\n  \"({[\",\n  \"\",\n]") }
+    ensures block { LinesAreIndented (codes "  ") 0
+        (codes "[\n  \"\"\"\n  [{(\n\n  ) \\\"\"\" ]\n  \"\"\",\n  \"({[\",\n  \"\",\n]") }
     ensures default { LinesAreIndented (codes "  ") 0 (codes "f(\n  a: [Int] = [\n    1,\n  ] @x,\n): Int") }
     ensures document { LinesAreIndented (codes "  ") 1 (codes "  type A\n\n  query {\n    a\n  }\n") }
 {}
@@ -146,12 +155,12 @@ pub fn outdented_texts()
     ensures block_end { LinesAreIndented (codes "  ") 0 (codes "[\n  \"\"\"\n  a\n \"\"\",\n]") → ⊥ }
 {}
 
-/// What is displayed of a well-formed tree, on one line or under a prefix of spaces and tabs, is read as that tree, and as
-/// no other.
+/// What is displayed of a well-formed tree, on one line or under a prefix of spaces and tabs, is read as that tree,
+/// and as no other.
 pub fn displayed_trees_are_read<'a, T: Syntax>(_printed: &Serialize<'a, T>)
-    ensures { T.obeys (T.tree (print_tree _printed.now)) → IsBlankMode (print_mode _printed.now) →
+    ensures { IsTrue (T.kind.obeys (T.tree (print_tree _printed.now))) → IsBlankMode (print_mode _printed.now) →
         MatchOption (⟦<Serialize<'a, T> as Display>⟧.output _printed.now) ⊥
-        (λ bytes. ReadsAlone T.derives bytes (T.tree (print_tree _printed.now))) }
+        (λ bytes. ReadsAlone T.kind bytes (T.tree (print_tree _printed.now))) }
 {}
 
 /// Two errors of a print are equal exactly if they are the same one.

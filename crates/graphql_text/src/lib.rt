@@ -4,7 +4,7 @@
 //!
 //! - `engine`: kinds of trees that are printed, and their prints.
 //! - `sink`: what takes the bytes of a print.
-//! - `place`, `writers`, `stack`, `target`: what kinds are written with.
+//! - `writers`: what the kinds of the crates above are written with.
 //! - `laws`: laws of the definitions, as contracts of functions that do nothing.
 #![tactic(auto)]
 
@@ -13,10 +13,10 @@ mod breaks;
 mod buffer;
 pub mod engine;
 pub mod laws;
-pub mod place;
+mod place;
 mod quoted_string;
 pub mod sink;
-pub mod stack;
+mod stack;
 mod string;
-pub mod target;
+mod target;
 pub mod writers;

@@ -26,7 +26,8 @@ pub(crate) fn has_escaped(text: &str) -> bool
 
 /// The escape of a byte that has one.
 fn escape(byte: u8) -> Option<&'static str>
-    ensures { MatchOption result (quoted_character byte ≡ byte ∷ []) (λ text. (byte < 128) × (text.now ≡ quoted_character byte)) }
+    ensures { MatchOption result (quoted_character byte ≡ byte ∷ [])
+        (λ text. (byte < 128) × (text.now ≡ quoted_character byte)) }
 {
     match byte {
         b'"' => Some("\\\""),

@@ -25,8 +25,8 @@ pub trait TextSink {
     /// How many faults it has counted.
     ghost fault_count: { Self → ℕ };
 
-    /// Takes a front of the bytes, and answers its length in bytes, at least 1 unless there are none. After an `Err` it has
-    /// taken none of them, and counted one fault more.
+    /// Takes a front of the bytes, and answers its length in bytes, at least 1 unless there are none. After an `Err`
+    /// it has taken none of them, and counted one fault more.
     ///
     /// Condition: fewer than `u64::MAX` faults were counted.
     fn put(&mut self, bytes: &[u8]) -> Result<usize, SinkFault>

@@ -3,68 +3,69 @@ ghost use Rattle.std.specs.Prelude.{◌≡◌, ◌≤◌, ◌<◌, ◌++◌, ◌
 
 use std::alloc::{AllocError, Global};
 
-/// Parts of a tree that are still to be written, the last one first. Room for all of them is asked for before the first byte
-/// is written, so that no push can fail.
+/// What is still to be written of a tree, the last entry first. Room for all entries is asked for before the first
+/// byte is written, so that no push can fail.
 #[derive(Drop)]
 pub struct Stack<T> {
-    parts: Option<Vec<T>>,
+    entries: Option<Vec<T>>,
 }
 
 impl<T: Drop> Stack<T> {
-    ghost use Rattle.graphql_text.specs.Stack.{stack_parts, stack_room};
+    ghost use Rattle.graphql_text.specs.Stack.{stack_entries, stack_room};
 
-    /// A stack with room for a count of parts. For none no memory is asked for, and then no allocator is needed. `AllocError`
-    /// where memory is refused.
+    /// A stack with room for a count of entries. For none no memory is asked for, and then no allocator is needed.
+    /// `AllocError` where memory is refused.
     pub fn reserve(alloc: Option<Global>, count: usize) -> Result<Stack<T>, AllocError>
         requires { IsNone alloc → count ≡ 0 }
-        ensures parts { IfOk result (λ s. stack_parts s ≡ []) }
+        ensures entries { IfOk result (λ s. stack_entries s ≡ []) }
         ensures room { IfOk result (λ s. count ≤ stack_room s) }
         ensures succeeds { count ≡ 0 → IsOk result }
     {
         match alloc {
             Some(alloc) => {
                 if count == 0 {
-                    return Ok(Stack { parts: None });
+                    return Ok(Stack { entries: None });
                 }
                 Ok(Stack {
-                    parts: Some(Vec::with_capacity(alloc, count)?),
+                    entries: Some(Vec::with_capacity(alloc, count)?),
                 })
             }
-            None => Ok(Stack { parts: None }),
+            None => Ok(Stack { entries: None }),
         }
     }
 
-    /// Puts a part on the stack, which has room to spare.
+    /// Puts an entry on the stack, which has room to spare.
     #[inline(always)]
-    pub fn push(&mut self, part: T)
-        requires { length (stack_parts self.old) < stack_room self.old }
-        ensures parts { stack_parts self.new ≡ stack_parts self.old ++ part ∷ [] }
+    pub fn push(&mut self, entry: T)
+        requires { length (stack_entries self.old) < stack_room self.old }
+        ensures entries { stack_entries self.new ≡ stack_entries self.old ++ entry ∷ [] }
         ensures room { stack_room self.old ≤ stack_room self.new }
     {
-        if let Some(parts) = &mut self.parts {
-            parts.push(part).unwrap();
+        if let Some(entries) = &mut self.entries {
+            entries.push(entry).unwrap();
         }
     }
 
-    /// Takes the last part off the stack.
+    /// Takes the last entry off the stack.
     #[inline(always)]
     pub fn pop(&mut self) -> Option<T>
-        ensures parts { MatchOption result ((stack_parts self.old ≡ []) × (stack_parts self.new ≡ [])) (λ part. stack_parts self.old ≡ stack_parts self.new ++ part ∷ []) }
+        ensures entries { MatchOption result ((stack_entries self.old ≡ []) × (stack_entries self.new ≡ []))
+            (λ entry. stack_entries self.old ≡ stack_entries self.new ++ entry ∷ []) }
         ensures room { stack_room self.old ≤ stack_room self.new }
     {
-        match &mut self.parts {
-            Some(parts) => parts.pop(),
+        match &mut self.entries {
+            Some(entries) => entries.pop(),
             None => None,
         }
     }
 
-    /// Gives up all parts.
+    /// Gives up all entries.
     pub fn clear(&mut self)
-        ensures parts { stack_parts self.new ≡ [] }
+        ensures entries { stack_entries self.new ≡ [] }
         ensures room { stack_room self.old ≤ stack_room self.new }
     {
-        if let Some(parts) = &mut self.parts {
-            parts.clear();
+        if let Some(entries) = &mut self.entries {
+            entries.clear();
         }
     }
 }

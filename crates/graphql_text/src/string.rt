@@ -2,8 +2,7 @@
 
 ghost use Rattle.std.specs.Prelude.{[], ◌∷◌, chars};
 ghost use Rattle.graphql_text.specs.Layout.{AsDescription, AsValue, StringItem};
-ghost use Rattle.graphql_text.specs.Place.{mode_of};
-ghost use Rattle.graphql_text.specs.Writing.{WritesItems};
+ghost use Rattle.graphql_text.specs.Writing.{Writes};
 
 use crate::block_string::{can_be_block, holds, write_block};
 use crate::place::Place;
@@ -13,7 +12,7 @@ use crate::target::Target;
 /// Writes a string value that may hold characters to escape.
 #[inline(never)]
 fn write_with_escapes<O: Target>(out: &mut O, place: &Place<'_>, value: &str)
-    ensures { WritesItems O.wrote out.old out.new (mode_of place.now.prefix) place.now.level (StringItem (chars value.now) AsValue ∷ []) }
+    ensures { Writes O.wrote out.old out.new place.now (StringItem (chars value.now) AsValue ∷ []) }
 {
     match place.prefix {
         Some(prefix) if holds(value, b'\n') && can_be_block(value) => {
@@ -23,12 +22,13 @@ fn write_with_escapes<O: Target>(out: &mut O, place: &Place<'_>, value: &str)
     }
 }
 
-/// Writes a string value: as a block string under a prefix, if the value holds a line feed and can be a block string, else quoted.
+/// Writes a string value: as a block string under a prefix, if the value holds a line feed and can be a block string,
+/// else quoted.
 ///
-/// A value can be a block string if it holds no carriage return, its first and its last line aren't blank, and at least one line begins
-/// with a character that is neither a space nor a tab.
+/// A value can be a block string if it holds no carriage return, its first and its last line aren't blank, and at
+/// least one line begins with a character that is neither a space nor a tab.
 pub fn write_string_value<O: Target>(out: &mut O, place: &Place<'_>, value: &str)
-    ensures { WritesItems O.wrote out.old out.new (mode_of place.now.prefix) place.now.level (StringItem (chars value.now) AsValue ∷ []) }
+    ensures { Writes O.wrote out.old out.new place.now (StringItem (chars value.now) AsValue ∷ []) }
 {
     if has_escaped(value) {
         write_with_escapes(out, place, value);
@@ -39,7 +39,7 @@ pub fn write_string_value<O: Target>(out: &mut O, place: &Place<'_>, value: &str
 
 /// Writes a description, the string alone: as a block string under a prefix, if it can be one, else quoted.
 pub fn write_description<O: Target>(out: &mut O, place: &Place<'_>, value: &str)
-    ensures { WritesItems O.wrote out.old out.new (mode_of place.now.prefix) place.now.level (StringItem (chars value.now) AsDescription ∷ []) }
+    ensures { Writes O.wrote out.old out.new place.now (StringItem (chars value.now) AsDescription ∷ []) }
 {
     match place.prefix {
         Some(prefix) if can_be_block(value) => write_block(out, prefix, place.level, value),

@@ -1,18 +1,18 @@
 //! What a printer writes to: a sink, a text, a formatter.
 ghost use Rattle.std.specs.Prelude.{◌≡◌, ◌↔◌, ◌++◌, ℕ, [], List, IfSome, IsTrue, false, string_bytes};
 ghost use Rattle.std.proofs.Common.{refl, ◌∙◌};
-ghost use Rattle.graphql_text.specs.Buffer.{waiting_bytes};
+ghost use Rattle.graphql_text.specs.Buffer.{waiting_bytes, written_bytes};
 ghost use Rattle.graphql_text.specs.Sinks.{Sends, SendsBuffered};
 ghost use Rattle.graphql_text.specs.Targets.{TextGrew, FormatterTook};
-ghost use Rattle.graphql_text.specs.laws.Sinks.{buffered_nothing, buffered_idle, buffered_more};
-ghost use Rattle.graphql_text.specs.laws.Targets.{grew_nothing, grew_idle, grew_more, formatted_nothing, formatted_idle, formatted_more};
+ghost use Rattle.graphql_text.specs.lemmas.Sinks.{buffered_nothing, buffered_idle, buffered_more};
+ghost use Rattle.graphql_text.specs.lemmas.Targets.{grew_nothing, grew_idle, grew_more, formatted_nothing, formatted_idle, formatted_more};
 
 use crate::buffer::Buffer;
 use crate::sink::{TextSink, put_all};
 use std::fmt;
 
-/// What a printer writes its text to. After a write that failed it takes no more, and remembers it: so the writers of a tree
-/// answer nothing, and only the whole print asks whether it came through.
+/// What a printer writes its text to. After a write that failed it takes no more, and remembers it: so the writers of
+/// a tree answer nothing, and only the whole print asks whether it came through.
 pub trait Target {
     /// From one moment to the other these bytes were written, or writing stopped within them.
     ghost wrote: { Self → List ℕ → Self → Type 0 };
@@ -46,9 +46,10 @@ pub(crate) struct ToSink<'a, S> {
 /// Sends what waits, and then lets the text wait, or sends it too. It answers whether writing stopped.
 #[cold]
 #[inline(never)]
-#[tactic(auto, using(crate::proofs::Sending::both_taken, crate::specs::laws::Sinks::faulted_later))]
+#[tactic(auto, using(crate::proofs::Sending::both_taken, crate::specs::lemmas::Sinks::faulted_later))]
 fn send<S: TextSink>(sink: &mut S, stopped: bool, buffer: &mut Buffer, text: &str) -> bool
-    ensures { SendsBuffered S.taken S.fault_count sink.old stopped (waiting_bytes buffer.old) text.now sink.new result (waiting_bytes buffer.new) }
+    ensures { SendsBuffered S.taken S.fault_count sink.old stopped (waiting_bytes buffer.old) text.now
+        sink.new result (waiting_bytes buffer.new) }
 {
     if stopped {
         return true;
@@ -72,7 +73,8 @@ fn send<S: TextSink>(sink: &mut S, stopped: bool, buffer: &mut Buffer, text: &st
 /// Sends what still waits, at the end.
 pub(crate) fn finish<S: TextSink>(out: &mut ToSink<'_, S>)
     ensures name { out.new.sink.ghost_name ≡ out.old.sink.ghost_name }
-    ensures sent { Sends S.taken S.fault_count out.old.sink.now out.old.stopped (waiting_bytes out.old.buffer) out.new.sink.now out.new.stopped }
+    ensures sent { Sends S.taken S.fault_count out.old.sink.now out.old.stopped (waiting_bytes out.old.buffer)
+        out.new.sink.now out.new.stopped }
 {
     if out.stopped {
         return;
@@ -87,15 +89,23 @@ pub(crate) fn finish<S: TextSink>(out: &mut ToSink<'_, S>)
 }
 
 impl<'a, S: TextSink> Target for ToSink<'a, S> {
-    ghost wrote = { λ a bytes b. (b.sink.ghost_name ≡ a.sink.ghost_name) × SendsBuffered S.taken S.fault_count a.sink.now a.stopped (waiting_bytes a.buffer) bytes b.sink.now b.stopped (waiting_bytes b.buffer) };
+    ghost wrote = { λ a bytes b. (b.sink.ghost_name ≡ a.sink.ghost_name)
+        × SendsBuffered S.taken S.fault_count a.sink.now a.stopped (waiting_bytes a.buffer) bytes
+        b.sink.now b.stopped (waiting_bytes b.buffer) };
 
     ghost stopped = { λ a. IsTrue a.stopped };
 
-    ghost nothing = { λ a. (refl, buffered_nothing S.taken S.fault_count a.sink.now a.stopped (waiting_bytes a.buffer)) };
+    ghost nothing = { λ a.
+        (refl, buffered_nothing S.taken S.fault_count a.sink.now a.stopped (waiting_bytes a.buffer)) };
 
-    ghost idle = { λ a bytes h. (refl, buffered_idle S.taken S.fault_count a.sink.now a.stopped (waiting_bytes a.buffer) bytes h) };
+    ghost idle = { λ a bytes h.
+        (refl, buffered_idle S.taken S.fault_count a.sink.now a.stopped (waiting_bytes a.buffer) bytes h) };
 
-    ghost more = { λ a b c x y h k. (k.0 ∙ h.0, buffered_more S.taken S.fault_count a.sink.now b.sink.now c.sink.now a.stopped b.stopped c.stopped (waiting_bytes a.buffer) (waiting_bytes b.buffer) (waiting_bytes c.buffer) x y h.1 k.1) };
+    ghost more = { λ a b c x y h k. (
+      k.0 ∙ h.0,
+      buffered_more S.taken S.fault_count a.sink.now b.sink.now c.sink.now a.stopped b.stopped c.stopped
+          (waiting_bytes a.buffer) (waiting_bytes b.buffer) (waiting_bytes c.buffer) x y h.1 k.1,
+    ) };
 
     fn text(&mut self, text: &str) {
         if !self.buffer.add(text) {
@@ -120,7 +130,8 @@ pub(crate) struct ToText {
 #[cold]
 #[inline(never)]
 fn append(text: &mut String, failed: bool, buffer: &mut Buffer, more: &str) -> bool
-    ensures { TextGrew (string_bytes text.old ++ waiting_bytes buffer.old) failed more.now (string_bytes text.new ++ waiting_bytes buffer.new) result }
+    ensures { TextGrew (string_bytes text.old ++ waiting_bytes buffer.old) failed more.now
+        (string_bytes text.new ++ waiting_bytes buffer.new) result }
 {
     if failed {
         return true;
@@ -137,7 +148,7 @@ fn append(text: &mut String, failed: bool, buffer: &mut Buffer, more: &str) -> b
 
 /// The whole text, unless memory was refused.
 pub(crate) fn into_text(out: ToText) -> Option<String>
-    ensures { IfSome result (λ text. (out.failed ≡ false) × (string_bytes text ≡ string_bytes out.text ++ waiting_bytes out.buffer)) }
+    ensures { IfSome result (λ text. (out.failed ≡ false) × (string_bytes text ≡ written_bytes out)) }
 {
     let ToText {
         mut text,
@@ -151,15 +162,16 @@ pub(crate) fn into_text(out: ToText) -> Option<String>
 }
 
 impl Target for ToText {
-    ghost wrote = { λ a bytes b. TextGrew (string_bytes a.text ++ waiting_bytes a.buffer) a.failed bytes (string_bytes b.text ++ waiting_bytes b.buffer) b.failed };
+    ghost wrote = { λ a bytes b. TextGrew (written_bytes a) a.failed bytes (written_bytes b) b.failed };
 
     ghost stopped = { λ a. IsTrue a.failed };
 
-    ghost nothing = { λ a. grew_nothing (string_bytes a.text ++ waiting_bytes a.buffer) a.failed };
+    ghost nothing = { λ a. grew_nothing (written_bytes a) a.failed };
 
-    ghost idle = { λ a bytes h. grew_idle (string_bytes a.text ++ waiting_bytes a.buffer) a.failed bytes h };
+    ghost idle = { λ a bytes h. grew_idle (written_bytes a) a.failed bytes h };
 
-    ghost more = { λ a b c x y h k. grew_more (string_bytes a.text ++ waiting_bytes a.buffer) (string_bytes b.text ++ waiting_bytes b.buffer) (string_bytes c.text ++ waiting_bytes c.buffer) a.failed b.failed c.failed x y h k };
+    ghost more = { λ a b c x y h k.
+        grew_more (written_bytes a) (written_bytes b) (written_bytes c) a.failed b.failed c.failed x y h k };
 
     // It may go on after a failure: what stands in it then is never handed out.
     fn text(&mut self, text: &str) {
@@ -181,7 +193,8 @@ pub struct ToFormatter<'a, W> {
 }
 
 impl<'a, W: fmt::Write> Target for ToFormatter<'a, W> {
-    ghost wrote = { λ a bytes b. (b.formatter.ghost_name ≡ a.formatter.ghost_name) × FormatterTook W.write_str_gives a.formatter.now a.failed bytes b.formatter.now b.failed };
+    ghost wrote = { λ a bytes b. (b.formatter.ghost_name ≡ a.formatter.ghost_name)
+        × FormatterTook W.write_str_gives a.formatter.now a.failed bytes b.formatter.now b.failed };
 
     ghost stopped = { λ a. IsTrue a.failed };
 
@@ -189,7 +202,11 @@ impl<'a, W: fmt::Write> Target for ToFormatter<'a, W> {
 
     ghost idle = { λ a bytes h. (refl, formatted_idle W.write_str_gives a.formatter.now a.failed bytes h) };
 
-    ghost more = { λ a b c x y h k. (k.0 ∙ h.0, formatted_more W.write_str_gives a.formatter.now b.formatter.now c.formatter.now a.failed b.failed c.failed x y h.1 k.1) };
+    ghost more = { λ a b c x y h k. (
+      k.0 ∙ h.0,
+      formatted_more W.write_str_gives a.formatter.now b.formatter.now c.formatter.now
+          a.failed b.failed c.failed x y h.1 k.1,
+    ) };
 
     fn text(&mut self, text: &str) {
         if !self.failed {

@@ -1,53 +1,74 @@
 //! What kinds of trees are written with. Each writer appends the text of some items, at a place.
-ghost use Rattle.std.specs.Prelude.{◌≡◌, ℕ, ◌≤◌, List, Option, Some, [], ◌∷◌, IsSome, IsTrue, MatchOption, ⊤, codes, encode_utf8_all};
+ghost use Rattle.std.specs.Prelude.{◌≡◌, ℕ, ◌≤◌, List, Option, Some, [], ◌∷◌, IsSome, IsTrue, MatchOption, ⊤, codes, option_copied};
+ghost use Rattle.std.specs.Option.{option_map};
 ghost use Rattle.graphql_base.specs.Name.{name_text};
+ghost use Rattle.graphql_text.specs.Descriptions.{description_shape};
 ghost use Rattle.graphql_text.specs.Groups.{comma_lead};
-ghost use Rattle.graphql_text.specs.Layout.{Item, Word, Soft, Tight, Blank, Finish, last_comma, is_broken, first_indent};
+ghost use Rattle.graphql_text.specs.Layout.{Item, Word, Soft, Tight, Blank, Finish, last_comma};
+ghost use Rattle.graphql_text.specs.Leaves.{description_tree};
 ghost use Rattle.graphql_text.specs.Literals.{is_int, is_float};
-ghost use Rattle.graphql_text.specs.Place.{mode_of};
+ghost use Rattle.graphql_text.specs.Place.{breaks, mode_of};
 ghost use Rattle.graphql_text.specs.Tokens.{Name as NameToken, IntValue, FloatValue};
-ghost use Rattle.graphql_text.specs.Writing.{IsCommaLead, WritesItems, fixed_text};
+ghost use Rattle.graphql_text.specs.Writing.{IsCommaLead, Writes, WritesAnywhere, WritesItems, WritesLayout, fixed_text};
 
 use crate::breaks::{comma_break, indent, line_break, ready_comma_break};
-use crate::place::Place;
+pub use crate::place::Place;
+pub use crate::stack::Stack;
 pub use crate::string::{write_description, write_string_value};
-use crate::target::Target;
+pub use crate::target::{Target, ToFormatter};
 use graphql_base::name::Name;
+use graphql_base::node::NodeStr;
 
 /// Writes keywords, punctuators, spaces and commas, which stand alike at every place.
-pub fn write_words<O: Target>(out: &mut O, text: &str)
-    ensures bytes { O.wrote out.old text.now out.new }
-    ensures items { (mode : Option (List ℕ)) (level : ℕ) (items : List Item) → fixed_text items ≡ Some text.now → WritesItems O.wrote out.old out.new mode level items }
+pub fn write_words<O: Target>(out: &mut O, words: &str)
+    ensures bytes { O.wrote out.old words.now out.new }
+    ensures items { (mode : Option (List ℕ)) (level : ℕ) (items : List Item) → fixed_text items ≡ Some words.now →
+        WritesItems O.wrote out.old out.new mode level items }
 {
-    out.text(text);
+    out.text(words);
 }
 
 /// Writes a name.
 pub fn write_name<O: Target>(out: &mut O, name: &Name)
-    ensures { (mode : Option (List ℕ)) (level : ℕ) → WritesItems O.wrote out.old out.new mode level (Word (NameToken (name_text name.now)) ∷ []) }
+    ensures { WritesAnywhere O.wrote out.old out.new (Word (NameToken (name_text name.now)) ∷ []) }
 {
     out.text(name.as_str());
 }
 
 /// Writes an int.
-pub fn write_int<O: Target>(out: &mut O, text: &str)
-    requires { IsTrue (is_int text.now) }
-    ensures { (mode : Option (List ℕ)) (level : ℕ) → WritesItems O.wrote out.old out.new mode level (Word (IntValue text.now) ∷ []) }
+pub fn write_int<O: Target>(out: &mut O, int: &str)
+    requires { IsTrue (is_int int.now) }
+    ensures { WritesAnywhere O.wrote out.old out.new (Word (IntValue int.now) ∷ []) }
 {
-    out.text(text);
+    out.text(int);
 }
 
 /// Writes a float.
-pub fn write_float<O: Target>(out: &mut O, text: &str)
-    requires { IsTrue (is_float text.now) }
-    ensures { (mode : Option (List ℕ)) (level : ℕ) → WritesItems O.wrote out.old out.new mode level (Word (FloatValue text.now) ∷ []) }
+pub fn write_float<O: Target>(out: &mut O, float: &str)
+    requires { IsTrue (is_float float.now) }
+    ensures { WritesAnywhere O.wrote out.old out.new (Word (FloatValue float.now) ∷ []) }
 {
-    out.text(text);
+    out.text(float);
+}
+
+/// Writes a description and a break under a prefix, or a space on one line; nothing where there is no description.
+pub fn write_leading_description<O: Target>(
+    out: &mut O,
+    place: &Place<'_>,
+    description: Option<&NodeStr>,
+)
+    ensures { Writes O.wrote out.old out.new place.now
+        (description_shape (option_map description_tree (option_copied description.entry))) }
+{
+    if let Some(description) = description {
+        write_description(out, place, description.as_str());
+        write_soft(out, place);
+    }
 }
 
 /// Writes a break under a prefix, else a space.
 pub fn write_soft<O: Target>(out: &mut O, place: &Place<'_>)
-    ensures { WritesItems O.wrote out.old out.new (mode_of place.now.prefix) place.now.level (Soft ∷ []) }
+    ensures { Writes O.wrote out.old out.new place.now (Soft ∷ []) }
 {
     match place.prefix {
         Some(prefix) => line_break(out, prefix, place.level),
@@ -58,17 +79,17 @@ pub fn write_soft<O: Target>(out: &mut O, place: &Place<'_>)
 /// Writes a break under a prefix, else nothing.
 #[inline(always)]
 pub fn write_tight<O: Target>(out: &mut O, place: &Place<'_>)
-    ensures { WritesItems O.wrote out.old out.new (mode_of place.now.prefix) place.now.level (Tight ∷ []) }
+    ensures { Writes O.wrote out.old out.new place.now (Tight ∷ []) }
 {
     match place.prefix {
         Some(prefix) => line_break(out, prefix, place.level),
-        None => {}
+        None => {} // there is no break on one line
     }
 }
 
 /// Writes an empty line and a break under a prefix, else a space.
 pub fn write_blank<O: Target>(out: &mut O, place: &Place<'_>)
-    ensures { WritesItems O.wrote out.old out.new (mode_of place.now.prefix) place.now.level (Blank ∷ []) }
+    ensures { Writes O.wrote out.old out.new place.now (Blank ∷ []) }
 {
     match place.prefix {
         Some(prefix) => {
@@ -81,7 +102,7 @@ pub fn write_blank<O: Target>(out: &mut O, place: &Place<'_>)
 
 /// Writes a line feed under a prefix, else nothing: the end of a document.
 pub fn write_finish<O: Target>(out: &mut O, place: &Place<'_>)
-    ensures { WritesItems O.wrote out.old out.new (mode_of place.now.prefix) place.now.level (Finish ∷ []) }
+    ensures { Writes O.wrote out.old out.new place.now (Finish ∷ []) }
 {
     match place.prefix {
         Some(_) => out.text("\n"),
@@ -89,12 +110,13 @@ pub fn write_finish<O: Target>(out: &mut O, place: &Place<'_>)
     }
 }
 
-/// What stands before an item of a comma group that isn't the first, where that is a text at hand: under a prefix of two
-/// spaces up to level 30. A writer of many items asks once.
+/// What stands before an item of a comma group that isn't the first, where that is a text at hand: under a prefix of
+/// two spaces up to level 30. A writer of many items asks once.
 #[inline(always)]
 pub fn ready_comma_lead(place: &Place<'_>) -> Option<&'static str>
     ensures text { IsCommaLead (mode_of place.now.prefix) place.now.level result }
-    ensures ready { MatchOption place.now.prefix ⊤ (λ prefix. prefix.now ≡ codes "  " → place.now.level ≤ 30 → IsSome result) }
+    ensures ready { MatchOption place.now.prefix ⊤
+        (λ prefix. prefix.now ≡ codes "  " → place.now.level ≤ 30 → IsSome result) }
 {
     match place.prefix {
         Some(prefix) => ready_comma_break(prefix, place.level),
@@ -102,9 +124,9 @@ pub fn ready_comma_lead(place: &Place<'_>) -> Option<&'static str>
     }
 }
 
-/// Writes what stands before an item of a comma group: a break under a prefix, after a comma unless it is the first item; on
-/// one line a comma and a space, and nothing before the first item. The text that `ready_comma_lead` answers may be handed
-/// over, or none.
+/// Writes what stands before an item of a comma group: a break under a prefix, after a comma unless it is the first
+/// item; on one line a comma and a space, and nothing before the first item. The text that `ready_comma_lead` answers
+/// may be handed over, or none.
 #[inline(always)]
 pub fn write_comma_lead<O: Target>(
     out: &mut O,
@@ -113,7 +135,7 @@ pub fn write_comma_lead<O: Target>(
     is_first: bool,
 )
     requires { IsCommaLead (mode_of place.now.prefix) place.now.level ready }
-    ensures { WritesItems O.wrote out.old out.new (mode_of place.now.prefix) place.now.level (comma_lead is_first) }
+    ensures { Writes O.wrote out.old out.new place.now (comma_lead is_first) }
 {
     if is_first {
         return write_tight(out, place);
@@ -129,7 +151,7 @@ pub fn write_comma_lead<O: Target>(
 
 /// Writes the comma after the last item of a comma group, which only stands under a prefix.
 pub fn write_last_comma<O: Target>(out: &mut O, place: &Place<'_>)
-    ensures { WritesItems O.wrote out.old out.new (mode_of place.now.prefix) place.now.level (last_comma (is_broken (mode_of place.now.prefix))) }
+    ensures { Writes O.wrote out.old out.new place.now (last_comma (breaks place.now)) }
 {
     match place.prefix {
         Some(_) => write_words(out, ","),
@@ -137,9 +159,10 @@ pub fn write_last_comma<O: Target>(out: &mut O, place: &Place<'_>)
     }
 }
 
-/// Writes the indentation of the first line.
+/// Writes the indentation of the first line: with the items that are written after it, it makes their layout.
 pub fn write_first_indent<O: Target>(out: &mut O, place: &Place<'_>)
-    ensures { O.wrote out.old (encode_utf8_all (first_indent (mode_of place.now.prefix) place.now.level)) out.new }
+    ensures { (last : O) (items : List Item) → Writes O.wrote out.new last place.now items →
+        WritesLayout O.wrote out.old last place.now items }
 {
     match place.prefix {
         Some(prefix) => indent(out, prefix, place.level),

@@ -6,20 +6,21 @@ use Rattle.std.specs.Cmp.Lexicographic.{pointwise, bytes_decides}
 use Rattle.std.specs.Option.{option_eq, option_map}
 use Rattle.std.proofs.lemmas.Str.{IsUtf8-had, encodes-chars}
 use Rattle.graphql_base.specs.declared.node_str.NodeStr.{NodeStr}
-use Rattle.graphql_text.proofs.Such.{same_text}
+use Rattle.graphql_text.proofs.Checked.{same_text}
 use Rattle.graphql_values.proofs.DirectiveEquality.{directive_lists_decide, lists_decide, options_decide}
 use Rattle.graphql_values.proofs.Equality.{both, through, names_decide, values_decide}
 use Rattle.graphql_values.proofs.TypeEquality.{types_decide}
-use Rattle.graphql_values.specs.DefinitionTrees.{description_tree, directive_definition_tree, input_value_definition_tree}
+use Rattle.graphql_text.specs.Leaves.{description_tree}
+use Rattle.graphql_values.specs.DefinitionTrees.{directive_definition_tree, input_value_definition_tree}
 use Rattle.graphql_values.specs.LocationTrees.{location_tree}
 use Rattle.graphql_values.specs.ValueTrees.{value_tree}
-use Rattle.graphql_values.specs.contracts.definition.DirectiveDefinitionPartialEq.TheImpl as definition
-use Rattle.graphql_values.specs.contracts.definition.InputValueDefinitionPartialEq.TheImpl as input
-use Rattle.graphql_values.specs.contracts.location.DirectiveLocationPartialEq.TheImpl as location
+use Rattle.graphql_values.specs.contracts.directive_definition.DirectiveDefinitionPartialEq.TheImpl as definition
+use Rattle.graphql_values.specs.contracts.input_value_definition.InputValueDefinitionPartialEq.TheImpl as input
+use Rattle.graphql_values.specs.contracts.directive_location.DirectiveLocationPartialEq.TheImpl as location
 use Rattle.graphql_values.specs.contracts.value.ValuePartialEq.TheImpl as value
-use Rattle.graphql_values.specs.declared.definition.DirectiveDefinition.{DirectiveDefinition}
-use Rattle.graphql_values.specs.declared.definition.InputValueDefinition.{InputValueDefinition}
-use Rattle.graphql_values.specs.declared.location.DirectiveLocation.{DirectiveLocation}
+use Rattle.graphql_values.specs.declared.directive_definition.DirectiveDefinition.{DirectiveDefinition}
+use Rattle.graphql_values.specs.declared.input_value_definition.InputValueDefinition.{InputValueDefinition}
+use Rattle.graphql_values.specs.declared.directive_location.DirectiveLocation.{DirectiveLocation}
 
 -- two descriptions of the same characters have the same bytes
 same_bytes : (a b : NodeStr) → chars a.text ≡ chars b.text → a.text ≡ b.text
@@ -37,8 +38,8 @@ input_value_definitions_decide a b =
     both _ _ (descriptions_decide a.description b.description) (both _ _ (names_decide a.name b.name) (both _ _ (types_decide a.ty.value b.ty.value) (both _ _
     (options_decide (λ n m. value.ghosts.eq n.value m.value) (λ n. value_tree n.value) (λ n m. values_decide n.value m.value) a.default_value b.default_value)
     (directive_lists_decide a.directives b.directives) (λ e. e) (λ p q. (p, q))) (λ e. e) (λ p q. (p, q))) (λ e. e) (λ p q. (p, q)))
-    (λ e. (ap (λ t. t.description) e, (ap (λ t. t.name) e, (ap (λ t. t.type) e, (ap (λ t. t.default_value) e, ap (λ t. t.directives) e)))))
-    (λ p q. λ i. record { description = p i; name = q.0 i; type = q.1.0 i; default_value = q.1.1.0 i; directives = q.1.1.1 i })
+    (λ e. (ap (λ t. t.description) e, (ap (λ t. t.body.name) e, (ap (λ t. t.body.type) e, (ap (λ t. t.body.default_value) e, ap (λ t. t.body.directives) e)))))
+    (λ p q. λ i. record { description = p i; body = record { name = q.0 i; type = q.1.0 i; default_value = q.1.1.0 i; directives = q.1.1.1 i } })
 
 pub directive_definitions_decide : (a b : DirectiveDefinition) → Decides (definition.ghosts.eq a b) (directive_definition_tree a ≡ directive_definition_tree b)
 directive_definitions_decide a b =
@@ -46,5 +47,5 @@ directive_definitions_decide a b =
     (lists_decide (λ n m. input.ghosts.eq n.value m.value) (λ n. input_value_definition_tree n.value) (λ n m. input_value_definitions_decide n.value m.value) a.arguments.items b.arguments.items)
     (both _ _ (booleans_Decides a.repeatable b.repeatable) (lists_decide location.ghosts.eq location_tree locations_decide a.locations.items b.locations.items)
     (λ e. e) (λ p q. (p, q))) (λ e. e) (λ p q. (p, q))) (λ e. e) (λ p q. (p, q)))
-    (λ e. (ap (λ t. t.description) e, (ap (λ t. t.name) e, (ap (λ t. t.arguments) e, (ap (λ t. t.repeatable) e, ap (λ t. t.locations) e)))))
-    (λ p q. λ i. record { description = p i; name = q.0 i; arguments = q.1.0 i; repeatable = q.1.1.0 i; locations = q.1.1.1 i })
+    (λ e. (ap (λ t. t.description) e, (ap (λ t. t.body.name) e, (ap (λ t. t.body.arguments) e, (ap (λ t. t.body.repeatable) e, ap (λ t. t.body.locations) e)))))
+    (λ p q. λ i. record { description = p i; body = record { name = q.0 i; arguments = q.1.0 i; repeatable = q.1.1.0 i; locations = q.1.1.1 i } })

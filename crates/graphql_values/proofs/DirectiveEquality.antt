@@ -5,12 +5,12 @@ use Rattle.std.specs.Cmp.Lexicographic.{pointwise}
 use Rattle.std.specs.Option.{option_eq, option_map}
 use Rattle.graphql_values.proofs.Equality.{both, through, never, always, names_decide, values_decide}
 use Rattle.graphql_values.specs.DirectiveTrees.{argument_tree, directive_tree, directive_trees}
-use Rattle.graphql_values.specs.contracts.directive.ArgumentPartialEq.TheImpl as argument
+use Rattle.graphql_values.specs.contracts.argument.ArgumentPartialEq.TheImpl as argument
 use Rattle.graphql_values.specs.contracts.directive.DirectivePartialEq.TheImpl as directive
-use Rattle.graphql_values.specs.contracts.directive.DirectiveListPartialEq.TheImpl as directive_list
-use Rattle.graphql_values.specs.declared.directive.Argument.{Argument}
+use Rattle.graphql_values.specs.contracts.directive_list.DirectiveListPartialEq.TheImpl as directive_list
+use Rattle.graphql_values.specs.declared.argument.Argument.{Argument}
 use Rattle.graphql_values.specs.declared.directive.Directive.{Directive}
-use Rattle.graphql_values.specs.declared.directive.DirectiveList.{DirectiveList}
+use Rattle.graphql_values.specs.declared.directive_list.DirectiveList.{DirectiveList}
 
 module _ {A B : Type 0} (E : A → A → Bool) (f : A → B) (decides : (x y : A) → Decides (E x y) (f x ≡ f y)) where
   -- lists of parts

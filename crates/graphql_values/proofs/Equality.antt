@@ -9,8 +9,9 @@ use denote.Enum.Compared.{Each, by}
 use Rattle.graphql_base.specs.declared.name.Name.{Name}
 use Rattle.graphql_base.specs.declared.node.Node.{Node}
 use Rattle.graphql_text.specs.Literals.{NameText, IntText, FloatText, StringText}
-use Rattle.graphql_text.proofs.Such.{same_text}
-use Rattle.graphql_values.specs.Literals.{name_tree, int_tree, float_tree, string_tree}
+use Rattle.graphql_text.proofs.Checked.{same_text}
+use Rattle.graphql_text.specs.Leaves.{name_tree}
+use Rattle.graphql_values.specs.Literals.{int_tree, float_tree, string_tree}
 use Rattle.graphql_values.specs.Values.{ValueTree, null_value, enum_value, variable, string_value, float_value, int_value, boolean_value, list_value, object_value, ValueTrees, no_values, more_values, ObjectFieldTrees, no_fields, more_fields}
 use Rattle.graphql_values.specs.ValueTrees.{value_tree, value_tree_step, items_of, fields_of, IsCloneOf, IsLevelCloneOf}
 use Rattle.graphql_values.specs.contracts.value.Value.{enum as Shape}

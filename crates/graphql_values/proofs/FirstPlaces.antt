@@ -5,7 +5,7 @@ use Rattle.std.specs.Option.{is_some, option_copied, option_map}
 use Rattle.std.proofs.lemmas.Bool.Decides.{nat_tests}
 use Rattle.std.proofs.lemmas.List.Folds.{find_at}
 use Rattle.std.proofs.lemmas.Option.{slice_get-get_or, slice_get_past}
-use Rattle.graphql_values.specs.FirstChanged.{first_changed}
+use Rattle.graphql_values.specs.Loans.{first_changed}
 
 some_first : (n m place : ℕ) → cond (nat_lt n m) (Some n) None ≡ Some place → (n < m) × (n ≡ place)
 some_first n m place e = grind (arith, nat_tests)

@@ -11,6 +11,7 @@ pub mod Outcomes
 pub mod Places
 pub mod Readings
 pub mod Searches
+pub mod StacksKept
 pub mod Trees
 pub mod TypeEquality
 pub mod TypeShapes

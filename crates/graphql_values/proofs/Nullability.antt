@@ -3,8 +3,8 @@ use Rattle.std.proofs.Common.{◌≡◌, ◌<◌, Bool, true, false, List, [], �
 use Rattle.std.specs.List.{AllZip}
 use Rattle.graphql_base.specs.declared.name.Name.{Name}
 use Rattle.graphql_text.specs.Literals.{NameText}
-use Rattle.graphql_text.proofs.Such.{same_text}
-use Rattle.graphql_values.specs.Literals.{name_tree}
+use Rattle.graphql_text.proofs.Checked.{same_text}
+use Rattle.graphql_text.specs.Leaves.{name_tree}
 use Rattle.graphql_values.specs.TypeReferences.{TypeTree, named_type, non_null_named_type, list_type, non_null_list_type}
 use Rattle.graphql_values.specs.TypeTrees.{type_tree, type_tree_step, type_wrapping, type_wrapping_step}
 use Rattle.graphql_values.specs.Wrappings.{Wrapping, IsAssignable, first_set, is_first_non_null, is_non_null, renamed, tree_nullability, tree_wrapping, with_nullability}

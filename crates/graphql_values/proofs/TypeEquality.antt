@@ -5,7 +5,7 @@ use Rattle.std.specs.Cmp.Lexicographic.{pointwise}
 use denote.Enum.Compared.{Each, by}
 use Rattle.graphql_text.specs.Literals.{NameText}
 use Rattle.graphql_values.proofs.Equality.{through, never, names_decide}
-use Rattle.graphql_values.specs.Literals.{name_tree}
+use Rattle.graphql_text.specs.Leaves.{name_tree}
 use Rattle.graphql_values.specs.TypeReferences.{TypeTree, named_type, non_null_named_type, list_type, non_null_list_type}
 use Rattle.graphql_values.specs.TypeTrees.{type_tree, type_tree_step}
 use Rattle.graphql_values.specs.contracts.types.Type.{enum as Shape}

@@ -8,13 +8,14 @@ use Rattle.graphql_base.specs.declared.name.Name.{Name}
 use Rattle.graphql_text.specs.Tokens.{bang, lbracket, Punctuation, Name as NameToken}
 use Rattle.graphql_text.specs.Layout.{Word, raises, lowers}
 use Rattle.graphql_text.proofs.LevelLaws.{raises_append, lowers_append}
-use Rattle.graphql_values.specs.Literals.{name_tree}
+use Rattle.graphql_text.proofs.Telling.{told_balanced}
+use Rattle.graphql_values.specs.lemmas.Types.{told_type_reference}
+use Rattle.graphql_text.specs.Leaves.{name_tree}
 use Rattle.graphql_values.specs.TypeEnds.{end_items, ends_items}
-use Rattle.graphql_values.specs.TypeReferences.{TypeTree, named_type, non_null_named_type, list_type, non_null_list_type, type_shape}
+use Rattle.graphql_values.specs.TypeReferences.{TypeTree, named_type, non_null_named_type, list_type, non_null_list_type, type_shape, list_depth}
 use Rattle.graphql_values.specs.TypeTrees.{type_tree, type_tree_step}
-use Rattle.graphql_values.specs.Wrappings.{list_depth}
-use Rattle.graphql_values.specs.declared.type_writer.TypePart.{TypePart}
-use Rattle.graphql_values.specs.declared.type_writer.TypePart.TheVariants.{EndOfList, EndOfNonNullList}
+use Rattle.graphql_values.specs.declared.types.print.TypeEntry.{TypeEntry}
+use Rattle.graphql_values.specs.declared.types.print.TypeEntry.TheVariants.{EndOfList, EndOfNonNullList}
 use Rattle.graphql_values.specs.declared.types.Type.{«Type», Type-F, map-Type, fold_out-Type}
 use Rattle.graphql_values.specs.declared.types.Type.TheVariants as variant
 
@@ -42,16 +43,16 @@ unfolding type_shape
 non_null_named_shape name = ap type_shape (non_null_named_tree name)
 
 -- an end that is put on the stack is written first
-pub ends_push : (ends : List TypePart) (end : TypePart) → ends_items (ends ++ end ∷ []) ≡ end_items end ++ ends_items ends
+pub ends_push : (ends : List TypeEntry) (end : TypeEntry) → ends_items (ends ++ end ∷ []) ≡ end_items end ++ ends_items ends
 ends_push [] end = sym (append-nil (end_items end))
 ends_push (other ∷ ends) end = rw (ends_push ends end) (append_assoc (end_items end) (ends_items ends) (end_items other))
 
 -- A list is opened: its bracket is written, and its items and its end are left. It is one list deeper than its items.
-pub record IsOpened (ty inner : «Type») (before after : List TypePart) : Type 0 where
+pub record IsOpened (ty inner : «Type») (before after : List TypeEntry) : Type 0 where
   pub left : type_shape (type_tree ty) ++ ends_items before ≡ (Word (Punctuation lbracket) ∷ []) ++ (type_shape (type_tree inner) ++ ends_items after)
   pub need : length after + list_depth (type_tree inner) ≡ length before + list_depth (type_tree ty)
 
-opens : (tree item : TypeTree) (end : TypePart) (ty inner : «Type») (before after : List TypePart) →
+opens : (tree item : TypeTree) (end : TypeEntry) (ty inner : «Type») (before after : List TypeEntry) →
     type_tree ty ≡ tree → type_tree inner ≡ item → after ≡ before ++ end ∷ [] →
     type_shape tree ≡ Word (Punctuation lbracket) ∷ (type_shape item ++ end_items end) → list_depth tree ≡ list_depth item + 1 → IsOpened ty inner before after
 opens tree item end ty inner before after outside inside ends shape depth = record {
@@ -59,33 +60,29 @@ opens tree item end ty inner before after outside inside ends shape depth = reco
   need = rw (outside, inside, ends) (omega (arith, depth, length_push before end));
 }
 
-pub list_opened : {ty inner : «Type»} {before after : List TypePart} (item : Box «Type» Global) → ty ≡ variant.List item → inner ≡ item.value → after ≡ before ++ EndOfList ∷ [] → IsOpened ty inner before after
+pub list_opened : {ty inner : «Type»} {before after : List TypeEntry} (item : Box «Type» Global) → ty ≡ variant.List item → inner ≡ item.value → after ≡ before ++ EndOfList ∷ [] → IsOpened ty inner before after
 unfolding type_shape
 list_opened {ty} {inner} {before} {after} item outside inside ends =
     opens (list_type (type_tree item.value)) (type_tree item.value) EndOfList ty inner before after (ap type_tree outside ∙ list_tree item) (ap type_tree inside) ends refl refl
 
-pub non_null_list_opened : {ty inner : «Type»} {before after : List TypePart} (item : Box «Type» Global) → ty ≡ variant.NonNullList item → inner ≡ item.value → after ≡ before ++ EndOfNonNullList ∷ [] → IsOpened ty inner before after
+pub non_null_list_opened : {ty inner : «Type»} {before after : List TypeEntry} (item : Box «Type» Global) → ty ≡ variant.NonNullList item → inner ≡ item.value → after ≡ before ++ EndOfNonNullList ∷ [] → IsOpened ty inner before after
 unfolding type_shape
 non_null_list_opened {ty} {inner} {before} {after} item outside inside ends =
     opens (non_null_list_type (type_tree item.value)) (type_tree item.value) EndOfNonNullList ty inner before after (ap type_tree outside ∙ non_null_list_tree item) (ap type_tree inside) ends refl refl
 
 -- no word of a type changes the level
 pub type_balanced : (tree : TypeTree) → raises (type_shape tree) ≡ lowers (type_shape tree)
-unfolding type_shape raises lowers
-type_balanced (named_type name) = refl
-type_balanced (non_null_named_type name) = refl
-type_balanced (list_type item) = omega (arith, type_balanced item, raises_append (type_shape item) (end_items EndOfList), lowers_append (type_shape item) (end_items EndOfList))
-type_balanced (non_null_list_type item) = omega (arith, type_balanced item, raises_append (type_shape item) (end_items EndOfNonNullList), lowers_append (type_shape item) (end_items EndOfNonNullList))
+type_balanced tree = told_balanced (told_type_reference 0 tree)
 
-end_balanced : (end : TypePart) → raises (end_items end) ≡ lowers (end_items end)
+end_balanced : (end : TypeEntry) → raises (end_items end) ≡ lowers (end_items end)
 unfolding raises lowers
 end_balanced EndOfList = refl
 end_balanced EndOfNonNullList = refl
 
-pub ends_balanced : (ends : List TypePart) → raises (ends_items ends) ≡ lowers (ends_items ends)
+pub ends_balanced : (ends : List TypeEntry) → raises (ends_items ends) ≡ lowers (ends_items ends)
 unfolding raises lowers
 ends_balanced [] = refl
 ends_balanced (end ∷ ends) = omega (arith, ends_balanced ends, end_balanced end, raises_append (ends_items ends) (end_items end), lowers_append (ends_items ends) (end_items end))
 
-pub rest_balanced : (tree : TypeTree) (ends : List TypePart) → raises (type_shape tree ++ ends_items ends) ≡ lowers (type_shape tree ++ ends_items ends)
+pub rest_balanced : (tree : TypeTree) (ends : List TypeEntry) → raises (type_shape tree ++ ends_items ends) ≡ lowers (type_shape tree ++ ends_items ends)
 rest_balanced tree ends = omega (arith, type_balanced tree, ends_balanced ends, raises_append (type_shape tree) (ends_items ends), lowers_append (type_shape tree) (ends_items ends))

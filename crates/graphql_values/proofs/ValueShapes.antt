@@ -1,5 +1,5 @@
 -- The layout and the nesting of a list and of an object, over the slice of its items or fields.
-use Rattle.std.proofs.Common.{◌≡◌, ◌<◌, Bool, true, false, List, [], ◌∷◌, ◌++◌, length, refl, ap, sym, ◌∙◌, arith, Some, codes}
+use Rattle.std.proofs.Common.{◌≡◌, ◌<◌, Bool, true, List, [], ◌∷◌, ◌++◌, length, refl, ap, sym, ◌∙◌, arith, Some, codes}
 use Rattle.std.specs.declared.alloc.Global.{Global}
 use Rattle.std.specs.declared.vec.Vec.{Vec}
 use Rattle.graphql_base.specs.Name.{name_text}
@@ -10,15 +10,18 @@ use Rattle.graphql_values.specs.declared.value.Value.TheOpen as layer
 use Rattle.graphql_values.specs.declared.value.Value.TheVariants as variant
 use Rattle.graphql_values.specs.declared.value.Value.TheFolds.{fold-roll-Value}
 use Rattle.graphql_text.specs.Tokens.{lbracket, rbracket, lbrace, rbrace, colon, Punctuation, Name as NameToken}
-use Rattle.graphql_text.specs.Layout.{Word, Space, Raise, raises, lowers, each_after}
+use Rattle.graphql_text.specs.Layout.{Word, Space, Raise, raises, lowers}
 use Rattle.graphql_text.specs.Groups.{comma_rest}
 use Rattle.graphql_text.specs.Writing.{fixed_text}
-use Rattle.graphql_text.proofs.GroupLaws.{comma_group_opened, AllBalanced, comma_balanced}
+use Rattle.graphql_text.proofs.GroupLaws.{comma_group_opened}
+use Rattle.graphql_text.proofs.Telling.{told_balanced}
+use Rattle.graphql_values.specs.lemmas.Values.{told_value}
 use Rattle.graphql_values.specs.ValueWalk.{opening, opening_word, opened_level}
-use Rattle.graphql_values.specs.Values.{ValueTree, ValueTrees, more_values, ObjectFieldTrees, more_fields, null_value, enum_value, variable, float_value, int_value, string_value, boolean_value, no_values, no_fields, value_shape, values_shapes, object_fields_shapes, list_value, object_value, value_nesting, values_nesting, object_fields_nesting}
+use Rattle.graphql_values.specs.Values.{ValueTree, more_values, more_fields, null_value, enum_value, variable, float_value, int_value, string_value, boolean_value, no_values, no_fields, value_shape, values_shapes, object_fields_shapes, list_value, object_value, value_nesting, values_nesting, object_fields_nesting}
 use Rattle.graphql_values.specs.declared.literal.IntValue.{IntValue}
 use Rattle.graphql_values.specs.declared.literal.FloatValue.{FloatValue}
-use Rattle.graphql_values.specs.Literals.{name_tree, int_tree, float_tree}
+use Rattle.graphql_text.specs.Leaves.{name_tree}
+use Rattle.graphql_values.specs.Literals.{int_tree, float_tree}
 use Rattle.graphql_values.specs.ValueTrees.{value_tree, value_tree_step, value_trees, object_field_trees}
 
 pub value_tree_list : (v : Vec (Node Value) Global) → value_tree (variant.List v) ≡ list_value (value_trees v.items)
@@ -155,25 +158,5 @@ leaf_opening broken (int_value int) e = refl
 leaf_opening broken (boolean_value boolean) e = refl
 
 -- what is written of a value raises the level as often as it lowers it
-mutual
-  unfolding raises lowers each_after
-
-  pub value_balanced : (broken : Bool) (value : ValueTree) → raises (value_shape broken value) ≡ lowers (value_shape broken value)
-  value_balanced broken null_value = refl
-  value_balanced broken (enum_value name) = refl
-  value_balanced broken (variable name) = refl
-  value_balanced broken (string_value string) = refl
-  value_balanced broken (float_value float) = refl
-  value_balanced broken (int_value int) = refl
-  value_balanced broken (boolean_value true) = refl
-  value_balanced broken (boolean_value false) = refl
-  value_balanced broken (list_value items) = comma_balanced lbracket rbracket broken (values_shapes broken items) (values_balanced broken items)
-  value_balanced broken (object_value fields) = comma_balanced lbrace rbrace broken (object_fields_shapes broken fields) (fields_balanced broken fields)
-
-  values_balanced : (broken : Bool) (values : ValueTrees) → AllBalanced (values_shapes broken values)
-  values_balanced broken no_values = tt
-  values_balanced broken (more_values value more) = (value_balanced broken value, values_balanced broken more)
-
-  fields_balanced : (broken : Bool) (fields : ObjectFieldTrees) → AllBalanced (object_fields_shapes broken fields)
-  fields_balanced broken no_fields = tt
-  fields_balanced broken (more_fields name value more) = (omega (arith, value_balanced broken value), fields_balanced broken more)
+pub value_balanced : (broken : Bool) (value : ValueTree) → raises (value_shape broken value) ≡ lowers (value_shape broken value)
+value_balanced broken value = told_balanced (told_value broken value)

@@ -4,17 +4,15 @@ use Rattle.graphql_base.specs.declared.name.Name.{Name}
 use Rattle.graphql_base.specs.declared.node.Node.{Node}
 use Rattle.graphql_base.specs.Name.{name_text}
 use Rattle.graphql_base.specs.Node.{node_value}
-use Rattle.graphql_values.specs.ArgumentLoans.{argument_value}
-use Rattle.graphql_values.specs.Named.{first_argument_named}
-use Rattle.graphql_values.specs.NamedDefinitions.{definition_under, first_input_value_definition_named}
+use Rattle.graphql_values.specs.Queries.{argument_value, first_argument_named, definition_under, first_input_value_definition_named}
 use Rattle.graphql_values.specs.TypeTrees.{type_tree}
 use Rattle.graphql_values.specs.Wrappings.{is_non_null}
-use Rattle.graphql_values.specs.declared.arguments.ArgumentByNameError.{ArgumentByNameError}
-use Rattle.graphql_values.specs.declared.arguments.ArgumentByNameError.TheVariants.{UndefinedDirective, NoSuchArgument, RequiredArgumentNotSpecified}
-use Rattle.graphql_values.specs.declared.arguments.ArgumentValue.{ArgumentValue}
-use Rattle.graphql_values.specs.declared.arguments.ArgumentValue.TheVariants as answer
-use Rattle.graphql_values.specs.declared.definition.DirectiveDefinition.{DirectiveDefinition}
-use Rattle.graphql_values.specs.declared.definition.InputValueDefinition.{InputValueDefinition}
+use Rattle.graphql_values.specs.declared.directive.ArgumentByNameError.{ArgumentByNameError}
+use Rattle.graphql_values.specs.declared.directive.ArgumentByNameError.TheVariants.{UndefinedDirective, NoSuchArgument, RequiredArgumentNotSpecified}
+use Rattle.graphql_values.specs.declared.directive.ArgumentValue.{ArgumentValue}
+use Rattle.graphql_values.specs.declared.directive.ArgumentValue.TheVariants as answer
+use Rattle.graphql_values.specs.declared.directive_definition.DirectiveDefinition.{DirectiveDefinition}
+use Rattle.graphql_values.specs.declared.input_value_definition.InputValueDefinition.{InputValueDefinition}
 use Rattle.graphql_values.specs.declared.directive.Directive.{Directive}
 use Rattle.graphql_values.specs.declared.value.Value.{Value}
 

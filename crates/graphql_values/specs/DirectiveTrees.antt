@@ -4,11 +4,11 @@ use Rattle.graphql_base.specs.declared.node.Node.{Node}
 use Rattle.graphql_base.specs.Node.{node_value}
 use Rattle.graphql_values.specs.Arguments.{ArgumentTree}
 use Rattle.graphql_values.specs.Directives.{DirectiveTree}
-use Rattle.graphql_values.specs.Literals.{name_tree}
+use Rattle.graphql_text.specs.Leaves.{name_tree}
 use Rattle.graphql_values.specs.ValueTrees.{value_tree}
-use Rattle.graphql_values.specs.declared.directive.Argument.{Argument}
+use Rattle.graphql_values.specs.declared.argument.Argument.{Argument}
 use Rattle.graphql_values.specs.declared.directive.Directive.{Directive}
-use Rattle.graphql_values.specs.declared.directive.DirectiveList.{DirectiveList}
+use Rattle.graphql_values.specs.declared.directive_list.DirectiveList.{DirectiveList}
 
 -- The tree of an argument, a directive and a list: all of it but the locations.
 abbrev pub argument_tree : Argument → ArgumentTree

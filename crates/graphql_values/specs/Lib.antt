@@ -1,33 +1,32 @@
--- Values, type references, arguments, directives, input value definitions and directive definitions: trees, grammar, layout and side conditions.
+-- Values, type references, arguments, directives, definitions of input values and of directives: trees, grammar, layout, nesting, side
+-- conditions and kinds.
 pub mod Values
-pub mod Literals
-pub mod ValueTrees
-pub mod ValueParts
 pub mod TypeReferences
 pub mod Wrappings
-pub mod TypeTrees
-pub mod TypeEnds
 pub mod Arguments
 pub mod Directives
-pub mod DirectiveTrees
-pub mod Named
-pub mod GetAll
-pub mod DirectiveLoans
-pub mod FirstChanged
-pub mod ArgumentLoans
-pub mod OperationTypes
-pub mod DirectiveLocations
-pub mod LocationTrees
-pub mod Descriptions
 pub mod DefaultValues
 pub mod InputValueDefinitions
-pub mod JoinedNames
+pub mod ArgumentsDefinitions
+pub mod OperationTypes
+pub mod DirectiveLocations
 pub mod DirectiveDefinitions
+-- the trees that the types of the code stand for
+pub mod Literals
+pub mod ValueTrees
+pub mod TypeTrees
+pub mod DirectiveTrees
+pub mod LocationTrees
 pub mod DefinitionTrees
-pub mod DefinitionParts
-pub mod NamedDefinitions
-pub mod InputValueDefinitionQueries
-pub mod DefinitionLoans
+-- what calls answer and lend
+pub mod ValueQueries
+pub mod Queries
 pub mod ArgumentValues
+pub mod Loans
+-- what is still to be written, and with which stacks
 pub mod ValueWalk
-pub mod laws
+pub mod TypeEnds
+pub mod Stacks
+-- examples, and lemmas
+pub mod Examples
+pub mod lemmas

@@ -1,11 +1,9 @@
--- What contracts see of numbers, and the leaves of trees that names, numbers and strings are.
+-- What contracts see of numbers, and the leaves of trees that numbers and strings are.
 use Rattle.std.specs.Prelude.{ℕ, ℤ, List, String, string_bytes, chars}
 use Rattle.std.proofs.Common.{Global}
 use Rattle.std.specs.Str.Parse.{signed_digits_value}
 use Rattle.std.proofs.lemmas.Str.{IsUtf8-string_bytes, scalars-chars}
-use Rattle.graphql_base.specs.declared.name.Name.{Name}
-use Rattle.graphql_base.specs.Name.{name_text}
-use Rattle.graphql_text.specs.Literals.{NameText, IntText, FloatText, StringText}
+use Rattle.graphql_text.specs.Literals.{IntText, FloatText, StringText}
 use Rattle.graphql_values.specs.declared.literal.IntValue.{IntValue}
 use Rattle.graphql_values.specs.declared.literal.FloatValue.{FloatValue}
 
@@ -18,9 +16,6 @@ float_text float = float.text
 -- the number that an integer writes, in base ten
 abbrev pub int_number : IntValue → ℤ
 int_number int = signed_digits_value 10 (int_text int)
-
-abbrev pub name_tree : Name → NameText
-name_tree name = record { text = name_text name; valid = name.valid }
 
 abbrev pub int_tree : IntValue → IntText
 int_tree int = record { text = int_text int; valid = int.valid }

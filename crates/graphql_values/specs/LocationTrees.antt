@@ -4,8 +4,8 @@ use Rattle.graphql_values.specs.DirectiveLocations.{DirectiveLocationTree}
 use Rattle.graphql_values.specs.DirectiveLocations as tree
 use Rattle.graphql_values.specs.OperationTypes.{OperationTypeTree}
 use Rattle.graphql_values.specs.OperationTypes as operation_tree
-use Rattle.graphql_values.specs.declared.location.DirectiveLocation.{DirectiveLocation}
-use Rattle.graphql_values.specs.declared.location.DirectiveLocation.TheVariants as location
+use Rattle.graphql_values.specs.declared.directive_location.DirectiveLocation.{DirectiveLocation}
+use Rattle.graphql_values.specs.declared.directive_location.DirectiveLocation.TheVariants as location
 use Rattle.graphql_values.specs.declared.operation_type.OperationType.{OperationType}
 use Rattle.graphql_values.specs.declared.operation_type.OperationType.TheVariants as operation
 

@@ -2,14 +2,14 @@
 use Rattle.std.specs.Prelude.{List, [], ◌∷◌, ◌++◌}
 use Rattle.graphql_text.specs.Tokens.{bang, rbracket, Punctuation}
 use Rattle.graphql_text.specs.Layout.{Item, Word}
-use Rattle.graphql_values.specs.declared.type_writer.TypePart.{TypePart}
-use Rattle.graphql_values.specs.declared.type_writer.TypePart.TheVariants.{EndOfList, EndOfNonNullList}
+use Rattle.graphql_values.specs.declared.types.print.TypeEntry.{TypeEntry}
+use Rattle.graphql_values.specs.declared.types.print.TypeEntry.TheVariants.{EndOfList, EndOfNonNullList}
 
 -- the end of one list
-abbrev pub end_items : TypePart → List Item
+abbrev pub end_items : TypeEntry → List Item
 end_items EndOfList = Word (Punctuation rbracket) ∷ []
 end_items EndOfNonNullList = Word (Punctuation rbracket) ∷ Word (Punctuation bang) ∷ []
 
-abbrev pub ends_items : List TypePart → List Item
+abbrev pub ends_items : List TypeEntry → List Item
 ends_items [] = []
-ends_items (part ∷ parts) = ends_items parts ++ end_items part
+ends_items (end ∷ ends) = ends_items ends ++ end_items end

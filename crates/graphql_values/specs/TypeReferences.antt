@@ -1,8 +1,9 @@
 -- Type references: Type, section 2.11.
-use Rattle.std.specs.Prelude.{List, [], ◌∷◌, ◌++◌}
+use Rattle.std.specs.Prelude.{ℕ, ◌+◌, List, [], ◌∷◌, ◌++◌, true}
 use Rattle.graphql_text.specs.Literals.{NameText}
 use Rattle.graphql_text.specs.Tokens.{bang, lbracket, rbracket, Punctuation, Name}
 use Rattle.graphql_text.specs.Forms.{Form, token, ◌⨟◌, name_except}
+use Rattle.graphql_text.specs.Kinds.{Kind}
 use Rattle.graphql_text.specs.Layout.{Item, Word}
 
 -- A type without locations: NamedType or ListType, each with or without `!`.
@@ -25,3 +26,21 @@ type_shape (named_type name) = Word (Name name.text) ∷ []
 type_shape (non_null_named_type name) = Word (Name name.text) ∷ Word (Punctuation bang) ∷ []
 type_shape (list_type item) = Word (Punctuation lbracket) ∷ (type_shape item ++ (Word (Punctuation rbracket) ∷ []))
 type_shape (non_null_list_type item) = Word (Punctuation lbracket) ∷ (type_shape item ++ (Word (Punctuation rbracket) ∷ Word (Punctuation bang) ∷ []))
+
+-- how many lists stand around the name
+abbrev pub list_depth : TypeTree → ℕ
+list_depth (named_type name) = 0
+list_depth (non_null_named_type name) = 0
+list_depth (list_type item) = list_depth item + 1
+list_depth (non_null_list_type item) = list_depth item + 1
+
+-- The brackets of a type are no group, and there are no side conditions.
+abbrev pub type_kind : Kind
+type_kind = record {
+  Tree = TypeTree;
+  form = type_form;
+  obeys = λ type. true;
+  shape = λ broken front. type_shape;
+  nesting = λ type. 0;
+  entries = list_depth;
+}

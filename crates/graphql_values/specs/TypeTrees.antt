@@ -1,7 +1,7 @@
 -- The tree that a type of the code stands for, and its wrapping with the very name, which a clone keeps.
 use Rattle.std.specs.Prelude.{◌≡◌, true, false}
 use Rattle.graphql_base.specs.declared.name.Name.{Name}
-use Rattle.graphql_values.specs.Literals.{name_tree}
+use Rattle.graphql_text.specs.Leaves.{name_tree}
 use Rattle.graphql_values.specs.TypeReferences.{TypeTree, named_type, non_null_named_type, list_type, non_null_list_type}
 use Rattle.graphql_values.specs.Wrappings.{Wrapping, bare, listed}
 use Rattle.graphql_values.specs.declared.types.Type.{«Type», Type-F, fold-Type}

@@ -1,17 +1,20 @@
 -- The tree that a value of the code stands for, and what a clone of a value keeps.
-use Rattle.std.specs.Prelude.{◌≡◌, ⊤, List, [], ◌∷◌, map, string_bytes}
+use Rattle.std.specs.Prelude.{◌≡◌, ⊤, List, [], ◌∷◌, map, Option, option_copied, string_bytes}
+use Rattle.std.specs.Borrow.{Bor}
+use Rattle.std.specs.Option.{option_map}
 use Rattle.graphql_base.specs.declared.name.Name.{Name}
 use Rattle.graphql_base.specs.declared.node.Node.{Node}
 use Rattle.graphql_base.specs.Node.{node_value}
 use Rattle.graphql_values.specs.Values.{Constness, Const, NonConst, ValueTree, null_value, enum_value, variable, string_value, float_value, int_value, boolean_value, list_value, object_value, ValueTrees, no_values, more_values, ObjectFieldTrees, no_fields, more_fields}
-use Rattle.graphql_values.specs.Literals.{name_tree, int_tree, float_tree, string_tree}
-use Rattle.graphql_values.specs.declared.well_formed.Constness.{Constness as Place}
-use Rattle.graphql_values.specs.declared.well_formed.Constness.TheVariants as place
+use Rattle.graphql_text.specs.Leaves.{name_tree}
+use Rattle.graphql_values.specs.Literals.{int_tree, float_tree, string_tree}
+use Rattle.graphql_values.specs.declared.constness.Constness as code
+use Rattle.graphql_values.specs.declared.constness.Constness.TheVariants as variant
 use Rattle.graphql_values.specs.declared.value.Value.{Value, Value-F, fold-Value, out-Value}
 
-abbrev pub constness_of : Place → Constness
-constness_of place.Const = Const
-constness_of place.NonConst = NonConst
+abbrev pub constness_of : code.Constness → Constness
+constness_of variant.Const = Const
+constness_of variant.NonConst = NonConst
 
 -- the items of a list and the fields of an object, of which each is a tree already
 abbrev pub items_of : List (Node ValueTree) → ValueTrees
@@ -47,6 +50,10 @@ value_trees nodes = items_of (map node_value_tree nodes)
 
 abbrev pub object_field_trees : List (Name × Node Value) → ObjectFieldTrees
 object_field_trees fields = fields_of (map (λ field. (field.0, node_value_tree field.1)) fields)
+
+-- the tree of a default value, if there is one
+abbrev pub default_value_tree : Option (Bor (Node Value)) → Option ValueTree
+default_value_tree value = option_map (λ node. value_tree (node_value node)) (option_copied value)
 
 -- A clone is the same but for the memory of its text or list: it has the very names and nodes, with their locations.
 abbrev pub IsLevelCloneOf : Value-F Value → Value-F Value → Type 0

@@ -2,6 +2,7 @@
 use Rattle.std.specs.Prelude.{ℕ, ◌≡◌, List, [], ◌∷◌, Bool, true, false, not, ◌&&◌, codes}
 use Rattle.graphql_text.specs.Literals.{NameText, IntText, FloatText, StringText}
 use Rattle.graphql_text.specs.Tokens.{dollar, colon, lbracket, rbracket, lbrace, rbrace, Punctuation, Name, IntValue, FloatValue, StringValue}
+use Rattle.graphql_text.specs.Kinds.{Kind}
 use Rattle.graphql_text.specs.Forms.{Form, token, no_tokens, ◌⨟◌, name_except, only_if, is_one_of, keyword}
 use Rattle.graphql_text.specs.Nesting.{group_nesting}
 use Rattle.graphql_text.specs.Layout.{Item, Word, StringItem, AsValue, Space, comma_group}
@@ -136,3 +137,14 @@ abbrev mutual
   pub object_fields_obey : Constness → ObjectFieldTrees → Bool
   object_fields_obey c no_fields = true
   object_fields_obey c (more_fields name value more) = value_obeys c value && object_fields_obey c more
+
+-- A value by itself isn't at a constant place.
+abbrev pub value_kind : Kind
+value_kind = record {
+  Tree = ValueTree;
+  form = value_form NonConst;
+  obeys = value_obeys NonConst;
+  shape = λ broken front. value_shape broken;
+  nesting = value_nesting;
+  entries = value_nesting;
+}

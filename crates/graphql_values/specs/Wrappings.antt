@@ -1,5 +1,5 @@
 -- Wrapping types, section 3.4.1: a type as the name that is wrapped, and what is non-null around it.
-use Rattle.std.specs.Prelude.{◌≡◌, ℕ, ◌+◌, Bool, true, false, List, [], ◌∷◌, IsTrue, length, nat_lt, ◌==◌}
+use Rattle.std.specs.Prelude.{◌≡◌, Bool, true, false, List, [], ◌∷◌, IsTrue, length, nat_lt, ◌==◌}
 use Rattle.std.specs.List.{AllZip}
 use Rattle.graphql_text.specs.Literals.{NameText}
 use Rattle.graphql_values.specs.TypeReferences.{TypeTree, named_type, non_null_named_type, list_type, non_null_list_type}
@@ -65,13 +65,6 @@ is_list tree = nat_lt 1 (length (tree_nullability tree))
 -- NamedType, section 2.11, non-null or not: nothing is wrapped but the name
 abbrev pub is_named_type : TypeTree → Bool
 is_named_type tree = length (tree_nullability tree) == 1
-
--- how many lists stand around the name
-abbrev pub list_depth : TypeTree → ℕ
-list_depth (named_type name) = 0
-list_depth (non_null_named_type name) = 0
-list_depth (list_type item) = list_depth item + 1
-list_depth (non_null_list_type item) = list_depth item + 1
 
 -- AreTypesCompatible, section 5.8.5: the base names are the same, the lists are as many, and where the target is non-null, so is the source.
 pub record IsAssignable (source target : TypeTree) : Type 0 where

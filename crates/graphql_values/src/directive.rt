@@ -1,20 +1,23 @@
-//! Arguments and directives.
-ghost use Rattle.std.specs.Prelude.{◌≡◌, [], IfOk, None};
-ghost use Rattle.graphql_base.specs.Node.{node_at};
+//! Directives, and their arguments by name.
+ghost use Rattle.std.specs.Prelude.{◌≡◌, ◌↔◌, IfErr, IfOk, IfSome, IsErrOf, [], None, Some, length, ◌<◌, option_copied, position};
+ghost use Rattle.std.specs.Borrow.{sem};
+ghost use Rattle.std.specs.List.{HoldsAt};
+ghost use Rattle.std.specs.Option.{option_map};
+ghost use Rattle.graphql_base.specs.Name.{name_text};
+ghost use Rattle.graphql_values.specs.ArgumentValues.{argument_answer, argument_by_name};
+ghost use Rattle.graphql_values.specs.Queries.{argument_value, definition_under, first_argument_named, is_argument_named};
+ghost use Rattle.graphql_values.specs.Loans.{LendsArgumentValue, LendsSpecifiedValue, LendsValueAt};
 
+pub(crate) mod print;
+
+use crate::argument::Argument;
+use crate::directive_definition::DirectiveDefinition;
 use crate::value::Value;
 use graphql_base::name::Name;
 use graphql_base::node::Node;
+use indexmap::IndexMap;
 use std::alloc::{AllocError, Global};
-
-/// An argument of a field or a directive (`Argument`, section 2.6). Two are equal exactly if they differ in locations at most.
-#[derive(Clone, PartialEq, Eq, Hash, Debug, Drop)]
-pub struct Argument {
-    /// The name that stands before `:`.
-    pub name: Name,
-    /// The value that stands after it.
-    pub value: Node<Value>,
-}
+use thiserror::Error;
 
 /// A directive (`Directive`, section 2.12). Two are equal exactly if they differ in locations at most.
 ///
@@ -27,23 +30,63 @@ pub struct Directive {
     pub arguments: Vec<Node<Argument>>,
 }
 
-/// Directives in order (`Directives`, section 2.12), or none. Two lists are equal exactly if they differ in locations at most.
-///
-/// Of directives with one name each is kept, as GraphQL allows for repeatable ones.
-#[derive(Clone, PartialEq, Eq, Hash, Debug, Drop)]
-pub struct DirectiveList(pub Vec<Node<Directive>>);
+/// What an argument of a directive stands for.
+#[derive(Clone, Copy, Debug)]
+pub enum ArgumentValue<'a> {
+    /// The value that is specified, or the default value.
+    Value(&'a Node<Value>),
+    /// The argument is not specified, may be left out, and has no default value.
+    ImplicitNull,
+}
 
-impl Argument {
-    /// A node of the argument, with no location. `AllocError` where memory is refused; the name and the value are given up then.
-    pub fn new_node(
-        alloc: Global,
-        name: Name,
-        value: Node<Value>,
-    ) -> Result<Node<Argument>, AllocError>
-        ensures { IfOk result (λ node. node ≡ node_at None (record { name = name; value = value })) }
-    {
-        Node::new(alloc, Argument { name, value })
+/// Why an argument of a directive has no value.
+#[derive(Clone, Copy, Debug, PartialEq, Eq)]
+pub enum ArgumentByNameError {
+    /// The argument is not specified, and there is no definition of the directive.
+    UndefinedDirective,
+    /// The argument is not specified, and the directive's definition has none of that name.
+    NoSuchArgument,
+    /// The argument is not specified, has a non-null type and no default value.
+    RequiredArgumentNotSpecified,
+}
+
+/// Why the value of an argument can't be written to.
+#[derive(Clone, Copy, Debug, PartialEq, Eq, Error)]
+pub enum SpecifiedArgumentError {
+    /// The directive has no argument of that name.
+    #[error("no argument of that name")]
+    NotSpecified,
+    /// Memory was refused.
+    #[error("out of memory")]
+    Memory,
+}
+
+impl From<AllocError> for SpecifiedArgumentError {
+    ghost use Rattle.graphql_values.specs.declared.directive.SpecifiedArgumentError.{SpecifiedArgumentError};
+
+    ghost from_gives = { λ _ error. error ≡ SpecifiedArgumentError.Memory };
+
+    fn from(_: AllocError) -> SpecifiedArgumentError {
+        SpecifiedArgumentError::Memory
     }
+}
+
+/// The value of an argument, of which this node has a copy of its own then.
+fn value_mut(argument: &mut Node<Argument>) -> Result<&mut Node<Value>, SpecifiedArgumentError>
+    ensures* writes_back { sem 𝓛 (LendsArgumentValue argument.entry result) }
+    ensures value { IfOk result (λ value. value.now ≡ argument_value argument.old) }
+    ensures memory { IfErr result (λ error. error ≡ SpecifiedArgumentError.Memory) }
+{
+    Ok(&mut argument.make_mut()?.value)
+}
+
+fn find_definition<'a>(
+    definitions: &'a IndexMap<Name, Node<DirectiveDefinition>>,
+    name: &Name,
+) -> Option<&'a Node<DirectiveDefinition>>
+    ensures { option_copied result ≡ definition_under (name_text name.now) definitions.now.entries }
+{
+    definitions.get(name)
 }
 
 impl Directive {
@@ -54,5 +97,87 @@ impl Directive {
     {
         let arguments = Vec::new(alloc);
         Directive { name, arguments }
+    }
+
+    fn specified_argument_position(&self, name: &str) -> Option<usize>
+        ensures place { result ≡ position (is_argument_named name.now) self.now.arguments.items }
+        ensures within { IfSome result (λ place. place < length self.now.arguments.items) }
+    {
+        self.arguments
+            .iter()
+            .position(|node| node.name.as_str() == name)
+    }
+
+    /// The value of the first argument of that name.
+    pub fn specified_argument_by_name(&self, name: &str) -> Option<&Node<Value>>
+        ensures { option_copied result
+            ≡ option_map argument_value (first_argument_named name.now self.now.arguments.items) }
+    {
+        let place = self.specified_argument_position(name)?;
+        Some(&self.arguments[place].value)
+    }
+
+    /// The value of the argument of that name: the value of the first one that the directive specifies, whatever the
+    /// definitions say; or else the default value that the directive's definition gives it, or else `ImplicitNull`.
+    ///
+    /// The definition is what the map has under the directive's name. For an argument that isn't specified the answer
+    /// is `UndefinedDirective` where the map has none; else `NoSuchArgument` where the definition has no argument of
+    /// that name; else `RequiredArgumentNotSpecified` where that has a non-null type and no default value.
+    pub fn argument_by_name<'a>(
+        &'a self,
+        name: &str,
+        definitions: &'a IndexMap<Name, Node<DirectiveDefinition>>,
+    ) -> Result<ArgumentValue<'a>, ArgumentByNameError>
+        ensures { argument_answer result ≡ argument_by_name self.now name.now definitions.now.entries }
+    {
+        if let Some(value) = self.specified_argument_by_name(name) {
+            return Ok(ArgumentValue::Value(value));
+        }
+        let Some(definition) = find_definition(definitions, &self.name) else {
+            return Err(ArgumentByNameError::UndefinedDirective);
+        };
+        let Some(argument) = definition.argument_by_name(name) else {
+            return Err(ArgumentByNameError::NoSuchArgument);
+        };
+        match &argument.default_value {
+            Some(value) => Ok(ArgumentValue::Value(value)),
+            None if argument.ty.is_non_null() => Err(
+                ArgumentByNameError::RequiredArgumentNotSpecified,
+            ),
+            None => Ok(ArgumentValue::ImplicitNull),
+        }
+    }
+
+    /// The value of the argument at that place, counted from 0.
+    fn value_at(&mut self, place: usize) -> Result<&mut Node<Value>, SpecifiedArgumentError>
+        requires { place < length self.old.arguments.items }
+        ensures* writes_back { sem 𝓛 (LendsValueAt self.entry place result) }
+        ensures value { IfOk result (λ value.
+            HoldsAt (λ argument. value.now ≡ argument_value argument) self.old.arguments.items place) }
+        ensures memory { IfErr result (λ error. error ≡ SpecifiedArgumentError.Memory) }
+    {
+        value_mut(&mut self.arguments[place])
+    }
+
+    /// The value of the first argument of that name, to write to. Where another directive shares the argument, this
+    /// one first takes a copy of its own.
+    ///
+    /// What is written is seen in this directive alone. The argument's name and location stay, and no other argument
+    /// is touched. `NotSpecified` exactly where there is no argument of that name; no memory is asked for then.
+    /// `Memory` where the copy is refused. On either error the directive is as it was.
+    pub fn specified_argument_by_name_mut(
+        &mut self,
+        name: &str,
+    ) -> Result<&mut Node<Value>, SpecifiedArgumentError>
+        ensures* writes_back { sem 𝓛 (LendsSpecifiedValue self.entry name.now result) }
+        ensures value { IfOk result (λ value.
+            option_map argument_value (first_argument_named name.now self.old.arguments.items) ≡ Some value.now) }
+        ensures not_specified { IsErrOf result SpecifiedArgumentError.NotSpecified
+            ↔ (first_argument_named name.now self.old.arguments.items ≡ None) }
+    {
+        match self.specified_argument_position(name) {
+            Some(place) => self.value_at(place),
+            None => Err(SpecifiedArgumentError::NotSpecified),
+        }
     }
 }

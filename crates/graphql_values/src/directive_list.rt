@@ -6,17 +6,26 @@ ghost use Rattle.std.specs.Iterator.Runs.{EveryRun, ItemsMapTo};
 ghost use Rattle.std.specs.Slice.Iter.{iter_rest, iter_mut_rest, iter_steps, iter_mut_steps};
 ghost use Rattle.graphql_base.specs.declared.node.Node.{Node};
 ghost use Rattle.graphql_values.specs.declared.directive.Directive.{Directive};
-ghost use Rattle.graphql_values.specs.DirectiveLoans.{LendsItems, LendsVec};
-ghost use Rattle.graphql_values.specs.Named.{all_directives_named, first_directive_named, has_directive_named, is_directive_named, next_directive_named};
+ghost use Rattle.graphql_values.specs.Loans.{LendsItems, LendsVec};
+ghost use Rattle.graphql_values.specs.Queries.{all_directives_named, first_directive_named, has_directive_named, is_directive_named, next_directive_named};
 
-use crate::directive::{Directive, DirectiveList};
+pub(crate) mod print;
+
+use crate::directive::Directive;
 use graphql_base::node::Node;
 use std::alloc::{AllocError, Global};
 use std::ops::{Deref, DerefMut};
 use std::{slice, vec};
 
+/// Directives in order (`Directives`, section 2.12), or none. Two lists are equal exactly if they differ in locations
+/// at most.
+///
+/// Of directives with one name each is kept, as GraphQL allows for repeatable ones.
+#[derive(Clone, PartialEq, Eq, Hash, Debug, Drop)]
+pub struct DirectiveList(pub Vec<Node<Directive>>);
+
 impl DirectiveList {
-    ghost use Rattle.graphql_values.specs.GetAll.{directives_left};
+    ghost use Rattle.graphql_values.specs.Queries.{directives_left};
 
     /// The empty list. It takes no memory.
     pub fn new(alloc: Global) -> DirectiveList
@@ -78,8 +87,8 @@ impl DirectiveList {
         }
     }
 
-    /// A list of the items of an iterator that ends, in order. `AllocError` where memory is refused; the items taken so far are
-    /// given up then.
+    /// A list of the items of an iterator that ends, in order. `AllocError` where memory is refused; the items taken
+    /// so far are given up then.
     pub fn collect_from<I: Iterator<Item = Node<Directive>>>(
         alloc: Global,
         items: I,
@@ -112,7 +121,7 @@ pub struct GetAll<'l, 'n> {
 impl<'l> Iterator for GetAll<'l, '_> {
     type Item = &'l Node<Directive>;
 
-    ghost use Rattle.graphql_values.specs.GetAll.{directives_left};
+    ghost use Rattle.graphql_values.specs.Queries.{directives_left};
 
     ghost next_gives = { YieldsFirstRef directives_left };
 
@@ -184,12 +193,14 @@ impl<'l> IntoIterator for &'l mut DirectiveList {
     type IntoIter = slice::IterMut<'l, Node<Directive>>;
 
     ghost into_iter_gives = { λ list it. (iter_mut_rest it ≡ list.now.0.items) × (length (iter_mut_rest it) < 2 ^ 64)
-        × EveryRun (iter_mut_steps {A = Node Directive}) (λ run. ItemsMapTo run (λ node. node.now) (iter_mut_rest run.from)) };
+        × EveryRun (iter_mut_steps {A = Node Directive}) (λ run.
+        ItemsMapTo run (λ node. node.now) (iter_mut_rest run.from)) };
 
     fn into_iter(self) -> slice::IterMut<'l, Node<Directive>>
         ensures* writes_back { sem 𝓛 (LendsItems self.entry result) }
         ensures into_iter_gives { (iter_mut_rest result ≡ self.old.0.items) × (length (iter_mut_rest result) < 2 ^ 64)
-            × EveryRun (iter_mut_steps {A = Node Directive}) (λ run. ItemsMapTo run (λ node. node.now) (iter_mut_rest run.from)) }
+            × EveryRun (iter_mut_steps {A = Node Directive}) (λ run.
+            ItemsMapTo run (λ node. node.now) (iter_mut_rest run.from)) }
     {
         self.0.as_mut_slice().iter_mut()
     }

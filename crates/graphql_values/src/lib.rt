@@ -2,32 +2,29 @@
 //!
 //! - `value`, `literal`: values, and the numbers in them.
 //! - `types`: type references, and the macro `ty!`.
-//! - `directive`, `directive_list`, `arguments`: directives, lists of them, and their arguments by name.
-//! - `definition`, `location`, `operation_type`: definitions of input values and of directives, and where directives may stand.
-//! - `well_formed`, `writers`: what the kinds above these are checked and written with.
+//! - `argument`, `directive`, `directive_list`: directives, lists of them, and their arguments by name.
+//! - `input_value_definition`, `directive_definition`, `directive_location`: definitions of input values and of
+//!   directives, and where directives may stand.
+//! - `operation_type`: the types of operations.
+//! - `writers`: what the kinds of the crates above are checked and written with.
 //! - `laws`: laws of these kinds, as contracts of functions that do nothing.
 #![tactic(auto)]
 
-pub mod arguments;
-pub mod definition;
-mod definition_writer;
+pub mod argument;
+mod arguments_definition;
+mod constness;
+mod default_value;
 pub mod directive;
-mod directive_definition_syntax;
+pub mod directive_definition;
 pub mod directive_list;
-mod directive_list_syntax;
-mod directive_syntax;
-mod directive_writer;
-mod input_value_definition_syntax;
+pub mod directive_location;
+pub mod input_value_definition;
 pub mod laws;
 pub mod literal;
-pub mod location;
 mod number_syntax;
 pub mod operation_type;
 mod owned_text;
-mod type_writer;
+mod stacks;
 pub mod types;
 pub mod value;
-mod value_syntax;
-mod value_writer;
-pub mod well_formed;
 pub mod writers;

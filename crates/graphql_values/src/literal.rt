@@ -11,7 +11,8 @@ use std::alloc::{AllocError, Global};
 use std::fmt::{self, Debug, Display, Formatter, Write};
 use std::num::ParseIntError;
 
-/// The text of an integer (`IntValue`, section 2.9.1). It may be too great for any integer type. Two are equal exactly if their texts are.
+/// The text of an integer (`IntValue`, section 2.9.1). It may be too great for any integer type. Two are equal
+/// exactly if their texts are.
 #[derive_where(PartialEq, Eq, Hash)]
 #[derive(Debug, Drop)]
 pub struct IntValue {
@@ -89,7 +90,8 @@ impl Display for IntValue {
     }
 }
 
-/// The text of a number with a fraction, an exponent or both (`FloatValue`, section 2.9.2). Two are equal exactly if their texts are.
+/// The text of a number with a fraction, an exponent or both (`FloatValue`, section 2.9.2). Two are equal exactly if
+/// their texts are.
 #[derive_where(PartialEq, Eq, Hash)]
 #[derive(Debug, Drop)]
 pub struct FloatValue {

@@ -29,8 +29,8 @@ impl OperationType {
         }
     }
 
-    /// The name of the type that such operations begin at where no schema definition says otherwise (section 3.3.1): `Query`,
-    /// `Mutation` or `Subscription`. It is static and has no location.
+    /// The name of the type that such operations begin at where no schema definition says otherwise (section 3.3.1):
+    /// `Query`, `Mutation` or `Subscription`. It is static and has no location.
     pub fn default_type_name(self) -> NamedType
         ensures { IsNewName (default_type_name (operation_type_tree self)) true result }
     {

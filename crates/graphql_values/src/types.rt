@@ -1,14 +1,13 @@
 //! Type references, and the macro `ty!`.
 ghost use Rattle.std.specs.Prelude.{◌≡◌, ◌↔◌, IfOk, IsTrue, true, false};
 
-use crate::type_writer::write_type_alone;
-pub use graphql_base::name::NamedType;
-use graphql_text::target::ToFormatter;
-use std::alloc::{AllocError, Global};
-use std::fmt;
+pub(crate) mod print;
 
-/// A type reference (`Type`, section 2.11): the type of a field, an argument or a variable. Two types are equal exactly if they
-/// differ in locations at most.
+pub use graphql_base::name::NamedType;
+use std::alloc::{AllocError, Global};
+
+/// A type reference (`Type`, section 2.11): the type of a field, an argument or a variable. Two types are equal
+/// exactly if they differ in locations at most.
 #[derive(PartialEq, Eq, Hash, Debug, Drop)]
 pub enum Type {
     /// `Name`: its values, and null.
@@ -102,8 +101,8 @@ impl Type {
         !self.is_list()
     }
 
-    /// Whether a value of this type may stand where one of the target type is wanted (`AreTypesCompatible`, section 5.8.5): both
-    /// have the same name in as many lists, and where the target is non-null, so is this type.
+    /// Whether a value of this type may stand where one of the target type is wanted (`AreTypesCompatible`, section
+    /// 5.8.5): both have the same name in as many lists, and where the target is non-null, so is this type.
     pub fn is_assignable_to(&self, target: &Type) -> bool
         ensures { IsTrue result ↔ IsAssignable (type_tree self.now) (type_tree target.now) }
     {
@@ -141,26 +140,6 @@ impl Clone for Type {
                 (**item).clone()?,
             )?)),
         }
-    }
-}
-
-impl fmt::Display for Type {
-    ghost use Rattle.std.specs.Prelude.{Some, None, encode_utf8_all};
-    ghost use Rattle.graphql_text.specs.Reading.{layout_of};
-    ghost use Rattle.graphql_values.specs.TypeReferences.{type_shape};
-    ghost use Rattle.graphql_values.specs.TypeTrees.{type_tree};
-
-    ghost output = { λ ty. Some (encode_utf8_all (layout_of (λ broken is_front. type_shape) None 0 (type_tree ty))) };
-
-    fn fmt<W: fmt::Write>(&self, f: &mut fmt::Formatter<W>) -> fmt::Result {
-        let mut out = ToFormatter {
-            formatter: f,
-            failed: false,
-        };
-        if write_type_alone(&mut out, self).is_err() {
-            return Err(fmt::Error);
-        }
-        if out.failed { Err(fmt::Error) } else { Ok(()) }
     }
 }
 

@@ -4,6 +4,8 @@ ghost use Rattle.std.specs.Fmt.{signed_decimal};
 ghost use Rattle.std.specs.Int.{w32};
 ghost use Rattle.graphql_values.specs.Literals.{int_number, int_text};
 
+pub(crate) mod print;
+
 use crate::literal::{FloatValue, IntValue};
 use graphql_base::name::Name;
 use graphql_base::node::Node;
@@ -32,7 +34,7 @@ pub enum Value {
 }
 
 impl Value {
-    ghost use Rattle.graphql_values.specs.ValueParts.{boolean_of, enum_of, int_of, is_null, list_items_of, object_fields_of, string_of, variable_of};
+    ghost use Rattle.graphql_values.specs.ValueQueries.{boolean_of, enum_of, int_of, is_null, list_items_of, object_fields_of, string_of, variable_of};
 
     /// The number as an integer. `AllocError` where memory is refused.
     pub fn from_i32(alloc: Global, number: i32) -> Result<Value, AllocError>
@@ -88,7 +90,8 @@ impl Value {
 
     /// The number of an integer that is within `i32`.
     pub fn to_i32(&self) -> Option<i32>
-        ensures { MatchOption (int_of self.now) (IsNone result) (λ int. SomeIff result (FitsSigned w32 (int_number int)) (int_number int)) }
+        ensures { MatchOption (int_of self.now) (IsNone result)
+            (λ int. SomeIff result (FitsSigned w32 (int_number int)) (int_number int)) }
     {
         match self {
             Value::Int(int) => int.try_to_i32().ok(),
@@ -149,7 +152,7 @@ impl Clone for Value {
 
 impl From<()> for Value {
     ghost use Rattle.std.specs.Prelude.{IsTrue};
-    ghost use Rattle.graphql_values.specs.ValueParts.{is_null};
+    ghost use Rattle.graphql_values.specs.ValueQueries.{is_null};
 
     ghost from_gives = { λ _ value. IsTrue (is_null value) };
 
@@ -160,7 +163,7 @@ impl From<()> for Value {
 
 impl From<bool> for Value {
     ghost use Rattle.std.specs.Prelude.{◌≡◌, Some};
-    ghost use Rattle.graphql_values.specs.ValueParts.{boolean_of};
+    ghost use Rattle.graphql_values.specs.ValueQueries.{boolean_of};
 
     ghost from_gives = { λ boolean value. boolean_of value ≡ Some boolean };
 
@@ -171,7 +174,7 @@ impl From<bool> for Value {
 
 impl From<String> for Value {
     ghost use Rattle.std.specs.Prelude.{◌≡◌, Some, string_bytes};
-    ghost use Rattle.graphql_values.specs.ValueParts.{string_of};
+    ghost use Rattle.graphql_values.specs.ValueQueries.{string_of};
 
     ghost from_gives = { λ text value. string_of value ≡ Some (string_bytes text) };
 

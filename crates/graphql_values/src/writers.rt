@@ -1,13 +1,27 @@
-//! What larger kinds are written with.
+//! What the kinds of the crates above are written with, checked by, and made ready for.
 
-pub use crate::definition_writer::{
-    DefinitionStacks, find_arguments_definition_nesting, find_arguments_list_depth,
-    find_input_value_definition_nesting, write_arguments_definition, write_default_value,
-    write_directive_definition, write_input_value_definition, write_leading_description,
+pub use crate::argument::print::{
+    are_arguments_well_formed, find_arguments_nesting, write_arguments,
 };
-pub use crate::directive_writer::{
-    find_arguments_nesting, find_directives_nesting, write_arguments, write_directive,
-    write_directives,
+pub use crate::arguments_definition::{
+    find_arguments_definition_nesting, find_arguments_list_depth,
+    is_arguments_definition_well_formed, write_arguments_definition,
 };
-pub use crate::type_writer::{TypePart, find_list_depth, type_allocator, write_type};
-pub use crate::value_writer::{ValuePart, find_value_nesting, write_value};
+pub use crate::constness::Constness;
+pub use crate::default_value::{
+    find_default_value_nesting, is_default_value_well_formed, write_default_value,
+};
+pub use crate::directive::print::write_directive;
+pub use crate::directive_definition::print::write_directive_definition;
+pub use crate::directive_list::print::{
+    are_directives_well_formed, find_directives_nesting, write_directives,
+};
+pub use crate::input_value_definition::print::{
+    find_input_value_definition_nesting, is_input_value_definition_well_formed,
+    write_input_value_definition,
+};
+pub use crate::stacks::Stacks;
+pub use crate::types::print::{TypeEntry, find_list_depth, type_allocator, write_type};
+pub use crate::value::print::{
+    ValueEntry, find_value_nesting, is_enum_name, is_value_well_formed, write_value,
+};

@@ -2,8 +2,11 @@
 use graphql_base::name;
 use graphql_base::name::Name;
 use graphql_base::node::Node;
-use graphql_values::definition::{DirectiveDefinition, InputValueDefinition};
-use graphql_values::directive::{Argument, Directive, DirectiveList};
+use graphql_values::argument::Argument;
+use graphql_values::directive::Directive;
+use graphql_values::directive_definition::DirectiveDefinition;
+use graphql_values::directive_list::DirectiveList;
+use graphql_values::input_value_definition::InputValueDefinition;
 use graphql_values::literal::FloatValue;
 use graphql_values::ty;
 use graphql_values::types::Type;

@@ -1,19 +1,15 @@
 //! Values, types, arguments, directives and definitions.
-mod arguments;
+mod argument_by_name;
 mod clones;
-mod definition;
 mod directive;
-mod directive_definition_syntax;
+mod directive_definition;
 mod directive_list;
-mod directive_syntax;
+mod directive_location;
 mod displays;
 mod growths;
-mod input_value_definition_syntax;
 mod literal;
-mod location;
 mod operation_type;
+mod prints;
 mod refusals;
-mod type_writer;
 mod types;
 mod value;
-mod value_syntax;

@@ -1,5 +1,5 @@
 //! What takes pieces of text.
-use graphql_text::target::Target;
+use graphql_text::writers::Target;
 use std::alloc::Global;
 
 /// A text, and whether a piece of it was empty, or had no memory.

@@ -2,7 +2,7 @@
 //! `rt try --test --fail-alloc N` refuses the Nth growth of each test.
 
 use graphql_text::sink::{TextSink, VecSink};
-use graphql_text::stack::Stack;
+use graphql_text::writers::Stack;
 
 #[test]
 fn a_vector_takes_all_or_counts_a_fault(rt: HostRuntime) {

@@ -1,6 +1,6 @@
 //! A worked stack.
 
-use graphql_text::stack::Stack;
+use graphql_text::writers::Stack;
 
 #[test]
 fn last_in_first_out(rt: HostRuntime) {
@@ -26,4 +26,11 @@ fn cleared(rt: HostRuntime) {
 fn no_room_takes_no_memory(rt: HostRuntime) {
     let mut stack: Stack<char> = Stack::reserve(None, 0).expect(&rt, "memory");
     assert_eq!(rt; stack.pop(), None);
+}
+
+#[test]
+fn many_parts_have_room(rt: HostRuntime) {
+    let mut stack = Stack::reserve(Some(rt.alloc()), 5_000).expect(&rt, "memory");
+    stack.push('a');
+    assert_eq!(rt; stack.pop(), Some('a'));
 }

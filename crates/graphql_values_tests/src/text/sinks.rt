@@ -3,10 +3,11 @@
 ghost use Rattle.std.specs.Prelude.{◌≡◌, Some};
 
 use crate::samples::numbers;
+use graphql_text::engine::PrintError;
 use graphql_text::sink::{SinkFault, StreamSink, TextSink, VecSink};
 use graphql_values::value::Value;
 use std::alloc::Global;
-use std::io::{self, ErrorKind, Write};
+use std::io::{self, Cursor, ErrorKind, Write};
 use std::process::Abort;
 
 const TEXT: &[u8] = b"[1, 2]";
@@ -186,4 +187,16 @@ fn awkward_writers(rt: HostRuntime) {
         assert_eq!(rt; writer.writes, writes);
         check_taken(&rt, is_whole, faults, writer.bytes.as_slice(), taken);
     }
+}
+
+/// However many pieces are left.
+#[test]
+fn a_print_stops_at_a_fault(rt: HostRuntime) {
+    let mut sink = StreamSink::new(Cursor::new([0; 3]));
+    let printed = Value::Null
+        .serialize()
+        .initial_indent_level(usize::MAX)
+        .print_to(&mut sink);
+    assert_eq!(rt; (printed, sink.faults()), (Err(PrintError::Sink), 1));
+    assert_eq!(rt; sink.into_inner().into_inner(), *b"   ");
 }

@@ -1,6 +1,6 @@
 //! Clones where memory is ample.
-use crate::checks::check_cloned;
-use crate::samples::{FORMS, value_of};
+use crate::checks::{check_cloned, check_made};
+use crate::samples::{FORMS, nested, value_of};
 use graphql_values::literal::{FloatValue, IntValue};
 use graphql_values::ty;
 use graphql_values::types::Type;
@@ -35,4 +35,13 @@ fn of_literals(rt: HostRuntime) {
     check_cloned(&rt, &int);
     let float = FloatValue::new_parsed(rt.alloc(), "1.50").expect(&rt, "memory");
     check_cloned(&rt, &float);
+}
+
+#[test]
+fn of_prints(rt: HostRuntime) {
+    let value = nested(rt.alloc()).expect(&rt, "memory");
+    let print = value.serialize().indent_prefix("-").initial_indent_level(1);
+    let copy = print.clone().expect(&rt, "memory");
+    check_made(&rt, copy.to_text(rt.alloc()), "-[\n--[],\n--1.5,\n-]");
+    check_made(&rt, print.to_text(rt.alloc()), "-[\n--[],\n--1.5,\n-]");
 }

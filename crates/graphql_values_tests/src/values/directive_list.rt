@@ -3,7 +3,8 @@ use crate::samples::{self, with_argument};
 use graphql_base::name;
 use graphql_base::name::Name;
 use graphql_base::node::Node;
-use graphql_values::directive::{Directive, DirectiveList};
+use graphql_values::directive::Directive;
+use graphql_values::directive_list::DirectiveList;
 use std::alloc::{AllocError, Global};
 
 fn node(alloc: Global, name: Name, number: i32) -> Result<Node<Directive>, AllocError> {
@@ -69,22 +70,18 @@ fn positions(rt: HostRuntime) {
     assert_eq!(rt; list.next_position("c", 0), None);
 }
 
+/// None is handed back where memory is ample.
 #[test]
 fn pushes(rt: HostRuntime) {
-    let alloc = rt.alloc();
-    let mut list = DirectiveList::new(alloc);
+    let mut list = DirectiveList::new(rt.alloc());
     assert!(rt; list.is_empty());
-    assert!(rt;
-        list.push(node(alloc, name!(a), 1).expect(&rt, "memory"))
-            .is_ok()
-    );
-    assert!(rt;
-        list.push(node(alloc, name!(a), 2).expect(&rt, "memory"))
-            .is_ok()
-    );
-    assert_eq!(rt; list.len(), 2);
+    for count in 1..101 {
+        let node = node(rt.alloc(), name!(a), count).expect(&rt, "memory");
+        assert!(rt; list.push(node).is_ok(), "{count}");
+    }
+    assert_eq!(rt; list.len(), 100);
     assert_eq!(rt; list.get("a").and_then(number), Some(1));
-    assert_eq!(rt; list.last().and_then(number), Some(2));
+    assert_eq!(rt; list.last().and_then(number), Some(100));
 }
 
 #[test]

@@ -1,23 +1,21 @@
-//! Prints into formatters that are padded, that take little, or where the level does not fit.
+//! Prints into formatters that are padded, or take little.
 use crate::checks::{Page, check_made};
 use crate::samples::one;
+use graphql_values::value::Value;
 use std::fmt::{self, Write};
 
 #[test]
-fn padding_does_not_reach_a_list(rt: HostRuntime) {
+fn width_and_precision_do_not_reach_a_list(rt: HostRuntime) {
     let value = one(rt.alloc()).expect(&rt, "memory");
-    check_made(&rt, format!(in rt.alloc(); "{value:>9}"), "[\n  1,\n]");
+    check_made(&rt, format!(in rt.alloc(); "{value:>9.1}"), "[\n  1,\n]");
     let print = value.serialize();
-    check_made(&rt, format!(in rt.alloc(); "{print:>9}"), "[\n  1,\n]");
+    check_made(&rt, format!(in rt.alloc(); "{print:>9.1}"), "[\n  1,\n]");
 }
 
 #[test]
-fn a_level_that_overflows_displays_nothing(rt: HostRuntime) {
-    let value = one(rt.alloc()).expect(&rt, "memory");
-    let print = value.serialize().initial_indent_level(usize::MAX);
-    let mut text = String::new(rt.alloc());
-    assert!(rt; write!(text, "{print}").is_err());
-    assert!(rt; text.is_empty());
+fn width_and_precision_do_not_reach_a_number(rt: HostRuntime) {
+    let value = Value::from_i32(rt.alloc(), 47).expect(&rt, "memory");
+    check_made(&rt, format!(in rt.alloc(); "{value:>9.1}"), "47");
 }
 
 #[test]

@@ -2,8 +2,7 @@
 //! calls. Each fails where any of its growths is refused, and `tools/growths.sh` compares how many those are.
 use crate::checks::check_printed;
 use crate::samples::{directive, input, items};
-use graphql_values::arguments::SpecifiedArgumentError;
-use graphql_values::directive::Directive;
+use graphql_values::directive::{Directive, SpecifiedArgumentError};
 use std::alloc::{AllocError, Global};
 use std::process::Abort;
 

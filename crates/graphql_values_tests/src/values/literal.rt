@@ -97,6 +97,19 @@ fn numbers_of_texts(rt: HostRuntime) {
 }
 
 #[test]
+fn numbers_out_of_range(rt: HostRuntime) {
+    for (text, wanted) in [
+        ("2147483648", "number too large to fit in target type"),
+        ("-2147483649", "number too small to fit in target type"),
+    ] {
+        assert!(rt; IntValue::valid_syntax(text));
+        let int = IntValue::new_parsed(rt.alloc(), text).expect(&rt, "memory");
+        let error = int.try_to_i32().err().expect(&rt, "out of range");
+        check_made(&rt, format!(in rt.alloc(); "{error}"), wanted);
+    }
+}
+
+#[test]
 fn texts_of_numbers(rt: HostRuntime) {
     for (number, wanted) in [
         (0, "0"),

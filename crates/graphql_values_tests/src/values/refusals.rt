@@ -7,8 +7,9 @@ mod prints;
 use crate::samples::{directive, directives};
 use graphql_base::name;
 use graphql_base::node::Node;
-use graphql_values::arguments::SpecifiedArgumentError;
-use graphql_values::directive::{Argument, Directive, DirectiveList};
+use graphql_values::argument::Argument;
+use graphql_values::directive::{Directive, SpecifiedArgumentError};
+use graphql_values::directive_list::DirectiveList;
 use graphql_values::value::Value;
 
 #[test]

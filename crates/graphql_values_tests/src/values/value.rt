@@ -3,7 +3,6 @@ use graphql_base::name;
 use graphql_base::node::Node;
 use graphql_base::span::{FileId, SourceSpan};
 use graphql_values::value::Value;
-use graphql_values::well_formed::{Constness, is_well_formed_at};
 use std::alloc::{AllocError, Global};
 
 /// 1 at a place.
@@ -88,20 +87,5 @@ fn clones_keep_locations(rt: HostRuntime) {
     assert_eq!(rt;
         first.and_then(|node| node.location()),
         SourceSpan::new(FileId::new(7), 3, 4)
-    );
-}
-
-#[test]
-fn well_formed(rt: HostRuntime) {
-    let alloc = rt.alloc();
-    let list = list(alloc, 1).expect(&rt, "memory");
-    assert!(rt; is_well_formed_at(&list, Constness::NonConst));
-    assert!(rt;
-        !is_well_formed_at(&list, Constness::Const),
-        "a variable in a list"
-    );
-    assert!(rt;
-        !object(alloc, 1).expect(&rt, "memory").is_well_formed(),
-        "the enum value null in an object"
     );
 }

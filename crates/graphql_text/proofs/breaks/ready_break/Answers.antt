@@ -1,9 +1,9 @@
-use Rattle.std.proofs.Common.{◌≡◌, [], ◌∷◌, ap, sym, ◌∙◌}
+use Rattle.std.proofs.Common.{◌≡◌, ap, codes, sym, ◌∙◌}
 use Rattle.graphql_text.specs.Layout.{break_text}
 use Rattle.graphql_text.proofs.Utf8.{break_in_chars}
 use Rattle.graphql_text.proofs.breaks.ready_break.Goals as goal
 
-pub returns-then-level-le30 : goal.returns-then-level-le30
-returns-then-level-le30 c =
-    let spaces : c.args.prefix.now ≡ 32 ∷ 32 ∷ [] = c.is_two_spaces.ensures.0 c.if-is_two_spaces.true in
+pub returns-then-level-le-READY_LEVELS : goal.returns-then-level-le-READY_LEVELS
+returns-then-level-le-READY_LEVELS c =
+    let spaces : c.args.prefix.now ≡ codes "  " = c.is_two_spaces.ensures.0 c.if-is_two_spaces.true in
     c.two_space_break.ensures ∙ ap (λ prefix. break_text prefix c.args.level) (sym spaces) ∙ break_in_chars c.args.level c.args.prefix.now c.utf8.prefix

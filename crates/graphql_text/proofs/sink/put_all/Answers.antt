@@ -1,6 +1,6 @@
 use Rattle.std.proofs.Common.{◌≡◌, ◌-◌, ◌∙◌, ap, sym, List, ℕ, take, drop, length, ◌++◌, append_assoc, arith, length-drop}
 use Rattle.std.proofs.lemmas.List.{take_all, take-append-drop}
-use Rattle.graphql_text.specs.laws.Sinks.{took_more}
+use Rattle.graphql_text.specs.lemmas.Sinks.{took_more}
 use Rattle.graphql_text.proofs.sink.put_all.Goals as goal
 
 -- taking n more of the rest moves the seam

@@ -1,6 +1,6 @@
 use Rattle.std.proofs.Common.{rules}
 use Rattle.graphql_text.specs.Sinks.{SinkFaulted}
-use Rattle.graphql_text.specs.laws.Sinks.{faulted_before}
+use Rattle.graphql_text.specs.lemmas.Sinks.{faulted_before}
 use Rattle.graphql_text.proofs.target.send.Goals as goal
 
 pub returns-then-is_err : goal.returns-then-is_err

@@ -4,4 +4,4 @@ use Rattle.graphql_text.proofs.WritingLaws.{writes_item}
 use Rattle.graphql_text.proofs.writers.write_int.Goals as goal
 
 pub returns : goal.returns
-returns g c = λ mode level. writes_item refl (rw (int_bytes (record { text = c.args.text.now; valid = c.requires })) c.text.ensures)
+returns g c = λ mode level. writes_item refl (rw (int_bytes (record { text = c.args.int.now; valid = c.requires })) c.text.ensures)

@@ -4,14 +4,18 @@ use Rattle.graphql_values.specs.DefinitionTrees.{directive_definition_tree, inpu
 use Rattle.graphql_values.specs.DirectiveTrees.{directive_tree, directive_trees}
 use Rattle.graphql_values.specs.TypeTrees.{type_tree}
 use Rattle.graphql_values.specs.ValueTrees.{value_tree}
-use Rattle.graphql_values.specs.laws.KindLaws.{value_laws, type_laws, directive_laws, directives_laws, input_value_definition_laws, directive_definition_laws}
+use Rattle.graphql_values.specs.lemmas.Values.{value_laws}
+use Rattle.graphql_values.specs.lemmas.Types.{type_laws}
+use Rattle.graphql_values.specs.lemmas.Directives.{directive_laws, directives_laws}
+use Rattle.graphql_values.specs.lemmas.InputValueDefinitions.{input_value_definition_laws}
+use Rattle.graphql_values.specs.lemmas.DirectiveDefinitions.{directive_definition_laws}
 use Rattle.graphql_values.proofs.laws.displayed_trees_are_read.Goals as goal
 
 pub returns-clause-values : goal.returns-clause-values
 returns-clause-values c = λ obeyed. reads_alone value_laws (Some (codes "  ")) 0 (value_tree c.args.value.now) obeyed refl
 
 pub returns-clause-types : goal.returns-clause-types
-returns-clause-types c = reads_alone type_laws None 0 (type_tree c.args.ty.now) tt tt
+returns-clause-types c = λ obeyed. reads_alone type_laws None 0 (type_tree c.args.ty.now) refl tt
 
 pub returns-clause-directives : goal.returns-clause-directives
 returns-clause-directives c = λ obeyed. reads_alone directive_laws (Some (codes "  ")) 0 (directive_tree c.args.directive.now) obeyed refl

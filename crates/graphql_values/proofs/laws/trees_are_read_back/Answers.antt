@@ -1,4 +1,8 @@
-use Rattle.graphql_values.specs.laws.KindLaws.{value_laws, type_laws, argument_laws, directive_laws, directives_laws, input_value_definition_laws, directive_definition_laws}
+use Rattle.graphql_values.specs.lemmas.Values.{value_laws}
+use Rattle.graphql_values.specs.lemmas.Types.{type_laws}
+use Rattle.graphql_values.specs.lemmas.Directives.{argument_laws, directive_laws, directives_laws}
+use Rattle.graphql_values.specs.lemmas.InputValueDefinitions.{input_value_definition_laws}
+use Rattle.graphql_values.specs.lemmas.DirectiveDefinitions.{directive_definition_laws}
 use Rattle.graphql_values.proofs.laws.trees_are_read_back.Goals as goal
 
 pub returns-clause-values : goal.returns-clause-values

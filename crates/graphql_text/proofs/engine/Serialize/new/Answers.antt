@@ -2,6 +2,6 @@ use Rattle.std.proofs.Common.{refl}
 use Rattle.std.specs.Str.{chars}
 use Rattle.graphql_text.proofs.engine.Serialize.new.Goals as goal
 
-pub returns-clause-mode : goal.returns-clause-mode
+pub returns : goal.returns
 unfolding chars
-returns-clause-mode g c = refl
+returns g c = record { tree = refl; mode = refl; level = refl }

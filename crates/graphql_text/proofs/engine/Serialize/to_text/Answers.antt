@@ -11,5 +11,5 @@ if_ok_then P Q then (Err error) holds = holds
 pub returns-clause-read : goal.returns-clause-read
 returns-clause-read g c =
     let self = c.args.self.now in
-    let printed : IfOk c.ok_or.result (λ text. string_bytes text ≡ print_bytes g.T.Syntax.shape g.T.Syntax.tree self) = search rules in
-    if_ok_then _ _ (λ text is obeyed blank. subst (λ bytes. ReadsAlone g.T.Syntax.derives bytes (g.T.Syntax.tree (print_tree self))) (sym is) (reads_alone g.T.Syntax.laws _ _ _ obeyed blank)) c.ok_or.result printed
+    let printed : IfOk c.ok_or.result (λ text. string_bytes text ≡ print_bytes g.T.Syntax.kind g.T.Syntax.tree self) = search rules in
+    if_ok_then _ _ (λ text is obeyed blank. subst (λ bytes. ReadsAlone g.T.Syntax.kind bytes (g.T.Syntax.tree (print_tree self))) (sym is) (reads_alone g.T.Syntax.laws _ _ _ obeyed blank)) c.ok_or.result printed

@@ -1,7 +1,6 @@
 use Rattle.std.proofs.Common.{Some, sym, ap, ◌∙◌}
 use Rattle.std.specs.Option.{option_copied, option_map}
-use Rattle.graphql_values.specs.ArgumentLoans.{argument_value}
-use Rattle.graphql_values.specs.Named.{is_argument_named}
+use Rattle.graphql_values.specs.Queries.{argument_value, is_argument_named}
 use Rattle.graphql_values.proofs.FirstPlaces.{found_at_position, not_found}
 use Rattle.graphql_values.proofs.directive.Directive.specified_argument_by_name.Goals as goal
 

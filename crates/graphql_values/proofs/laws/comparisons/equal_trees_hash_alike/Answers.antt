@@ -2,13 +2,13 @@ use Rattle.graphql_values.specs.contracts.literal.IntValueHash.TheImpl.Laws as i
 use Rattle.graphql_values.specs.contracts.literal.FloatValueHash.TheImpl.Laws as float
 use Rattle.graphql_values.specs.contracts.value.ValueHash.TheImpl.Laws as value
 use Rattle.graphql_values.specs.contracts.types.TypeHash.TheImpl.Laws as type_reference
-use Rattle.graphql_values.specs.contracts.directive.ArgumentHash.TheImpl.Laws as argument
+use Rattle.graphql_values.specs.contracts.argument.ArgumentHash.TheImpl.Laws as argument
 use Rattle.graphql_values.specs.contracts.directive.DirectiveHash.TheImpl.Laws as directive
-use Rattle.graphql_values.specs.contracts.directive.DirectiveListHash.TheImpl.Laws as directive_list
-use Rattle.graphql_values.specs.contracts.definition.InputValueDefinitionHash.TheImpl.Laws as input_value_definition
-use Rattle.graphql_values.specs.contracts.definition.DirectiveDefinitionHash.TheImpl.Laws as directive_definition
+use Rattle.graphql_values.specs.contracts.directive_list.DirectiveListHash.TheImpl.Laws as directive_list
+use Rattle.graphql_values.specs.contracts.input_value_definition.InputValueDefinitionHash.TheImpl.Laws as input_value_definition
+use Rattle.graphql_values.specs.contracts.directive_definition.DirectiveDefinitionHash.TheImpl.Laws as directive_definition
 use Rattle.graphql_values.specs.contracts.operation_type.OperationTypeHash.TheImpl.Laws as operation_type
-use Rattle.graphql_values.specs.contracts.location.DirectiveLocationHash.TheImpl.Laws as location
+use Rattle.graphql_values.specs.contracts.directive_location.DirectiveLocationHash.TheImpl.Laws as location
 use Rattle.graphql_values.proofs.laws.comparisons.equal_trees_hash_alike.Goals as goal
 
 pub returns-clause-ints : goal.returns-clause-ints

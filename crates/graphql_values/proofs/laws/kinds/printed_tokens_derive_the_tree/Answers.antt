@@ -1,32 +1,46 @@
-use Rattle.graphql_text.proofs.Telling.{told_flat, told_derives}
-use Rattle.graphql_values.specs.Values.{value_form}
-use Rattle.graphql_values.specs.TypeReferences.{type_form}
-use Rattle.graphql_values.specs.Arguments.{argument_form}
-use Rattle.graphql_values.specs.Directives.{directive_form, directives_form}
-use Rattle.graphql_values.specs.InputValueDefinitions.{input_value_definition_form}
-use Rattle.graphql_values.specs.DirectiveDefinitions.{directive_definition_form}
-use Rattle.graphql_values.specs.laws.ReadBack.{value_written, type_written, argument_written, directive_written, directives_written, input_value_definition_written, directive_definition_written}
-use Rattle.graphql_values.specs.laws.Told.{told_value, told_reference, told_argument, told_directive, told_directives, told_input_value_definition, told_directive_definition}
+use Rattle.std.proofs.Common.{refl, false}
+use Rattle.graphql_text.proofs.KindParts.{description_part}
+use Rattle.graphql_text.proofs.Parts.{part_always_derives}
+use Rattle.graphql_values.specs.lemmas.DirectiveDefinitions.{directive_definition_part}
+use Rattle.graphql_values.specs.lemmas.Directives.{argument_part, arguments_part, directive_part, directives_part}
+use Rattle.graphql_values.specs.lemmas.InputValueDefinitions.{arguments_definition_part, default_value_part, input_value_definition_part}
+use Rattle.graphql_values.specs.lemmas.OperationTypes.{operation_type_part}
+use Rattle.graphql_values.specs.lemmas.Types.{type_part}
+use Rattle.graphql_values.specs.lemmas.Values.{value_part}
 use Rattle.graphql_values.proofs.laws.kinds.printed_tokens_derive_the_tree.Goals as goal
 
 pub returns-clause-values : goal.returns-clause-values
-returns-clause-values c = λ k broken value obeys rest. told_derives (value_form k value) rest (told_value broken value) (value_written k value obeys rest)
+returns-clause-values c = λ k. part_always_derives (value_part k)
 
 pub returns-clause-types : goal.returns-clause-types
-returns-clause-types c = λ type rest. told_derives (type_form type) rest (told_reference 0 type) (type_written type rest)
+returns-clause-types c = λ type rest. part_always_derives type_part false type refl rest
 
 pub returns-clause-arguments : goal.returns-clause-arguments
-returns-clause-arguments c = λ k argument obeys rest. told_derives (argument_form k argument) rest (told_flat (told_argument argument)) (argument_written k argument obeys rest)
+returns-clause-arguments c = λ k. part_always_derives (argument_part k)
+
+pub returns-clause-argument_lists : goal.returns-clause-argument_lists
+returns-clause-argument_lists c = λ k. part_always_derives (arguments_part k)
 
 pub returns-clause-directives : goal.returns-clause-directives
-returns-clause-directives c = λ k directive obeys rest. told_derives (directive_form k directive) rest (told_directive directive) (directive_written k directive obeys rest)
+returns-clause-directives c = λ k. part_always_derives (directive_part k)
 
 pub returns-clause-directive_lists : goal.returns-clause-directive_lists
-returns-clause-directive_lists c = λ k directives obeys rest. told_derives (directives_form k directives) rest (told_directives directives) (directives_written k directives obeys rest)
+returns-clause-directive_lists c = λ k. part_always_derives (directives_part k)
+
+pub returns-clause-descriptions : goal.returns-clause-descriptions
+returns-clause-descriptions c = part_always_derives description_part
+
+pub returns-clause-default_values : goal.returns-clause-default_values
+returns-clause-default_values c = part_always_derives default_value_part
 
 pub returns-clause-input_value_definitions : goal.returns-clause-input_value_definitions
-returns-clause-input_value_definitions c = λ broken input obeys rest. told_derives (input_value_definition_form input) rest (told_input_value_definition broken input) (input_value_definition_written input obeys rest)
+returns-clause-input_value_definitions c = part_always_derives input_value_definition_part
+
+pub returns-clause-arguments_definitions : goal.returns-clause-arguments_definitions
+returns-clause-arguments_definitions c = part_always_derives arguments_definition_part
+
+pub returns-clause-operation_types : goal.returns-clause-operation_types
+returns-clause-operation_types c = part_always_derives operation_type_part
 
 pub returns-clause-directive_definitions : goal.returns-clause-directive_definitions
-returns-clause-directive_definitions c = λ broken definition obeys rest.
-    told_derives (directive_definition_form definition) rest (told_directive_definition broken definition) (directive_definition_written definition obeys rest)
+returns-clause-directive_definitions c = part_always_derives directive_definition_part

@@ -1,0 +1,95 @@
+//! Worked words, of an environment in memory.
+use super::words;
+use std::alloc::Global;
+use std::env::{Env, FillError};
+use std::process::Abort;
+use std::test::Fail;
+
+/// An environment of these arguments, the first of which is the program's name.
+#[derive(Drop)]
+struct Arguments<'a> {
+    all: &'a [&'a [u8]],
+}
+
+impl Env for Arguments<'_> {
+    fn arg(&self, place: usize, buffer: &mut [u8]) -> Result<usize, FillError> {
+        let Some(bytes) = self.all.get(place) else {
+            return Err(FillError::NotPresent);
+        };
+        let Some(filled) = buffer.get_mut(..bytes.len()) else {
+            return Err(FillError::TooLong);
+        };
+        filled.copy_from_slice(bytes);
+        Ok(bytes.len())
+    }
+
+    fn var(&self, _name: &str, _buffer: &mut [u8]) -> Result<usize, FillError> {
+        Err(FillError::NotPresent)
+    }
+
+    fn var_at(&self, _place: usize, _buffer: &mut [u8]) -> Result<usize, FillError> {
+        Err(FillError::NotPresent)
+    }
+}
+
+/// Asserts which words are read of a program's name and these arguments.
+fn check_words(rt: &impl Abort, alloc: Global, all: &[&[u8]], wanted: &[&str]) -> Result<(), Fail> {
+    let found = words(&Arguments { all }, alloc)?;
+    assert_eq!(rt; found.len(), wanted.len());
+    for (word, text) in found.iter().zip(wanted) {
+        assert_eq!(rt; word.as_str(), *text);
+    }
+    Ok(())
+}
+
+const NAME: &[u8] = b"ast_vectors";
+
+/// Bytes that are no text: a byte that stands nowhere in UTF-8.
+const NO_TEXT: &[u8] = &[b'1', 0xFF];
+
+#[test]
+fn words_are_read_in_their_order(rt: HostRuntime) -> Result<(), Fail> {
+    check_words(&rt, rt.alloc(), &[], &[])?;
+    check_words(&rt, rt.alloc(), &[NAME], &[])?;
+    check_words(&rt, rt.alloc(), &[NAME, b"1"], &["1"])?;
+    check_words(
+        &rt,
+        rt.alloc(),
+        &[NAME, b"", b"14", b"\xC3\xA9"],
+        &["", "14", "é"],
+    )
+}
+
+#[test]
+fn what_is_no_text_is_an_empty_word(rt: HostRuntime) -> Result<(), Fail> {
+    check_words(&rt, rt.alloc(), &[NAME, NO_TEXT], &[""])?;
+    check_words(
+        &rt,
+        rt.alloc(),
+        &[NAME, b"1", NO_TEXT, b"2"],
+        &["1", "", "2"],
+    )
+}
+
+#[test]
+fn a_long_word_is_an_empty_one(rt: HostRuntime) -> Result<(), Fail> {
+    let longest = [b'1'; 64];
+    let longer = [b'1'; 65];
+    let text = "1".repeat(rt.alloc(), 64)?;
+    check_words(&rt, rt.alloc(), &[NAME, &longest], &[text.as_str()])?;
+    check_words(
+        &rt,
+        rt.alloc(),
+        &[NAME, b"1", &longer, b"2"],
+        &["1", "", "2"],
+    )
+}
+
+/// Where memory is refused no words are answered; else all are. `rt try --test --fail-alloc N` refuses the Nth growth.
+#[test]
+fn refused_memory_gives_no_words(rt: HostRuntime) {
+    let all: [&[u8]; 3] = [NAME, b"1", b"14"];
+    if let Ok(found) = words(&Arguments { all: &all }, rt.alloc()) {
+        assert_eq!(rt; found.len(), 2);
+    }
+}

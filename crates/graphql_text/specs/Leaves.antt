@@ -1,0 +1,17 @@
+-- The leaves of trees that names and descriptions of the code stand for.
+use Rattle.std.specs.Prelude.{chars}
+use Rattle.std.proofs.lemmas.Str.{IsUtf8-had, scalars-chars}
+use Rattle.graphql_base.specs.declared.name.Name.{Name}
+use Rattle.graphql_base.specs.declared.node_str.NodeStr.{NodeStr}
+use Rattle.graphql_base.specs.Name.{name_text}
+use Rattle.graphql_base.specs.Node.{node_str_text}
+use Rattle.graphql_text.specs.Literals.{NameText, StringText}
+
+abbrev pub name_tree : Name → NameText
+name_tree name = record { text = name_text name; valid = name.valid }
+
+-- the characters of a description
+abbrev pub description_tree : NodeStr → StringText
+description_tree description =
+    let bytes = node_str_text description in
+    record { text = chars bytes; valid = scalars-chars bytes (IsUtf8-had bytes description.valid) }

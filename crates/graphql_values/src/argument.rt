@@ -1,0 +1,34 @@
+//! Arguments of fields and directives.
+ghost use Rattle.std.specs.Prelude.{◌≡◌, IfOk, None};
+ghost use Rattle.graphql_base.specs.Node.{node_at};
+
+pub(crate) mod print;
+
+use crate::value::Value;
+use graphql_base::name::Name;
+use graphql_base::node::Node;
+use std::alloc::{AllocError, Global};
+
+/// An argument of a field or a directive (`Argument`, section 2.6). Two are equal exactly if they differ in locations
+/// at most.
+#[derive(Clone, PartialEq, Eq, Hash, Debug, Drop)]
+pub struct Argument {
+    /// The name that stands before `:`.
+    pub name: Name,
+    /// The value that stands after it.
+    pub value: Node<Value>,
+}
+
+impl Argument {
+    /// A node of the argument, with no location. `AllocError` where memory is refused; the name and the value are
+    /// given up then.
+    pub fn new_node(
+        alloc: Global,
+        name: Name,
+        value: Node<Value>,
+    ) -> Result<Node<Argument>, AllocError>
+        ensures { IfOk result (λ node. node ≡ node_at None (record { name = name; value = value })) }
+    {
+        Node::new(alloc, Argument { name, value })
+    }
+}

@@ -1,0 +1,85 @@
+//! Arguments are written: in parentheses, on one line in every layout.
+ghost use Rattle.std.specs.Prelude.{◌≡◌, None};
+ghost use Rattle.graphql_text.specs.Levels.{IsCount};
+ghost use Rattle.graphql_text.specs.Stack.{CanWrite, IsKept};
+ghost use Rattle.graphql_text.specs.Writing.{Writes, WritesItems};
+ghost use Rattle.graphql_values.specs.Arguments.{argument_items, arguments_nesting, arguments_obey, arguments_shape};
+ghost use Rattle.graphql_values.specs.DirectiveTrees.{argument_tree, argument_trees};
+ghost use Rattle.graphql_values.specs.ValueTrees.{constness_of};
+ghost use Rattle.graphql_values.specs.Values.{value_nesting};
+
+use crate::argument::Argument;
+use crate::constness::Constness;
+use crate::value::print::{ValueEntry, find_value_nesting, is_value_well_formed, write_value};
+use graphql_base::node::Node;
+use graphql_text::writers::{Place, Stack, Target, write_name, write_words};
+
+/// Whether each argument's value is well formed at the place.
+pub fn are_arguments_well_formed(arguments: &[Node<Argument>], constness: Constness) -> bool
+    ensures { result ≡ arguments_obey (constness_of constness) (argument_trees arguments.now) }
+{
+    for argument in arguments {
+        if !is_value_well_formed(&argument.value, constness) {
+            return false;
+        }
+    }
+    true
+}
+
+/// How deep the groups of arguments stand in one another: one more than the value that nests most, and 0 without
+/// arguments. `None` if it is above `usize::MAX`.
+pub fn find_arguments_nesting(arguments: &[Node<Argument>]) -> Option<usize>
+    ensures { IsCount result (arguments_nesting (argument_trees arguments.now)) }
+{
+    let mut most = 0;
+    for argument in arguments {
+        most = most.max(find_value_nesting(&argument.value)?.checked_add(1)?);
+    }
+    Some(most)
+}
+
+/// Writes an argument, at a place on one line.
+fn write_argument<'a, O: Target>(
+    out: &mut O,
+    place: &Place<'_>,
+    stack: &mut Stack<ValueEntry<'a>>,
+    argument: &'a Argument,
+)
+    requires flat { place.now.prefix ≡ None }
+    requires ready { CanWrite place.now stack.old (value_nesting (argument_tree argument.now).value) }
+    ensures kept { IsKept stack.old stack.new }
+    ensures written { WritesItems O.wrote out.old out.new None place.now.level
+        (argument_items (argument_tree argument.now)) }
+{
+    write_name(out, &argument.name);
+    write_words(out, ": ");
+    write_value(out, place, stack, &argument.value);
+}
+
+/// Writes the arguments of a field or a directive, which stand on one line in every layout; nothing where there are
+/// none. The stack is empty before and after, and has room for the entries of the values that wait.
+pub fn write_arguments<'a, O: Target>(
+    out: &mut O,
+    place: &Place<'_>,
+    stack: &mut Stack<ValueEntry<'a>>,
+    arguments: &'a [Node<Argument>],
+)
+    requires { CanWrite place.now stack.old (arguments_nesting (argument_trees arguments.now)) }
+    ensures kept { IsKept stack.old stack.new }
+    ensures written { Writes O.wrote out.old out.new place.now (arguments_shape (argument_trees arguments.now)) }
+{
+    let Some((first, rest)) = arguments.split_first() else {
+        return;
+    };
+    let inner = place.flat().inner();
+    write_words(out, "(");
+    write_argument(out, &inner, stack, first);
+    for argument in rest {
+        if out.is_stopped() {
+            return;
+        }
+        write_words(out, ", ");
+        write_argument(out, &inner, stack, argument);
+    }
+    write_words(out, ")");
+}

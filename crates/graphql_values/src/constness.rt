@@ -1,0 +1,24 @@
+//! Places that admit variables, and places that don't.
+ghost use Rattle.std.specs.Prelude.{◌≡◌};
+ghost use Rattle.graphql_values.specs.ValueTrees.{constness_of};
+ghost use Rattle.graphql_values.specs.Values.{admits_variables};
+
+/// Whether a place is constant (`Value[Const]`), which admits no variable at any depth.
+#[derive(Clone, Copy, Debug, PartialEq, Eq)]
+pub enum Constness {
+    /// `Value[Const]`: no variable.
+    Const,
+    /// `Value`: variables too.
+    NonConst,
+}
+
+impl Constness {
+    pub(crate) fn admits_variables(self) -> bool
+        ensures { result ≡ admits_variables (constness_of self) }
+    {
+        match self {
+            Constness::Const => false,
+            Constness::NonConst => true,
+        }
+    }
+}

@@ -1,0 +1,61 @@
+//! Definitions of directives.
+ghost use Rattle.std.specs.Prelude.{◌≡◌, ◌<◌, IfSome, length, option_copied, position};
+ghost use Rattle.std.specs.Borrow.{sem};
+ghost use Rattle.std.specs.Option.{option_copied_mut};
+ghost use Rattle.graphql_values.specs.Loans.{LendsArgument};
+ghost use Rattle.graphql_values.specs.Queries.{first_input_value_definition_named, is_input_value_definition_named};
+
+pub(crate) mod print;
+
+use crate::directive_location::DirectiveLocation;
+use crate::input_value_definition::InputValueDefinition;
+use graphql_base::name::Name;
+use graphql_base::node::{Node, NodeStr};
+
+/// A definition of a directive (`DirectiveDefinition`, section 3.13). Two are equal exactly if they differ in
+/// locations in a source text at most.
+#[derive(Clone, PartialEq, Eq, Hash, Debug, Drop)]
+pub struct DirectiveDefinition {
+    /// The string before `directive`.
+    pub description: Option<NodeStr>,
+    /// The name, without `@`.
+    pub name: Name,
+    /// The arguments that the directive takes, in order.
+    pub arguments: Vec<Node<InputValueDefinition>>,
+    /// Whether the directive may stand several times at one place.
+    pub repeatable: bool,
+    /// Where the directive may stand. A definition without a location isn't well formed.
+    pub locations: Vec<DirectiveLocation>,
+}
+
+impl DirectiveDefinition {
+    /// The first argument of that name.
+    pub fn argument_by_name(&self, name: &str) -> Option<&Node<InputValueDefinition>>
+        ensures { option_copied result ≡ first_input_value_definition_named name.now self.now.arguments.items }
+    {
+        let place = self.argument_position(name)?;
+        Some(&self.arguments[place])
+    }
+
+    fn argument_position(&self, name: &str) -> Option<usize>
+        ensures place { result ≡ position (is_input_value_definition_named name.now) self.now.arguments.items }
+        ensures within { IfSome result (λ place. place < length self.now.arguments.items) }
+    {
+        self.arguments
+            .iter()
+            .position(|node| node.name.as_str() == name)
+    }
+
+    /// The first argument of that name, to write to. What is written is seen in this definition alone, and no other
+    /// argument changes.
+    pub fn argument_by_name_mut(&mut self, name: &str) -> Option<&mut Node<InputValueDefinition>>
+        ensures* writes_back { sem 𝓛 (LendsArgument self.entry name.now result) }
+        ensures value { option_copied_mut result
+            ≡ first_input_value_definition_named name.now self.old.arguments.items }
+    {
+        match self.argument_position(name) {
+            Some(place) => Some(&mut self.arguments[place]),
+            None => None,
+        }
+    }
+}

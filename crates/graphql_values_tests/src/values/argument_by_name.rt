@@ -1,0 +1,229 @@
+//! Worked values of arguments.
+ghost use Rattle.std.specs.Prelude.{◌≡◌, OnErr, OnOk};
+ghost use Rattle.graphql_values.specs.Loans.{with_value_of};
+
+use crate::samples::{directive_definition, input_value_definition, number, with_argument};
+use graphql_base::name;
+use graphql_base::name::Name;
+use graphql_base::node::Node;
+use graphql_values::directive::{ArgumentByNameError, ArgumentValue, Directive, SpecifiedArgumentError};
+use graphql_values::directive_definition::DirectiveDefinition;
+use graphql_values::input_value_definition::InputValueDefinition;
+use graphql_values::ty;
+use graphql_values::types::Type;
+use graphql_values::value::Value;
+use indexmap::IndexMap;
+use std::alloc::{AllocError, Global};
+use std::process::Abort;
+
+fn argument(
+    alloc: Global,
+    name: Name,
+    ty: Type,
+    default_value: Option<Node<Value>>,
+) -> Result<Node<InputValueDefinition>, AllocError> {
+    let mut argument = input_value_definition(alloc, name, ty)?;
+    argument.default_value = default_value;
+    Node::new(alloc, argument)
+}
+
+/// `required: Int!, default: Int! = 1, free: Int`
+fn arguments(alloc: Global) -> Result<Vec<Node<InputValueDefinition>>, AllocError> {
+    let one = number(alloc, 1)?;
+    let arguments = vec![in alloc;
+        argument(alloc, name!(required), ty!(Int!), None)?,
+        argument(alloc, name!(default), ty!(Int!), Some(one))?,
+        argument(alloc, name!(free), ty!(Int), None)?,
+    ]?;
+    Ok(arguments)
+}
+
+/// `directive @a(required: Int!, default: Int! = 1, free: Int)`, which may stand nowhere
+fn definition(alloc: Global) -> Result<DirectiveDefinition, AllocError> {
+    let mut definition = directive_definition(alloc, name!(a));
+    definition.arguments = arguments(alloc)?;
+    Ok(definition)
+}
+
+fn definitions(
+    alloc: Global,
+    name: Name,
+) -> Result<IndexMap<Name, Node<DirectiveDefinition>>, AllocError> {
+    let mut map = IndexMap::new(alloc);
+    map.insert(name, Node::new(alloc, definition(alloc)?)?)?;
+    Ok(map)
+}
+
+/// what a test compares: a number, or the answer without a value
+fn told(answer: Result<ArgumentValue<'_>, ArgumentByNameError>) -> (Option<i32>, &'static str) {
+    match answer {
+        Ok(ArgumentValue::Value(value)) => (value.to_i32(), "value"),
+        Ok(ArgumentValue::ImplicitNull) => (None, "implicit null"),
+        Err(ArgumentByNameError::UndefinedDirective) => (None, "undefined directive"),
+        Err(ArgumentByNameError::NoSuchArgument) => (None, "no such argument"),
+        Err(ArgumentByNameError::RequiredArgumentNotSpecified) => (None, "required"),
+    }
+}
+
+fn check_told(
+    rt: &impl Abort,
+    defined: &IndexMap<Name, Node<DirectiveDefinition>>,
+    directive: &Directive,
+    name: &str,
+    answer: (Option<i32>, &'static str),
+) {
+    assert_eq!(rt;
+        told(directive.argument_by_name(name, defined)),
+        answer,
+        "{name}"
+    );
+}
+
+#[test]
+fn values_by_definition(rt: HostRuntime) {
+    let defined = definitions(rt.alloc(), name!(a)).expect(&rt, "memory");
+    let directive = Directive::new(rt.alloc(), name!(a));
+    check_told(
+        &rt,
+        &defined,
+        &directive,
+        "other",
+        (None, "no such argument"),
+    );
+    check_told(&rt, &defined, &directive, "required", (None, "required"));
+    check_told(&rt, &defined, &directive, "default", (Some(1), "value"));
+    check_told(&rt, &defined, &directive, "free", (None, "implicit null"));
+}
+
+#[test]
+fn the_key_defines_the_directive(rt: HostRuntime) {
+    let defined = definitions(rt.alloc(), name!(b)).expect(&rt, "memory");
+    let by_name = Directive::new(rt.alloc(), name!(a));
+    check_told(
+        &rt,
+        &defined,
+        &by_name,
+        "default",
+        (None, "undefined directive"),
+    );
+    let by_key = Directive::new(rt.alloc(), name!(b));
+    check_told(&rt, &defined, &by_key, "default", (Some(1), "value"));
+}
+
+#[test]
+fn specified_before_defined(rt: HostRuntime) {
+    let alloc = rt.alloc();
+    let null = Node::new(alloc, Value::Null).expect(&rt, "memory");
+    let directive = with_argument(alloc, Directive::new(alloc, name!(a)), name!(n), null).expect(
+        &rt, "memory",
+    );
+    let defined = definitions(alloc, name!(b)).expect(&rt, "memory");
+    let value = match directive.argument_by_name("n", &defined) {
+        Ok(ArgumentValue::Value(value)) => Some(value),
+        _ => None,
+    };
+    assert!(rt; value.is_some_and(|value| value.is_null()));
+}
+
+/// `@a(x: 1, y: N)`
+fn directive(alloc: Global, y: i32) -> Result<Directive, AllocError> {
+    let bare = Directive::new(alloc, name!(a));
+    let with_x = with_argument(alloc, bare, name!(x), number(alloc, 1)?)?;
+    with_argument(alloc, with_x, name!(y), number(alloc, y)?)
+}
+
+/// What a caller knows of a value that it wrote.
+fn set_argument(
+    directive: &mut Directive,
+    name: &str,
+    value: Node<Value>,
+) -> Result<(), SpecifiedArgumentError>
+    ensures ok { OnOk result (directive.new.arguments.items
+        ≡ with_value_of name.now value directive.old.arguments.items) }
+    ensures err { OnErr result (directive.new.arguments.items ≡ directive.old.arguments.items) }
+    ensures name { directive.new.name ≡ directive.old.name }
+{
+    *directive.specified_argument_by_name_mut(name)? = value;
+    Ok(())
+}
+
+#[test]
+fn what_is_lent_is_written_in_one_directive(rt: HostRuntime) {
+    let alloc = rt.alloc();
+    let other = directive(alloc, 2).expect(&rt, "memory");
+    let mut lent = other.clone().expect(&rt, "memory");
+    set_argument(&mut lent, "y", number(alloc, 3).expect(&rt, "memory")).expect(&rt, "memory");
+    assert!(rt; lent == directive(alloc, 3).expect(&rt, "memory"));
+    assert!(rt; other == directive(alloc, 2).expect(&rt, "memory"));
+}
+
+fn is_shared(directive: &mut Directive, place: usize) -> bool {
+    match directive.arguments.get_mut(place) {
+        Some(argument) => argument.get_mut().is_none(),
+        None => false,
+    }
+}
+
+/// Whether each argument still is another directive's too.
+fn sharing(directive: &mut Directive) -> [bool; 2] {
+    [is_shared(directive, 0), is_shared(directive, 1)]
+}
+
+fn lend(directive: &mut Directive, name: &str) -> bool {
+    directive.specified_argument_by_name_mut(name).is_ok()
+}
+
+#[test]
+fn only_what_is_lent_is_copied(rt: HostRuntime) {
+    for (name, wanted) in [
+        ("x", (true, [false, true])),
+        ("y", (true, [true, false])),
+        ("z", (false, [true, true])),
+    ] {
+        let other = directive(rt.alloc(), 2).expect(&rt, "memory");
+        let mut lent = other.clone().expect(&rt, "memory");
+        let is_lent = lend(&mut lent, name);
+        assert_eq!(rt; (is_lent, sharing(&mut lent)), wanted, "{name}");
+        assert!(rt; lent == other);
+    }
+}
+
+/// `@a(x: 1, y: 2, x: 1, y: 3)`
+fn repeated(alloc: Global) -> Result<Directive, AllocError> {
+    let mut directive = Directive::new(alloc, name!(a));
+    for (name, value) in [(name!(x), 1), (name!(y), 2), (name!(x), 1), (name!(y), 3)] {
+        directive = with_argument(alloc, directive, name, number(alloc, value)?)?;
+    }
+    Ok(directive)
+}
+
+fn numbers(alloc: Global, directive: &Directive) -> Result<Vec<Option<i32>>, AllocError> {
+    directive
+        .arguments
+        .iter()
+        .map(|node| node.value.to_i32())
+        .collect(alloc)
+}
+
+fn specified(directive: &Directive, name: &str) -> Option<i32> {
+    directive.specified_argument_by_name(name)?.to_i32()
+}
+
+#[test]
+fn the_first_of_a_name_is_answered(rt: HostRuntime) {
+    let repeated = repeated(rt.alloc()).expect(&rt, "memory");
+    assert_eq!(rt; specified(&repeated, "y"), Some(2));
+    assert!(rt; repeated.specified_argument_by_name("z").is_none());
+}
+
+#[test]
+fn the_first_of_a_name_is_written(rt: HostRuntime) {
+    let mut repeated = repeated(rt.alloc()).expect(&rt, "memory");
+    let four = number(rt.alloc(), 4).expect(&rt, "memory");
+    set_argument(&mut repeated, "y", four).expect(&rt, "memory");
+    let numbers = numbers(rt.alloc(), &repeated).expect(&rt, "memory");
+    assert_eq!(rt;
+        numbers.as_slice(),
+        [Some(1), Some(4), Some(1), Some(3)].as_slice()
+    );
+}

@@ -1,0 +1,118 @@
+//! Worked definitions.
+ghost use Rattle.std.specs.Prelude.{◌≡◌};
+ghost use Rattle.std.specs.Bool.{OnFalse, OnTrue};
+ghost use Rattle.graphql_values.specs.Loans.{first_changed};
+ghost use Rattle.graphql_values.specs.Queries.{is_input_value_definition_named};
+
+use crate::samples::{directive_definition, input_value_definition};
+use graphql_base::name;
+use graphql_base::name::Name;
+use graphql_base::node::{Node, NodeStr};
+use graphql_values::directive_definition::DirectiveDefinition;
+use graphql_values::directive_location::DirectiveLocation;
+use graphql_values::input_value_definition::InputValueDefinition;
+use graphql_values::types::Type;
+use graphql_values::value::Value;
+use std::alloc::{AllocError, Global};
+use std::collections::HashSet;
+use std::process::Abort;
+
+fn argument(alloc: Global, name: Name, ty: Name) -> Result<Node<InputValueDefinition>, AllocError> {
+    let mut argument = input_value_definition(alloc, name, Type::Named(ty))?;
+    argument.description = Some(NodeStr::new_str(alloc, "é")?);
+    Node::new(alloc, argument)
+}
+
+fn arguments(alloc: Global) -> Result<Vec<Node<InputValueDefinition>>, AllocError> {
+    let arguments = vec![in alloc;
+        argument(alloc, name!(a), name!(A))?,
+        argument(alloc, name!(b), name!(B))?,
+        argument(alloc, name!(a), name!(C))?,
+    ]?;
+    Ok(arguments)
+}
+
+/// `directive @d(a: A, b: B, a: C) on FIELD`, with the same description each
+fn definition(alloc: Global) -> Result<DirectiveDefinition, AllocError> {
+    let mut definition = directive_definition(alloc, name!(d));
+    definition.arguments = arguments(alloc)?;
+    definition.locations.push(DirectiveLocation::Field)?;
+    Ok(definition)
+}
+
+fn type_of(node: Option<&Node<InputValueDefinition>>) -> Option<&str> {
+    Some(node?.ty.inner_named_type().as_str())
+}
+
+fn check_type(rt: &impl Abort, definition: &DirectiveDefinition, name: &str, wanted: Option<&str>) {
+    assert_eq!(rt; type_of(definition.argument_by_name(name)), wanted);
+}
+
+#[test]
+fn arguments_by_name(rt: HostRuntime) {
+    let definition = definition(rt.alloc()).expect(&rt, "memory");
+    check_type(&rt, &definition, "a", Some("A"));
+    check_type(&rt, &definition, "b", Some("B"));
+    check_type(&rt, &definition, "c", None);
+}
+
+/// What a caller knows of an argument that it wrote.
+fn set_argument(
+    definition: &mut DirectiveDefinition,
+    name: &str,
+    node: Node<InputValueDefinition>,
+) -> bool
+    ensures written { OnTrue result (definition.new.arguments.items
+        ≡ first_changed (is_input_value_definition_named name.now) (λ _. node) definition.old.arguments.items) }
+    ensures none { OnFalse result (definition.new ≡ definition.old) }
+    ensures name { definition.new.name ≡ definition.old.name }
+{
+    match definition.argument_by_name_mut(name) {
+        Some(argument) => {
+            *argument = node;
+            true
+        }
+        None => false,
+    }
+}
+
+#[test]
+fn the_first_of_a_name_is_written(rt: HostRuntime) {
+    let mut definition = definition(rt.alloc()).expect(&rt, "memory");
+    let other = definition.clone().expect(&rt, "memory");
+    let written = argument(rt.alloc(), name!(c), name!(A)).expect(&rt, "memory");
+    assert!(rt; set_argument(&mut definition, "a", written));
+    check_type(&rt, &definition, "c", Some("A"));
+    check_type(&rt, &definition, "a", Some("C"));
+    check_type(&rt, &other, "a", Some("A"));
+    assert!(rt; definition.argument_by_name_mut("z").is_none());
+}
+
+#[test]
+fn what_is_required(rt: HostRuntime) {
+    let alloc = rt.alloc();
+    let null = Node::new(alloc, Value::Null).expect(&rt, "memory");
+    for (ty, default_value, is_required) in [
+        (Type::NonNullNamed(name!(Int)), None, true),
+        (Type::NonNullNamed(name!(Int)), Some(null), false),
+        (Type::Named(name!(Int)), None, false),
+    ] {
+        let mut input = input_value_definition(alloc, name!(a), ty).expect(&rt, "memory");
+        input.default_value = default_value;
+        assert_eq!(rt; input.is_required(), is_required);
+    }
+}
+
+#[test]
+fn equality(rt: HostRuntime) {
+    let alloc = rt.alloc();
+    let mut changed = definition(alloc).expect(&rt, "memory");
+    let same = definition(alloc).expect(&rt, "memory");
+    assert!(rt; changed == same);
+    let mut set = HashSet::new(alloc);
+    set.insert(definition(alloc).expect(&rt, "memory"))
+        .expect(&rt, "memory");
+    assert!(rt; set.contains(&same));
+    changed.repeatable = true;
+    assert!(rt; changed != same);
+}

@@ -1,0 +1,60 @@
+//! Whole prints of the five kinds, where memory is ample. How trees are laid out is told by the cases of another program.
+use crate::checks::check_text;
+use crate::samples::{definition, directive, directives, input, nested};
+use graphql_text::engine::{Serialize, Syntax};
+use graphql_text::sink::{TextSink, VecSink};
+use std::alloc::Global;
+use std::process::Abort;
+
+/// The print as a text, and into a sink.
+fn check_print<T: Syntax>(rt: &impl Abort, alloc: Global, print: Serialize<'_, T>, wanted: &str) {
+    let text = print.to_text(alloc).expect(rt, "memory");
+    check_text(rt, text.as_str(), wanted);
+    let mut sink = VecSink::new(alloc);
+    assert_eq!(rt; print.print_to(&mut sink), Ok(()));
+    assert_eq!(rt; (sink.bytes(), sink.faults()), (wanted.as_bytes(), 0));
+}
+
+#[test]
+fn of_values(rt: HostRuntime) {
+    let alloc = rt.alloc();
+    let value = nested(alloc).expect(&rt, "memory");
+    check_print(&rt, alloc, value.serialize(), "[\n  [],\n  1.5,\n]");
+    check_print(
+        &rt,
+        alloc,
+        value
+            .serialize()
+            .indent_prefix("\t")
+            .initial_indent_level(1),
+        "\t[\n\t\t[],\n\t\t1.5,\n\t]",
+    );
+}
+
+#[test]
+fn of_directives(rt: HostRuntime) {
+    let alloc = rt.alloc();
+    let one = directive(alloc).expect(&rt, "memory");
+    check_print(&rt, alloc, one.serialize(), "@a(x: true, y: false)");
+    let two = directives(alloc).expect(&rt, "memory");
+    check_print(&rt, alloc, two.serialize(), " @a @b");
+}
+
+#[test]
+fn of_definitions(rt: HostRuntime) {
+    let alloc = rt.alloc();
+    let input = input(alloc).expect(&rt, "memory");
+    check_print(
+        &rt,
+        alloc,
+        input.serialize().no_indent(),
+        "a: [[I!]] = [[], 1.5]",
+    );
+    let definition = definition(alloc).expect(&rt, "memory");
+    check_print(
+        &rt,
+        alloc,
+        definition.serialize(),
+        "directive @d(a: [[I!]] = [[], 1.5])",
+    );
+}

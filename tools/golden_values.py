@@ -1,13 +1,26 @@
 #!/usr/bin/env python3
 """Makes the input of the program `golden_values` from cases that an independent model of the layout rules made.
 
-    tools/golden_values.py FILE.. > crates/golden_values/stdin
+    tools/golden_values.py FILE.. > NEW && mv NEW crates/golden_values/stdin
 
-The model knows the rules of docs/LAYOUT.md and nothing of this printer; the texts in the cases are its own. A FILE is a JSON array
-of cases, each an object with the members `kind` (those of other kinds than the five of KINDS are passed over), `tree`, `prefix` (null:
-on one line), `level` (a text where the number is great), `well_formed`, and `text`, or `refusal` where the level overflows.
-A tree is `{"node": CLASS, FIELD: ..}`, or `{"built": "N lists, .."}`. The output has a case a line, each once, as the types of
+A FILE whose name ends in `.json` is an array of cases. Any other is an input that this script made earlier, whose lines stay: give
+`crates/golden_values/stdin` first, and then the new cases. The output has a case a line, each once, as the types of
 crates/golden_values/src/case.rt and described.rt read it.
+
+The model knows the rules of docs/LAYOUT.md and nothing of this printer; the texts in the cases are its own. A case is an object with the
+members `kind` (those of other kinds than the five of KINDS are passed over), `tree`, `prefix` (null: on one line), `level` (a text where
+the number is great), `well_formed`, and `text`, or `refusal` where the level overflows. A tree is `{"node": CLASS, FIELD: ..}`, or
+`{"built": "N lists, each the one item .."}`: lists deeper than JSON is read are told by their number.
+
+The cases that stand there are of four sources, and the model laid out each:
+- rows that docs/LAYOUT.md follows from, and rows written where these try nothing;
+- random trees of the five kinds, some of them ill formed, each in several layouts and at levels near the greatest;
+- pieces longer than the buffer of a print (1,024 bytes): strings and descriptions of 600 to 3,000 bytes, plain, with characters to escape,
+  of several lines (one of them longer than the buffer), and of characters of two to four bytes; names and numbers of 1,500 bytes; names of
+  1,022 to 1,026 and of 2,047 to 2,049 letters, alone and in a list;
+- nested lists: 5,000 on one line and under an empty prefix, also at the greatest level that they fit and at the one above, and 200 under
+  two spaces and under a tab, whose text grows with the square of the number. As `rt run` builds the program its stack carries 5,000; the
+  checked build of `rt try` runs out of stack between 2,500 and 3,000.
 """
 import json
 import re
@@ -97,13 +110,16 @@ def case(entry):
     }
 
 
-def main(files):
-    lines = {}
-    for file in files:
-        with open(file, encoding="utf-8") as source:
-            for entry in json.load(source):
-                if entry["kind"] in KINDS:
-                    lines[json.dumps(case(entry), separators=(",", ":"))] = None
+def cases(path):
+    with open(path, encoding="utf-8") as source:
+        if not path.endswith(".json"):
+            return source.read().splitlines()
+        entries = json.load(source)
+    return [json.dumps(case(entry), separators=(",", ":")) for entry in entries if entry["kind"] in KINDS]
+
+
+def main(paths):
+    lines = dict.fromkeys(line for path in paths for line in cases(path))
     for line in lines:
         print(line)
 

@@ -2,7 +2,7 @@
 use crate::case::Case;
 use crate::sink::ByteSink;
 use graphql_text::engine::{PrintError, Serialize, Syntax};
-use graphql_text::sink::{TextSink, VecSink};
+use graphql_text::sink::{StreamSink, TextSink, VecSink};
 use std::alloc::Global;
 use std::fmt;
 use std::fmt::{Display, Formatter, Write};
@@ -13,21 +13,25 @@ pub enum Check {
     WellFormed,
     ToText,
     Display,
+    TreeDisplay,
     VecSink,
+    StreamSink,
     ByteSink,
 }
 
-const CHECKS: [Check; 5] = [
+const CHECKS: [Check; 7] = [
     Check::WellFormed,
     Check::ToText,
     Check::Display,
+    Check::TreeDisplay,
     Check::VecSink,
+    Check::StreamSink,
     Check::ByteSink,
 ];
 
 impl Check {
     /// Whether the answer is the one that the case wants.
-    fn passes<T: Syntax>(self, alloc: Global, case: &Case, tree: &T) -> bool {
+    fn passes<T: Syntax + Display>(self, alloc: Global, case: &Case, tree: &T) -> bool {
         let print = print_of(case, tree);
         match self {
             Check::WellFormed => tree.is_well_formed() == case.well_formed,
@@ -36,7 +40,9 @@ impl Check {
                 Err(error) => is_wanted(case, Err(error), b""),
             },
             Check::Display => is_displayed(alloc, case, &print),
+            Check::TreeDisplay => !is_in_default_layout(case) || is_displayed(alloc, case, tree),
             Check::VecSink => is_put_into_vec(alloc, case, &print),
+            Check::StreamSink => is_put_into_writer(alloc, case, &print),
             Check::ByteSink => is_put_bytewise(alloc, case, &print),
         }
     }
@@ -47,15 +53,17 @@ impl Display for Check {
         f.write_str(match self {
             Check::WellFormed => "is_well_formed",
             Check::ToText => "to_text",
-            Check::Display => "Display",
+            Check::Display => "Display of Serialize",
+            Check::TreeDisplay => "Display of the tree",
             Check::VecSink => "print_to a VecSink",
+            Check::StreamSink => "print_to a StreamSink",
             Check::ByteSink => "print_to a sink that takes one byte a call",
         })
     }
 }
 
 /// The first check that a tree doesn't pass, if there is one.
-pub fn first_failed<T: Syntax>(alloc: Global, case: &Case, tree: &T) -> Option<Check> {
+pub fn first_failed<T: Syntax + Display>(alloc: Global, case: &Case, tree: &T) -> Option<Check> {
     for check in CHECKS {
         if !check.passes(alloc, case, tree) {
             return Some(check);
@@ -73,6 +81,11 @@ fn print_of<'a, T: Syntax>(case: &'a Case, tree: &'a T) -> Serialize<'a, T> {
     }
 }
 
+/// Whether a tree that is displayed itself has the layout of the case.
+fn is_in_default_layout(case: &Case) -> bool {
+    case.prefix.as_deref() == Some("  ") && case.level == 0
+}
+
 /// Whether a print ended as the case wants, with these bytes written.
 fn is_wanted(case: &Case, printed: Result<(), PrintError>, bytes: &[u8]) -> bool {
     match &case.text {
@@ -81,9 +94,9 @@ fn is_wanted(case: &Case, printed: Result<(), PrintError>, bytes: &[u8]) -> bool
     }
 }
 
-fn is_displayed<T: Syntax>(alloc: Global, case: &Case, print: &Serialize<'_, T>) -> bool {
+fn is_displayed<T: Display>(alloc: Global, case: &Case, printed: &T) -> bool {
     let mut shown = String::new(alloc);
-    let is_ok = write!(shown, "{print}").is_ok();
+    let is_ok = write!(shown, "{printed}").is_ok();
     match &case.text {
         Some(text) => is_ok && shown.as_str() == text.as_str(),
         None => !is_ok && shown.is_empty(),
@@ -94,6 +107,13 @@ fn is_put_into_vec<T: Syntax>(alloc: Global, case: &Case, print: &Serialize<'_, 
     let mut sink = VecSink::new(alloc);
     let printed = print.print_to(&mut sink);
     is_wanted(case, printed, sink.bytes()) && sink.faults() == 0
+}
+
+fn is_put_into_writer<T: Syntax>(alloc: Global, case: &Case, print: &Serialize<'_, T>) -> bool {
+    let mut sink = StreamSink::new(Vec::new(alloc));
+    let printed = print.print_to(&mut sink);
+    let faults = sink.faults();
+    is_wanted(case, printed, sink.into_inner().as_slice()) && faults == 0
 }
 
 fn is_put_bytewise<T: Syntax>(alloc: Global, case: &Case, print: &Serialize<'_, T>) -> bool {

@@ -4,7 +4,7 @@ ghost use Rattle.std.specs.Prelude.{◌≡◌, [], Some};
 use graphql_text::sink::{SinkFault, TextSink};
 use std::alloc::Global;
 
-/// A sink that takes one byte a call. It faults where it gets no memory.
+/// A sink that takes one byte a call. It faults where it is given none, or gets no memory.
 #[derive(Drop)]
 pub struct ByteSink {
     bytes: Vec<u8>,
@@ -37,9 +37,10 @@ impl TextSink for ByteSink {
     ghost fault_count = { λ sink. sink.faults };
 
     fn put(&mut self, bytes: &[u8]) -> Result<usize, SinkFault> {
-        let front = &bytes[..bytes.len().min(1)];
-        if self.bytes.extend_from_slice(front).is_ok() {
-            return Ok(front.len());
+        if let Some(byte) = bytes.first()
+            && self.bytes.push(*byte).is_ok()
+        {
+            return Ok(1);
         }
         self.faults += 1;
         Err(SinkFault)

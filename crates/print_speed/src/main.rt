@@ -2,7 +2,8 @@
 //! measured: the instructions of one print are those of a run with one round more, less those of the other.
 //!
 //! The tree is `objects` (a list of COUNT objects with values of every kind) or `texts` (a list of COUNT plain strings of 80
-//! bytes); the layout `default` or `one_line`; the target `text` or `sink`. It prints the bytes of one print.
+//! bytes); the layout `default`, `one_line` or `two_tabs`, which has the bytes of the default layout with two tabs for each prefix;
+//! the target `text` or `sink`. It prints the bytes of one print.
 #![tactic(auto)]
 
 mod trees;
@@ -19,12 +20,20 @@ use thiserror::Error;
 /// Why nothing was printed.
 #[derive(Debug, Drop, Error)]
 enum SpeedError {
-    #[error("usage: print_speed objects|texts COUNT ROUNDS default|one_line text|sink")]
+    #[error("usage: print_speed objects|texts COUNT ROUNDS default|one_line|two_tabs text|sink")]
     Usage,
     #[error("out of memory")]
     Memory,
     #[error("{0}")]
     Print(PrintError),
+}
+
+/// How the tree is laid out.
+#[derive(Clone, Copy)]
+enum Layout {
+    Default,
+    OneLine,
+    TwoTabs,
 }
 
 /// What is built, and how often it is printed to what.
@@ -33,7 +42,7 @@ struct Task {
     of_objects: bool,
     count: usize,
     rounds: usize,
-    on_one_line: bool,
+    layout: Layout,
     into_sink: bool,
 }
 
@@ -56,6 +65,17 @@ fn is_second<R: Env>(env: &R, place: usize, first: &str, second: &str) -> Option
     }
 }
 
+/// The layout at a place.
+fn read_layout<R: Env>(env: &R, place: usize) -> Option<Layout> {
+    let mut buffer = [0u8; 16];
+    match word(env, place, &mut buffer)? {
+        "default" => Some(Layout::Default),
+        "one_line" => Some(Layout::OneLine),
+        "two_tabs" => Some(Layout::TwoTabs),
+        _ => None,
+    }
+}
+
 /// The number at a place.
 fn number<R: Env>(env: &R, place: usize) -> Option<usize> {
     let mut buffer = [0u8; 24];
@@ -67,13 +87,22 @@ fn read_task<R: Env>(env: &R) -> Option<Task> {
         of_objects: is_second(env, 1, "texts", "objects")?,
         count: number(env, 2)?,
         rounds: number(env, 3)?,
-        on_one_line: is_second(env, 4, "default", "one_line")?,
+        layout: read_layout(env, 4)?,
         into_sink: is_second(env, 5, "text", "sink")?,
     })
 }
 
+/// The tree in a layout.
+fn print_in(layout: Layout, tree: &Value) -> Serialize<'_, Value> {
+    match layout {
+        Layout::Default => tree.serialize(),
+        Layout::OneLine => tree.serialize().no_indent(),
+        Layout::TwoTabs => tree.serialize().indent_prefix("\t\t"),
+    }
+}
+
 /// The length of one print in bytes.
-fn print(
+fn print_once(
     alloc: Global,
     print: &Serialize<'_, Value>,
     into_sink: bool,
@@ -96,13 +125,10 @@ fn run(alloc: Global, task: &Task) -> Result<usize, SpeedError> {
     let Ok(tree) = tree else {
         return Err(SpeedError::Memory);
     };
-    let mut layout = tree.serialize();
-    if task.on_one_line {
-        layout = layout.no_indent();
-    }
+    let print = print_in(task.layout, &tree);
     let mut bytes = 0;
     for _ in 0..task.rounds {
-        bytes = print(alloc, &layout, task.into_sink).map_err(SpeedError::Print)?;
+        bytes = print_once(alloc, &print, task.into_sink).map_err(SpeedError::Print)?;
     }
     Ok(bytes)
 }

@@ -4,7 +4,9 @@ ghost use Rattle.std.specs.Prelude.{◌<◌};
 
 use super::page::{Page, blank_page};
 use crate::checks::check_text;
-use graphql_text::writers::{Place, Target, write_description, write_first_indent, write_string_value};
+use graphql_text::writers::{
+    Place, Target, write_description, write_first_indent, write_string_value,
+};
 use std::alloc::Global;
 use std::process::Abort;
 

@@ -5,10 +5,9 @@ ghost use Rattle.std.specs.Prelude.{◌<◌};
 use super::page::{Page, blank_page};
 use crate::checks::check_text;
 use graphql_base::name;
-use graphql_text::writers::Place;
 use graphql_text::writers::{
-    ready_comma_lead, write_blank, write_comma_lead, write_finish, write_first_indent, write_float,
-    write_int, write_last_comma, write_name, write_soft, write_tight, write_words,
+    Place, ready_comma_lead, write_blank, write_comma_lead, write_finish, write_first_indent,
+    write_float, write_int, write_last_comma, write_name, write_soft, write_tight, write_words,
 };
 use std::alloc::Global;
 

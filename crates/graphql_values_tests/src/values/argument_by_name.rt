@@ -6,7 +6,9 @@ use crate::samples::{directive_definition, input_value_definition, number, with_
 use graphql_base::name;
 use graphql_base::name::Name;
 use graphql_base::node::Node;
-use graphql_values::directive::{ArgumentByNameError, ArgumentValue, Directive, SpecifiedArgumentError};
+use graphql_values::directive::{
+    ArgumentByNameError, ArgumentValue, Directive, SpecifiedArgumentError,
+};
 use graphql_values::directive_definition::DirectiveDefinition;
 use graphql_values::input_value_definition::InputValueDefinition;
 use graphql_values::ty;

@@ -196,7 +196,8 @@ impl<'a, T: Syntax> Serialize<'a, T> {
         ensures overflow { IsErrOf result PrintError.LevelOverflow ↔ PrintOverflows T.kind T.tree self.now }
         ensures untouched { IsErrOf result PrintError.LevelOverflow → sink.new ≡ sink.old }
         ensures memory { IsErrOf result PrintError.Memory → sink.new ≡ sink.old }
-        ensures free { T.kind.entries (T.tree (print_tree self.now)) ≡ 0 → IsErrOf result PrintError.Memory → ⊥ }
+        ensures free { T.kind.entries (T.tree (print_tree self.now)) ≡ 0 →
+            IsErrOf result PrintError.Memory → ⊥ }
         ensures stopped { IsErrOf result PrintError.Sink →
             SinkFaulted S.taken S.fault_count sink.old (print_bytes T.kind T.tree self.now) sink.new }
 

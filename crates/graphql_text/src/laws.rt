@@ -39,7 +39,8 @@ pub fn tokens_side_by_side()
         LexesBefore text (Name text ∷ []) after }
     ensures ints { (text after : List ℕ) → is_int text ≡ true → begins_in follows_no_number after ≡ false →
         LexesBefore text (IntValue text ∷ []) after }
-    ensures floats { (text after : List ℕ) → is_float text ≡ true → begins_in follows_no_number after ≡ false →
+    ensures floats { (text after : List ℕ) → is_float text ≡ true →
+        begins_in follows_no_number after ≡ false →
         LexesBefore text (FloatValue text ∷ []) after }
     ensures quoted { (spelling value after : List ℕ) → IsQuoted spelling value after →
         LexesBefore spelling (StringValue value ∷ []) after }
@@ -61,7 +62,8 @@ pub fn strings_keep_their_value()
     ensures block { (prefix : List ℕ) (level : ℕ) (value after : List ℕ) → is_blank prefix ≡ true →
         can_be_block value ≡ true →
         LexesBefore (block_text prefix level value) (StringValue value ∷ []) after }
-    ensures printed { (mode : Option (List ℕ)) (level : ℕ) (value : List ℕ) (role : StringRole) (after : List ℕ) →
+    ensures printed { (mode : Option (List ℕ)) (level : ℕ) (value : List ℕ) (role : StringRole)
+        (after : List ℕ) →
         IsBlankMode mode → begins_in is_quote after ≡ false →
         LexesBefore (string_text mode level value role) (StringValue value ∷ []) after }
     ensures alone { (mode : Option (List ℕ)) (level : ℕ) (value : List ℕ) (role : StringRole) →

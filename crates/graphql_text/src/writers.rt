@@ -22,7 +22,8 @@ use graphql_base::node::NodeStr;
 /// Writes keywords, punctuators, spaces and commas, which stand alike at every place.
 pub fn write_words<O: Target>(out: &mut O, words: &str)
     ensures bytes { O.wrote out.old words.now out.new }
-    ensures items { (mode : Option (List ℕ)) (level : ℕ) (items : List Item) → fixed_text items ≡ Some words.now →
+    ensures items { (mode : Option (List ℕ)) (level : ℕ) (items : List Item) →
+        fixed_text items ≡ Some words.now →
         WritesItems O.wrote out.old out.new mode level items }
 {
     out.text(words);

@@ -180,7 +180,8 @@ impl<'l> IntoIterator for &'l DirectiveList {
     type IntoIter = slice::Iter<'l, Node<Directive>>;
 
     ghost into_iter_gives = { λ list it. (iter_rest it ≡ list.now.0.items) × (length (iter_rest it) < 2 ^ 64)
-        × EveryRun (iter_steps {A = Node Directive}) (λ run. ItemsMapTo run (λ node. node.now) (iter_rest run.from)) };
+        × EveryRun (iter_steps {A = Node Directive}) (λ run.
+        ItemsMapTo run (λ node. node.now) (iter_rest run.from)) };
 
     fn into_iter(self) -> slice::Iter<'l, Node<Directive>> {
         self.0.as_slice().iter()
@@ -192,13 +193,15 @@ impl<'l> IntoIterator for &'l mut DirectiveList {
 
     type IntoIter = slice::IterMut<'l, Node<Directive>>;
 
-    ghost into_iter_gives = { λ list it. (iter_mut_rest it ≡ list.now.0.items) × (length (iter_mut_rest it) < 2 ^ 64)
+    ghost into_iter_gives = { λ list it. (iter_mut_rest it ≡ list.now.0.items)
+        × (length (iter_mut_rest it) < 2 ^ 64)
         × EveryRun (iter_mut_steps {A = Node Directive}) (λ run.
         ItemsMapTo run (λ node. node.now) (iter_mut_rest run.from)) };
 
     fn into_iter(self) -> slice::IterMut<'l, Node<Directive>>
         ensures* writes_back { sem 𝓛 (LendsItems self.entry result) }
-        ensures into_iter_gives { (iter_mut_rest result ≡ self.old.0.items) × (length (iter_mut_rest result) < 2 ^ 64)
+        ensures into_iter_gives { (iter_mut_rest result ≡ self.old.0.items)
+            × (length (iter_mut_rest result) < 2 ^ 64)
             × EveryRun (iter_mut_steps {A = Node Directive}) (λ run.
             ItemsMapTo run (λ node. node.now) (iter_mut_rest run.from)) }
     {

@@ -38,7 +38,8 @@ impl Value {
 
     /// The number as an integer. `AllocError` where memory is refused.
     pub fn from_i32(alloc: Global, number: i32) -> Result<Value, AllocError>
-        ensures text { IfOk result (λ value. IsSomeAnd (int_of value) (λ int. int_text int ≡ signed_decimal number)) }
+        ensures text { IfOk result (λ value.
+            IsSomeAnd (int_of value) (λ int. int_text int ≡ signed_decimal number)) }
         ensures number { IfOk result (λ value. IsSomeAnd (int_of value) (λ int. int_number int ≡ number)) }
     {
         Ok(Value::Int(IntValue::from_i32(alloc, number)?))

@@ -65,20 +65,24 @@ pub fn equal_trees_hash_alike()
     ensures types { IsHashedAlike ⟦<Type as PartialEq>⟧.eq ⟦<Type as Hash>⟧.hash_input }
     ensures arguments { IsHashedAlike ⟦<Argument as PartialEq>⟧.eq ⟦<Argument as Hash>⟧.hash_input }
     ensures directives { IsHashedAlike ⟦<Directive as PartialEq>⟧.eq ⟦<Directive as Hash>⟧.hash_input }
-    ensures directive_lists { IsHashedAlike ⟦<DirectiveList as PartialEq>⟧.eq ⟦<DirectiveList as Hash>⟧.hash_input }
+    ensures directive_lists { IsHashedAlike ⟦<DirectiveList as PartialEq>⟧.eq
+        ⟦<DirectiveList as Hash>⟧.hash_input }
     ensures input_value_definitions { IsHashedAlike ⟦<InputValueDefinition as PartialEq>⟧.eq
         ⟦<InputValueDefinition as Hash>⟧.hash_input }
     ensures directive_definitions { IsHashedAlike ⟦<DirectiveDefinition as PartialEq>⟧.eq
         ⟦<DirectiveDefinition as Hash>⟧.hash_input }
-    ensures operation_types { IsHashedAlike ⟦<OperationType as PartialEq>⟧.eq ⟦<OperationType as Hash>⟧.hash_input }
-    ensures locations { IsHashedAlike ⟦<DirectiveLocation as PartialEq>⟧.eq ⟦<DirectiveLocation as Hash>⟧.hash_input }
+    ensures operation_types { IsHashedAlike ⟦<OperationType as PartialEq>⟧.eq
+        ⟦<OperationType as Hash>⟧.hash_input }
+    ensures locations { IsHashedAlike ⟦<DirectiveLocation as PartialEq>⟧.eq
+        ⟦<DirectiveLocation as Hash>⟧.hash_input }
 {}
 
 /// A clone has the same tree, and the very names, nodes and other parts, at the same locations.
 pub fn clones_are_the_same()
     ensures ints { (a b : IntValue) → ⟦<IntValue as Clone>⟧.is_clone a b → b ≡ a }
     ensures floats { (a b : FloatValue) → ⟦<FloatValue as Clone>⟧.is_clone a b → b ≡ a }
-    ensures values { (a b : Value) → ⟦<Value as Clone>⟧.is_clone a b → IsCloneOf a b × (value_tree b ≡ value_tree a) }
+    ensures values { (a b : Value) → ⟦<Value as Clone>⟧.is_clone a b →
+        IsCloneOf a b × (value_tree b ≡ value_tree a) }
     ensures types { (a b : «Type») → ⟦<Type as Clone>⟧.is_clone a b →
         (type_wrapping b ≡ type_wrapping a) × (type_tree b ≡ type_tree a) }
     ensures arguments { (a b : Argument) → ⟦<Argument as Clone>⟧.is_clone a b → b ≡ a }
@@ -86,11 +90,13 @@ pub fn clones_are_the_same()
         (b.name ≡ a.name) × (b.arguments.items ≡ a.arguments.items) × (directive_tree b ≡ directive_tree a) }
     ensures directive_lists { (a b : DirectiveList) → ⟦<DirectiveList as Clone>⟧.is_clone a b →
         (b.0.items ≡ a.0.items) × (directive_trees b ≡ directive_trees a) }
-    ensures input_value_definitions { (a b : InputValueDefinition) → ⟦<InputValueDefinition as Clone>⟧.is_clone a b →
+    ensures input_value_definitions { (a b : InputValueDefinition) →
+        ⟦<InputValueDefinition as Clone>⟧.is_clone a b →
         (b.description ≡ a.description) × (b.name ≡ a.name) × (b.ty ≡ a.ty)
         × (b.default_value ≡ a.default_value) × (b.directives.0.items ≡ a.directives.0.items)
         × (input_value_definition_tree b ≡ input_value_definition_tree a) }
-    ensures directive_definitions { (a b : DirectiveDefinition) → ⟦<DirectiveDefinition as Clone>⟧.is_clone a b →
+    ensures directive_definitions { (a b : DirectiveDefinition) →
+        ⟦<DirectiveDefinition as Clone>⟧.is_clone a b →
         (b.description ≡ a.description) × (b.name ≡ a.name) × (b.arguments.items ≡ a.arguments.items)
         × (b.repeatable ≡ a.repeatable) × (b.locations.items ≡ a.locations.items)
         × (directive_definition_tree b ≡ directive_definition_tree a) }

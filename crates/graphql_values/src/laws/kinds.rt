@@ -34,8 +34,8 @@ pub fn kind_of_each_type()
         directives_kind directive_trees }
     ensures input_value_definitions { IsKind ⟦<InputValueDefinition as Syntax>⟧.kind
         ⟦<InputValueDefinition as Syntax>⟧.tree input_value_definition_kind input_value_definition_tree }
-    ensures directive_definitions { IsKind ⟦<DirectiveDefinition as Syntax>⟧.kind ⟦<DirectiveDefinition as Syntax>⟧.tree
-        directive_definition_kind directive_definition_tree }
+    ensures directive_definitions { IsKind ⟦<DirectiveDefinition as Syntax>⟧.kind
+        ⟦<DirectiveDefinition as Syntax>⟧.tree directive_definition_kind directive_definition_tree }
 {}
 
 /// The words and strings of the layout of a part that obeys the side conditions derive it, before whatever follows.
@@ -57,7 +57,8 @@ pub fn printed_tokens_derive_the_tree()
         (λ broken. input_value_definition_kind.shape broken false) input_value_definition_kind.obeys }
     ensures arguments_definitions { PrintedTokensDerive arguments_definition_form arguments_definition_shape
         arguments_definition_obeys }
-    ensures operation_types { PrintedTokensDerive operation_type_form (λ broken. operation_type_shape) (λ type. true) }
+    ensures operation_types { PrintedTokensDerive operation_type_form
+        (λ broken. operation_type_shape) (λ type. true) }
     ensures directive_definitions { PrintedTokensDerive directive_definition_kind.form
         (λ broken. directive_definition_kind.shape broken false) directive_definition_kind.obeys }
 {}

@@ -108,6 +108,7 @@ pub fn refused_strings()
     ensures line_in_quotes { (value : ValueTree) → ReadsAs value_kind.form (codes "\"a\nb\"") value → ⊥ }
     ensures braces { (value : ValueTree) → ReadsAs value_kind.form (codes "\"\\u{41}\"") value → ⊥ }
     ensures surrogates { (value : ValueTree) → ReadsAs value_kind.form (codes "\"\\uD83D\\uDE00\"") value → ⊥ }
-    ensures quote_after_block { (value : ValueTree) → ReadsAs value_kind.form (codes "\"\"\"a\"\"\"\"") value → ⊥ }
+    ensures quote_after_block { (value : ValueTree) →
+        ReadsAs value_kind.form (codes "\"\"\"a\"\"\"\"") value → ⊥ }
     ensures escaped_end { (value : ValueTree) → ReadsAs value_kind.form (codes "\"\"\"a\\\"\"\"") value → ⊥ }
 {}

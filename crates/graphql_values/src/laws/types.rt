@@ -20,7 +20,8 @@ pub fn types_are_wrapped_names(ty: &Type)
 pub fn nullability_is_set(ty: &Type, made: &Type)
     ensures set { (non_null : Bool) → type_wrapping made.now ≡ with_nullability non_null (type_wrapping ty.now) →
         is_non_null (type_tree made.now) ≡ non_null }
-    ensures idempotent { (non_null : Bool) → type_wrapping made.now ≡ with_nullability non_null (type_wrapping ty.now) →
+    ensures idempotent { (non_null : Bool) →
+        type_wrapping made.now ≡ with_nullability non_null (type_wrapping ty.now) →
         with_nullability non_null (type_wrapping made.now) ≡ type_wrapping made.now }
     ensures gives_back { (non_null : Bool) → is_non_null (type_tree ty.now) ≡ non_null →
         type_wrapping made.now ≡ with_nullability (not non_null) (type_wrapping ty.now) →

@@ -1,7 +1,5 @@
 -- What `==` decides of spans, locations and errors.
-use Rattle.std.proofs.Common.{◌≡◌, ◌≤◌, Bool, true, Option, Some, None, rules}
-use mathlib.Core.HLevel.{is_prop→PathP}
-use Rattle.std.specs.Coded.{le_prop}
+use Rattle.std.proofs.Common.{◌≡◌, Bool, true, Option, Some, None, rules}
 use Rattle.std.specs.Bool.{Decides}
 use Rattle.std.specs.Option.{option_eq}
 use Rattle.graphql_base.specs.declared.span.SourceSpan.{SourceSpan}
@@ -12,6 +10,7 @@ use Rattle.graphql_base.specs.contracts.span.SourceSpanPartialEq.TheImpl as of_s
 use Rattle.graphql_base.specs.contracts.name.InvalidNameErrorPartialEq.TheImpl as of_invalids
 use Rattle.graphql_base.specs.contracts.name.NameErrorPartialEq.TheImpl as of_errors
 use Rattle.graphql_base.specs.NameErrors.{AreSameInvalid, AreSameErrors}
+use Rattle.graphql_base.proofs.Stretches.{same_span}
 
 abbrev span_eq : SourceSpan → SourceSpan → Bool
 span_eq = of_spans.ghosts.eq
@@ -22,19 +21,11 @@ invalid_eq = of_invalids.ghosts.eq
 abbrev error_eq : NameError → NameError → Bool
 error_eq = of_errors.ghosts.eq
 
-same_numbers : (a b : SourceSpan) → a.file_id.number ≡ b.file_id.number → a.start ≡ b.start → a.end ≡ b.end → a ≡ b
-same_numbers a b file start end = λ i. record {
-  file_id = record { number = file i };
-  start = start i;
-  end = end i;
-  ordered = is_prop→PathP (λ j. start j ≤ end j) (λ j. le_prop) a.ordered b.ordered i;
-}
-
 numbers : (a b : SourceSpan) → span_eq a b ≡ true → (a.file_id.number ≡ b.file_id.number) × (a.start ≡ b.start) × (a.end ≡ b.end)
 numbers a b equal = search rules
 
 spans : (a b : SourceSpan) → Decides (span_eq a b) (a ≡ b)
-spans a b = (λ equal. let n = numbers a b equal in same_numbers a b n.0 n.1 n.2, λ same. search rules)
+spans a b = (λ equal. let n = numbers a b equal in same_span a b (λ i. record { number = n.0 i }) n.1 n.2, λ same. search rules)
 
 pub locations : (a b : Option SourceSpan) → Decides (option_eq span_eq a b) (a ≡ b)
 locations None None = search rules

@@ -6,4 +6,5 @@ pub mod Names
 pub mod Node
 pub mod NodeLoans
 pub mod Span
+pub mod Stretches
 pub mod Texts

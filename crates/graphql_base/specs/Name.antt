@@ -10,7 +10,7 @@ abbrev pub is_static_name : Name → Bool
 is_static_name name = name.text.is_static
 
 abbrev pub name_location : Name → Option SourceSpan
-name_location name = name.location
+name_location name = name.text.location
 
 -- a name just made of this text, static or shared: it has no location
 abbrev pub IsNewName : List ℕ → Bool → Name → Type 0

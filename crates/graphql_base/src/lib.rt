@@ -8,6 +8,8 @@
 #![tactic(auto)]
 
 pub mod laws;
+mod located_text;
+mod location;
 pub mod name;
 pub mod node;
 mod node_str;
@@ -15,4 +17,3 @@ mod shared;
 mod shared_text;
 pub mod span;
 mod static_text;
-mod text;

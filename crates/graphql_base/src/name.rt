@@ -5,8 +5,8 @@ ghost use Rattle.std.specs.List.{list_all};
 ghost use Rattle.std.specs.Rc.{rc_str_bytes};
 ghost use Rattle.graphql_base.specs.Names.{is_name, is_name_start, is_name_continue, begins_in};
 
+use crate::located_text::LocatedText;
 use crate::span::SourceSpan;
-use crate::text::Text;
 use std::alloc::{AllocError, Global};
 use std::fmt::{self, Debug, Display, Formatter, Write};
 use std::rc::RcStr;
@@ -27,9 +27,7 @@ use thiserror::Error;
 #[derive(Drop)]
 #[derive_where(PartialEq, Eq, PartialOrd, Ord, Hash)]
 pub struct Name {
-    text: Text,
-    #[derive_where(skip)]
-    location: Option<SourceSpan>,
+    text: LocatedText,
     pub ghost valid: { IsTrue (is_name text.bytes) },
 }
 
@@ -180,8 +178,7 @@ impl Name {
         ensures { IsNewName (rc_str_bytes text) false result }
     {
         Name {
-            text: Text::from_shared(text),
-            location: None,
+            text: LocatedText::from_shared(text),
         }
     }
 
@@ -192,8 +189,7 @@ impl Name {
         ensures { IsNewName text.now true result }
     {
         Name {
-            text: Text::from_static(text),
-            location: None,
+            text: LocatedText::from_static(text),
         }
     }
 
@@ -205,8 +201,7 @@ impl Name {
         ensures location { name_location result ≡ Some span }
     {
         Name {
-            text: self.text,
-            location: Some(span),
+            text: self.text.at(span),
         }
     }
 
@@ -214,7 +209,7 @@ impl Name {
     pub fn location(&self) -> Option<SourceSpan>
         ensures { result ≡ name_location self.now }
     {
-        self.location
+        self.text.location()
     }
 
     /// How many bytes the text has, which is also how many characters.
@@ -276,7 +271,6 @@ impl Clone for Name {
     fn clone(&self) -> Result<Name, AllocError> {
         Ok(Name {
             text: self.text.clone()?,
-            location: self.location,
         })
     }
 }

@@ -2,6 +2,7 @@
 ghost use Rattle.std.specs.Prelude.{◌≡◌, ◌⊎◌, ◌↔◌, IfOk, IfSome, IsTrue, None, Some};
 ghost use Rattle.graphql_base.specs.Span.{IsBuiltIn};
 
+use crate::location::Location;
 pub use crate::node_str::NodeStr;
 use crate::shared::Shared;
 use crate::span::{FileId, SourceSpan};
@@ -35,7 +36,7 @@ pub(crate) fn is_built_in(location: Option<SourceSpan>) -> bool
 pub struct Node<T> {
     value: Shared<T>,
     #[derive_where(skip)]
-    location: Option<SourceSpan>,
+    location: Location,
 }
 
 impl<T: Drop> Node<T> {
@@ -66,7 +67,7 @@ impl<T: Drop> Node<T> {
     {
         Ok(Node {
             value: Shared::new(alloc, value)?,
-            location,
+            location: Location::new(location),
         })
     }
 }
@@ -79,21 +80,21 @@ impl<T> Node<T> {
     pub fn same_location<U: Drop>(&self, alloc: Global, value: U) -> Result<Node<U>, AllocError>
         ensures { IfOk result (λ node. node ≡ node_at (node_location self.now) value) }
     {
-        Node::at(alloc, value, self.location)
+        Node::at(alloc, value, self.location())
     }
 
     /// The place where the value stands in a source text.
     pub fn location(&self) -> Option<SourceSpan>
         ensures { result ≡ node_location self.now }
     {
-        self.location
+        self.location.get()
     }
 
     /// Whether the node stands in `FileId::BUILT_IN`: there is a location, and that is its file.
     pub fn is_built_in(&self) -> bool
         ensures { IsTrue result ↔ IsBuiltIn (node_location self.now) }
     {
-        is_built_in(self.location)
+        is_built_in(self.location())
     }
 }
 
@@ -161,7 +162,7 @@ impl<T: Drop> Clone for Node<T> {
     fn clone(&self) -> Result<Node<T>, AllocError> {
         Ok(Node {
             value: self.value.clone()?,
-            location: self.location,
+            location: Location::new(self.location()),
         })
     }
 }

@@ -2,6 +2,7 @@
 ghost use Rattle.std.specs.Prelude.{◌≡◌, ◌↔◌, IfOk, IsTrue, IsUtf8, None, Some, string_bytes};
 ghost use Rattle.graphql_base.specs.Span.{IsBuiltIn};
 
+use crate::location::Location;
 use crate::node::{Node, is_built_in};
 use crate::shared_text::SharedText;
 use crate::span::SourceSpan;
@@ -17,7 +18,7 @@ use std::fmt::{self, Debug, Display, Formatter, Write};
 pub struct NodeStr {
     text: SharedText,
     #[derive_where(skip)]
-    location: Option<SourceSpan>,
+    location: Location,
     pub ghost valid: { ∥ IsUtf8 text ∥₁ },
 }
 
@@ -47,7 +48,7 @@ impl NodeStr {
     {
         Ok(NodeStr {
             text: SharedText::new(alloc, text)?,
-            location,
+            location: Location::new(location),
         })
     }
 
@@ -56,7 +57,7 @@ impl NodeStr {
     pub fn same_location<U: Drop>(&self, alloc: Global, value: U) -> Result<Node<U>, AllocError>
         ensures { IfOk result (λ node. node ≡ node_at (node_str_location self.now) value) }
     {
-        Node::at(alloc, value, self.location)
+        Node::at(alloc, value, self.location())
     }
 
     /// The text.
@@ -77,14 +78,14 @@ impl NodeStr {
     pub fn location(&self) -> Option<SourceSpan>
         ensures { result ≡ node_str_location self.now }
     {
-        self.location
+        self.location.get()
     }
 
     /// Whether the text stands in `FileId::BUILT_IN`: there is a location, and that is its file.
     pub fn is_built_in(&self) -> bool
         ensures { IsTrue result ↔ IsBuiltIn (node_str_location self.now) }
     {
-        is_built_in(self.location)
+        is_built_in(self.location())
     }
 }
 
@@ -94,7 +95,7 @@ impl Clone for NodeStr {
     fn clone(&self) -> Result<NodeStr, AllocError> {
         Ok(NodeStr {
             text: self.text.clone()?,
-            location: self.location,
+            location: Location::new(self.location()),
         })
     }
 }

@@ -1,0 +1,5 @@
+use Rattle.graphql_base.proofs.Stretches.{answered}
+use Rattle.graphql_base.proofs.located_text.stretch_of_text.Goals as goal
+
+pub returns : goal.returns
+returns c = let new = c.new.ensures in answered _ _ _ c.new.result new.ordered new.file_id new.start new.end

@@ -11,5 +11,6 @@ mod literal;
 mod operation_type;
 mod prints;
 mod refusals;
+mod sizes;
 mod types;
 mod value;

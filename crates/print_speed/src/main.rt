@@ -1,18 +1,24 @@
-//! `print_speed TREE COUNT ROUNDS LAYOUT TARGET` prints a tree of values again and again, so that the cost of a print can be
-//! measured: the instructions of one print are those of a run with one round more, less those of the other.
+//! `print_speed TREE COUNT ROUNDS LAYOUT TARGET NAMES LISTS` builds a tree of values and prints it again and again, so that the cost
+//! of a print, and of a tree, can be measured: the instructions of one print are those of a run with one round more, less those of
+//! the other.
 //!
-//! The tree is `objects` (a list of COUNT objects with values of every kind) or `texts` (a list of COUNT plain strings of 80
-//! bytes); the layout `default`, `one_line` or `two_tabs`, which has the bytes of the default layout with two tabs for each prefix;
-//! the target `text` or `sink`. It prints the bytes of one print.
+//! - TREE: `objects` (a list of COUNT objects with values of every kind), `texts` (a list of COUNT plain strings of 80 bytes) or
+//!   `nested` (COUNT lists in one another).
+//! - LAYOUT: `default`, `one_line`, or `two_tabs`, which has the bytes of the default layout with two tabs for each prefix.
+//! - TARGET: `text`, `sink` (a `VecSink`) or `stream` (a `StreamSink` over a vector).
+//! - NAMES: `own` (each has memory of its own), `shared` (equal ones share it) or `static`.
+//! - LISTS: `grown` (by pushes) or `exact` (with room for what they hold, and no more).
+//!
+//! It prints the bytes of one print.
 #![tactic(auto)]
 
 mod trees;
 
-use crate::trees::{objects, texts};
+use crate::trees::{Builder, Naming};
 use graphql_text::engine::{PrintError, Serialize};
-use graphql_text::sink::VecSink;
+use graphql_text::sink::{StreamSink, VecSink};
 use graphql_values::value::Value;
-use std::alloc::Global;
+use std::alloc::{AllocError, Global};
 use std::env::Env;
 use std::process::ExitCode;
 use thiserror::Error;
@@ -20,7 +26,7 @@ use thiserror::Error;
 /// Why nothing was printed.
 #[derive(Debug, Drop, Error)]
 enum SpeedError {
-    #[error("usage: print_speed objects|texts COUNT ROUNDS default|one_line|two_tabs text|sink")]
+    #[error("usage: print_speed objects|texts|nested COUNT ROUNDS default|one_line|two_tabs text|sink|stream own|shared|static grown|exact")]
     Usage,
     #[error("out of memory")]
     Memory,
@@ -28,7 +34,15 @@ enum SpeedError {
     Print(PrintError),
 }
 
-/// How the tree is laid out.
+/// What is printed.
+#[derive(Clone, Copy)]
+enum Tree {
+    Objects,
+    Texts,
+    Nested,
+}
+
+/// How it is laid out.
 #[derive(Clone, Copy)]
 enum Layout {
     Default,
@@ -36,14 +50,24 @@ enum Layout {
     TwoTabs,
 }
 
+/// What it is printed to.
+#[derive(Clone, Copy)]
+enum Target {
+    Text,
+    Sink,
+    Stream,
+}
+
 /// What is built, and how often it is printed to what.
-#[derive(Drop)]
+#[derive(Clone, Copy)]
 struct Task {
-    of_objects: bool,
+    tree: Tree,
     count: usize,
     rounds: usize,
     layout: Layout,
-    into_sink: bool,
+    target: Target,
+    naming: Naming,
+    exact: bool,
 }
 
 /// The word at a place after the program's name, in a buffer.
@@ -52,28 +76,16 @@ fn word<'b, R: Env>(env: &R, place: usize, buffer: &'b mut [u8]) -> Option<&'b s
     str::from_utf8(&buffer[..len]).ok()
 }
 
-/// Which of two words stands at a place.
-fn is_second<R: Env>(env: &R, place: usize, first: &str, second: &str) -> Option<bool> {
+/// Which of some words stands at a place.
+fn choice<R: Env, T: Copy>(env: &R, place: usize, choices: &[(&str, T)]) -> Option<T> {
     let mut buffer = [0u8; 16];
     let word = word(env, place, &mut buffer)?;
-    if word == second {
-        Some(true)
-    } else if word == first {
-        Some(false)
-    } else {
-        None
+    for (name, value) in choices {
+        if *name == word {
+            return Some(*value);
+        }
     }
-}
-
-/// The layout at a place.
-fn read_layout<R: Env>(env: &R, place: usize) -> Option<Layout> {
-    let mut buffer = [0u8; 16];
-    match word(env, place, &mut buffer)? {
-        "default" => Some(Layout::Default),
-        "one_line" => Some(Layout::OneLine),
-        "two_tabs" => Some(Layout::TwoTabs),
-        _ => None,
-    }
+    None
 }
 
 /// The number at a place.
@@ -82,14 +94,51 @@ fn number<R: Env>(env: &R, place: usize) -> Option<usize> {
     word(env, place, &mut buffer)?.parse().ok()
 }
 
+const TREES: [(&str, Tree); 3] = [
+    ("objects", Tree::Objects),
+    ("texts", Tree::Texts),
+    ("nested", Tree::Nested),
+];
+
+const LAYOUTS: [(&str, Layout); 3] = [
+    ("default", Layout::Default),
+    ("one_line", Layout::OneLine),
+    ("two_tabs", Layout::TwoTabs),
+];
+
+const TARGETS: [(&str, Target); 3] = [
+    ("text", Target::Text),
+    ("sink", Target::Sink),
+    ("stream", Target::Stream),
+];
+
+const NAMES: [(&str, Naming); 3] = [
+    ("own", Naming::Own),
+    ("shared", Naming::Shared),
+    ("static", Naming::Static),
+];
+
+const LISTS: [(&str, bool); 2] = [("grown", false), ("exact", true)];
+
 fn read_task<R: Env>(env: &R) -> Option<Task> {
     Some(Task {
-        of_objects: is_second(env, 1, "texts", "objects")?,
+        tree: choice(env, 1, &TREES)?,
         count: number(env, 2)?,
         rounds: number(env, 3)?,
-        layout: read_layout(env, 4)?,
-        into_sink: is_second(env, 5, "text", "sink")?,
+        layout: choice(env, 4, &LAYOUTS)?,
+        target: choice(env, 5, &TARGETS)?,
+        naming: choice(env, 6, &NAMES)?,
+        exact: choice(env, 7, &LISTS)?,
     })
+}
+
+fn build(alloc: Global, task: &Task) -> Result<Value, AllocError> {
+    let mut builder = Builder::new(alloc, task.naming, task.exact);
+    match task.tree {
+        Tree::Objects => builder.objects(task.count),
+        Tree::Texts => builder.texts(task.count),
+        Tree::Nested => builder.nested(task.count),
+    }
 }
 
 /// The tree in a layout.
@@ -105,30 +154,31 @@ fn print_in(layout: Layout, tree: &Value) -> Serialize<'_, Value> {
 fn print_once(
     alloc: Global,
     print: &Serialize<'_, Value>,
-    into_sink: bool,
+    target: Target,
 ) -> Result<usize, PrintError> {
-    if into_sink {
-        let mut sink = VecSink::new(alloc);
-        print.print_to(&mut sink)?;
-        Ok(sink.bytes().len())
-    } else {
-        Ok(print.to_text(alloc)?.len())
+    match target {
+        Target::Text => Ok(print.to_text(alloc)?.len()),
+        Target::Sink => {
+            let mut sink = VecSink::new(alloc);
+            print.print_to(&mut sink)?;
+            Ok(sink.bytes().len())
+        }
+        Target::Stream => {
+            let mut sink = StreamSink::new(Vec::new(alloc));
+            print.print_to(&mut sink)?;
+            Ok(sink.into_inner().len())
+        }
     }
 }
 
 fn run(alloc: Global, task: &Task) -> Result<usize, SpeedError> {
-    let tree = if task.of_objects {
-        objects(alloc, task.count)
-    } else {
-        texts(alloc, task.count)
-    };
-    let Ok(tree) = tree else {
+    let Ok(tree) = build(alloc, task) else {
         return Err(SpeedError::Memory);
     };
     let print = print_in(task.layout, &tree);
     let mut bytes = 0;
     for _ in 0..task.rounds {
-        bytes = print_once(alloc, &print, task.into_sink).map_err(SpeedError::Print)?;
+        bytes = print_once(alloc, &print, task.target).map_err(SpeedError::Print)?;
     }
     Ok(bytes)
 }

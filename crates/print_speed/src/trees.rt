@@ -1,158 +1,223 @@
 //! The trees that are printed.
+ghost use Rattle.std.specs.Prelude.{IsTrue};
+ghost use Rattle.graphql_base.specs.Names.{is_name};
+
 use graphql_base::name::Name;
 use graphql_base::node::Node;
 use graphql_values::literal::FloatValue;
 use graphql_values::value::Value;
 use std::alloc::{AllocError, Global};
 
+type Items = Vec<Node<Value>>;
+
 type Fields = Vec<(Name, Node<Value>)>;
 
-fn push(alloc: Global, items: &mut Vec<Node<Value>>, value: Value) -> Result<(), AllocError> {
-    items.push(Node::new(alloc, value)?)?;
-    Ok(())
+/// How the names of a tree keep their texts.
+#[derive(Clone, Copy, PartialEq)]
+pub enum Naming {
+    /// Each in memory of its own.
+    Own,
+    /// Each shares its text with all names that are equal to it.
+    Shared,
+    /// Each over a static text.
+    Static,
 }
 
-fn push_field(
+/// What makes the trees.
+#[derive(Drop)]
+pub struct Builder {
     alloc: Global,
-    fields: &mut Fields,
-    name: Name,
-    value: Value,
-) -> Result<(), AllocError> {
-    fields.push((name, Node::new(alloc, value)?))?;
-    Ok(())
+    naming: Naming,
+    /// Whether lists and objects reserve room for all that they will hold, and no more.
+    exact: bool,
+    /// The names that are shared.
+    names: Vec<Name>,
 }
 
-/// The digits of a number.
-fn int(alloc: Global, number: usize) -> Result<Value, AllocError> {
-    Value::from_i32(alloc, (number % 1_000_000) as i32)
-}
-
-/// Three numbers from one on.
-fn row(alloc: Global, from: usize) -> Result<Value, AllocError> {
-    let mut items = Vec::new(alloc);
-    for number in from..from.saturating_add(3) {
-        push(alloc, &mut items, int(alloc, number)?)?;
+impl Builder {
+    pub fn new(alloc: Global, naming: Naming, exact: bool) -> Builder {
+        Builder {
+            alloc,
+            naming,
+            exact,
+            names: Vec::new(alloc),
+        }
     }
-    Ok(Value::List(items))
-}
 
-/// A matrix of two rows.
-fn matrix(alloc: Global) -> Result<Value, AllocError> {
-    let mut rows = Vec::new(alloc);
-    push(alloc, &mut rows, row(alloc, 1)?)?;
-    push(alloc, &mut rows, row(alloc, 4)?)?;
-    Ok(Value::List(rows))
-}
-
-/// Two strings and an enum value.
-fn tags(alloc: Global) -> Result<Value, AllocError> {
-    let mut tags = Vec::new(alloc);
-    push(alloc, &mut tags, Value::from_text(alloc, "alpha")?)?;
-    push(alloc, &mut tags, Value::from_text(alloc, "beta")?)?;
-    let gamma = Name::new_unchecked(alloc, "GAMMA")?;
-    push(alloc, &mut tags, Value::Enum(gamma))?;
-    Ok(Value::List(tags))
-}
-
-/// An object with a float, an int, and a string with characters to escape.
-fn position(alloc: Global, number: usize) -> Result<Value, AllocError> {
-    let mut fields = Vec::new(alloc);
-    let x = Name::new_unchecked(alloc, "x")?;
-    push_field(
-        alloc,
-        &mut fields,
-        x,
-        Value::Float(FloatValue::new_parsed(alloc, "1.5")?),
-    )?;
-    let y = Name::new_unchecked(alloc, "y")?;
-    push_field(alloc, &mut fields, y, int(alloc, number.wrapping_mul(7))?)?;
-    push_label(alloc, &mut fields)?;
-    Ok(Value::Object(fields))
-}
-
-fn push_label(alloc: Global, fields: &mut Fields) -> Result<(), AllocError> {
-    let label = Name::new_unchecked(alloc, "label")?;
-    push_field(alloc, fields, label, Value::from_text(alloc, "say \"hi\"")?)
-}
-
-/// The fields of an object up to its flag.
-fn push_first(alloc: Global, fields: &mut Fields, number: usize) -> Result<(), AllocError> {
-    let id = Name::new_unchecked(alloc, "id")?;
-    push_field(alloc, fields, id, int(alloc, number)?)?;
-    let kind = Name::new_unchecked(alloc, "kind")?;
-    push_field(
-        alloc,
-        fields,
-        kind,
-        Value::Enum(Name::new_unchecked(alloc, "EXAMPLE_KIND")?),
-    )?;
-    push_title(alloc, fields, number)
-}
-
-fn push_title(alloc: Global, fields: &mut Fields, number: usize) -> Result<(), AllocError> {
-    let name = Name::new_unchecked(alloc, "name")?;
-    let title = format!(in alloc; "item number {number}")?;
-    push_field(alloc, fields, name, Value::String(title))?;
-    let active = Name::new_unchecked(alloc, "active")?;
-    push_field(alloc, fields, active, Value::Boolean(number % 2 == 0))
-}
-
-/// The lists and the object of an object.
-fn push_groups(alloc: Global, fields: &mut Fields, number: usize) -> Result<(), AllocError> {
-    let tags_name = Name::new_unchecked(alloc, "tags")?;
-    push_field(alloc, fields, tags_name, tags(alloc)?)?;
-    let position_name = Name::new_unchecked(alloc, "position")?;
-    push_field(alloc, fields, position_name, position(alloc, number)?)?;
-    let matrix_name = Name::new_unchecked(alloc, "matrix")?;
-    push_field(alloc, fields, matrix_name, matrix(alloc)?)
-}
-
-/// The fields of an object from its variable on.
-fn push_last(alloc: Global, fields: &mut Fields) -> Result<(), AllocError> {
-    let reference = Name::new_unchecked(alloc, "ref")?;
-    push_field(
-        alloc,
-        fields,
-        reference,
-        Value::Variable(Name::new_unchecked(alloc, "v")?),
-    )?;
-    let none = Name::new_unchecked(alloc, "none")?;
-    push_field(alloc, fields, none, Value::Null)?;
-    let note = Name::new_unchecked(alloc, "note")?;
-    push_field(alloc, fields, note, plain_text(alloc)?)
-}
-
-/// A string of 80 bytes, of which none is escaped.
-fn plain_text(alloc: Global) -> Result<Value, AllocError> {
-    Value::from_text(
-        alloc,
-        "A note of some length, which has neither quotes nor escapes in it; it ends here.",
-    )
-}
-
-/// An object with ten fields.
-fn object(alloc: Global, number: usize) -> Result<Value, AllocError> {
-    let mut fields = Vec::new(alloc);
-    push_first(alloc, &mut fields, number)?;
-    push_groups(alloc, &mut fields, number)?;
-    push_last(alloc, &mut fields)?;
-    Ok(Value::Object(fields))
-}
-
-/// A list of such objects.
-pub fn objects(alloc: Global, count: usize) -> Result<Value, AllocError> {
-    let mut items = Vec::new(alloc);
-    for number in 0..count {
-        push(alloc, &mut items, object(alloc, number)?)?;
+    fn name(&mut self, text: &'static str) -> Result<Name, AllocError>
+        requires { IsTrue (is_name text.now) }
+    {
+        match self.naming {
+            Naming::Own => Name::new_unchecked(self.alloc, text),
+            Naming::Shared => self.shared_name(text),
+            Naming::Static => Ok(Name::new_static_unchecked(text)),
+        }
     }
-    Ok(Value::List(items))
-}
 
-/// A list of plain strings.
-pub fn texts(alloc: Global, count: usize) -> Result<Value, AllocError> {
-    let mut items = Vec::new(alloc);
-    for _ in 0..count {
-        push(alloc, &mut items, plain_text(alloc)?)?;
+    fn shared_name(&mut self, text: &str) -> Result<Name, AllocError>
+        requires { IsTrue (is_name text.now) }
+    {
+        for name in &self.names {
+            if name.as_str() == text {
+                return name.clone();
+            }
+        }
+        let name = Name::new_unchecked(self.alloc, text)?;
+        self.names.push(name.clone()?)?;
+        Ok(name)
     }
-    Ok(Value::List(items))
+
+    fn items(&self, count: usize) -> Result<Items, AllocError> {
+        if self.exact {
+            Vec::with_capacity(self.alloc, count)
+        } else {
+            Ok(Vec::new(self.alloc))
+        }
+    }
+
+    fn fields(&self, count: usize) -> Result<Fields, AllocError> {
+        if self.exact {
+            Vec::with_capacity(self.alloc, count)
+        } else {
+            Ok(Vec::new(self.alloc))
+        }
+    }
+
+    fn push(&self, items: &mut Items, value: Value) -> Result<(), AllocError> {
+        items.push(Node::new(self.alloc, value)?)?;
+        Ok(())
+    }
+
+    fn push_field(
+        &mut self,
+        fields: &mut Fields,
+        name: &'static str,
+        value: Value,
+    ) -> Result<(), AllocError>
+        requires { IsTrue (is_name name.now) }
+    {
+        fields.push((self.name(name)?, Node::new(self.alloc, value)?))?;
+        Ok(())
+    }
+
+    /// The digits of a number.
+    fn int(&self, number: usize) -> Result<Value, AllocError> {
+        Value::from_i32(self.alloc, (number % 1_000_000) as i32)
+    }
+
+    /// Three numbers from one on.
+    fn row(&self, from: usize) -> Result<Value, AllocError> {
+        let mut items = self.items(3)?;
+        for number in from..from.saturating_add(3) {
+            self.push(&mut items, self.int(number)?)?;
+        }
+        Ok(Value::List(items))
+    }
+
+    /// A matrix of two rows.
+    fn matrix(&self) -> Result<Value, AllocError> {
+        let mut rows = self.items(2)?;
+        self.push(&mut rows, self.row(1)?)?;
+        self.push(&mut rows, self.row(4)?)?;
+        Ok(Value::List(rows))
+    }
+
+    /// Two strings and an enum value.
+    fn tags(&mut self) -> Result<Value, AllocError> {
+        let mut tags = self.items(3)?;
+        self.push(&mut tags, Value::from_text(self.alloc, "alpha")?)?;
+        self.push(&mut tags, Value::from_text(self.alloc, "beta")?)?;
+        let gamma = self.name("GAMMA")?;
+        self.push(&mut tags, Value::Enum(gamma))?;
+        Ok(Value::List(tags))
+    }
+
+    /// An object with a float, an int, and a string with characters to escape.
+    fn position(&mut self, number: usize) -> Result<Value, AllocError> {
+        let mut fields = self.fields(3)?;
+        let x = FloatValue::new_parsed(self.alloc, "1.5")?;
+        self.push_field(&mut fields, "x", Value::Float(x))?;
+        let y = self.int(number.wrapping_mul(7))?;
+        self.push_field(&mut fields, "y", y)?;
+        let label = Value::from_text(self.alloc, "say \"hi\"")?;
+        self.push_field(&mut fields, "label", label)?;
+        Ok(Value::Object(fields))
+    }
+
+    /// The fields of an object up to its flag.
+    fn push_first(&mut self, fields: &mut Fields, number: usize) -> Result<(), AllocError> {
+        let id = self.int(number)?;
+        self.push_field(fields, "id", id)?;
+        let kind = self.name("EXAMPLE_KIND")?;
+        self.push_field(fields, "kind", Value::Enum(kind))?;
+        let title = format!(in self.alloc; "item number {number}")?;
+        self.push_field(fields, "name", Value::String(title))?;
+        self.push_field(fields, "active", Value::Boolean(number % 2 == 0))
+    }
+
+    /// The lists and the object of an object.
+    fn push_groups(&mut self, fields: &mut Fields, number: usize) -> Result<(), AllocError> {
+        let tags = self.tags()?;
+        self.push_field(fields, "tags", tags)?;
+        let position = self.position(number)?;
+        self.push_field(fields, "position", position)?;
+        let matrix = self.matrix()?;
+        self.push_field(fields, "matrix", matrix)
+    }
+
+    /// The fields of an object from its variable on.
+    fn push_last(&mut self, fields: &mut Fields) -> Result<(), AllocError> {
+        let variable = self.name("v")?;
+        self.push_field(fields, "ref", Value::Variable(variable))?;
+        self.push_field(fields, "none", Value::Null)?;
+        let note = self.plain_text()?;
+        self.push_field(fields, "note", note)
+    }
+
+    /// A string of 80 bytes, of which none is escaped.
+    fn plain_text(&self) -> Result<Value, AllocError> {
+        Value::from_text(
+            self.alloc,
+            "A note of some length, which has neither quotes nor escapes in it; it ends here.",
+        )
+    }
+
+    /// An object with ten fields.
+    fn object(&mut self, number: usize) -> Result<Value, AllocError> {
+        let mut fields = self.fields(10)?;
+        self.push_first(&mut fields, number)?;
+        self.push_groups(&mut fields, number)?;
+        self.push_last(&mut fields)?;
+        Ok(Value::Object(fields))
+    }
+
+    /// A list of such objects.
+    pub fn objects(&mut self, count: usize) -> Result<Value, AllocError> {
+        let mut items = self.items(count)?;
+        for number in 0..count {
+            let object = self.object(number)?;
+            self.push(&mut items, object)?;
+        }
+        Ok(Value::List(items))
+    }
+
+    /// A list of plain strings.
+    pub fn texts(&self, count: usize) -> Result<Value, AllocError> {
+        let mut items = self.items(count)?;
+        for _ in 0..count {
+            self.push(&mut items, self.plain_text()?)?;
+        }
+        Ok(Value::List(items))
+    }
+
+    /// As many lists, each the one item of the one around it.
+    pub fn nested(&self, count: usize) -> Result<Value, AllocError> {
+        let mut value = Value::Null;
+        for _ in 0..count {
+            let mut items = self.items(1)?;
+            self.push(&mut items, value)?;
+            value = Value::List(items);
+        }
+        Ok(value)
+    }
 }

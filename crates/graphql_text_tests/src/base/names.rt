@@ -128,6 +128,17 @@ fn a_name_has_a_location(rt: HostRuntime) {
     assert_eq!(rt; copy.as_ref(), &name);
 }
 
+/// It stays static, and so does a clone.
+#[test]
+fn a_static_name_has_a_location(rt: HostRuntime) {
+    let span = span().expect(&rt, "in order");
+    assert_eq!(rt; span.len(), 3);
+    let name = name!(abc).with_location(span);
+    let copy = name.clone().expect(&rt, "memory");
+    assert_eq!(rt; copy.as_static_str(), Some("abc"));
+    assert_eq!(rt; copy.location(), Some(span));
+}
+
 #[test]
 fn a_location_is_no_part_of_the_name(rt: HostRuntime) {
     let name = placed(&rt, rt.alloc());

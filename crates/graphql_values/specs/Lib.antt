@@ -18,6 +18,8 @@ pub mod TypeTrees
 pub mod DirectiveTrees
 pub mod LocationTrees
 pub mod DefinitionTrees
+-- how a number's text is kept
+pub mod Numerals
 -- what calls answer and lend
 pub mod ValueQueries
 pub mod Queries

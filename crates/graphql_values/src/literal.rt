@@ -6,17 +6,17 @@ ghost use Rattle.std.specs.Result.{OkIff};
 ghost use Rattle.graphql_text.specs.Literals.{is_float, is_int};
 
 use crate::number_syntax::{is_float, is_int};
-use crate::owned_text::OwnedText;
+use crate::numeral::Numeral;
 use std::alloc::{AllocError, Global};
 use std::fmt::{self, Debug, Display, Formatter, Write};
 use std::num::ParseIntError;
 
 /// The text of an integer (`IntValue`, section 2.9.1). It may be too great for any integer type. Two are equal
-/// exactly if their texts are.
+/// exactly if their texts are. A text of at most 30 bytes takes no memory.
 #[derive_where(PartialEq, Eq, Hash)]
 #[derive(Debug, Drop)]
 pub struct IntValue {
-    numeral: OwnedText,
+    numeral: Numeral,
     pub ghost valid: { IsTrue (is_int numeral) },
 }
 
@@ -38,7 +38,7 @@ impl IntValue {
         ensures { IfOk result (λ int. int_text int ≡ text.now) }
     {
         Ok(IntValue {
-            numeral: OwnedText::new(String::from_str(alloc, text)?),
+            numeral: Numeral::new(alloc, text)?,
         })
     }
 
@@ -49,8 +49,9 @@ impl IntValue {
         ensures text { IfOk result (λ int. int_text int ≡ signed_decimal number) }
         ensures number { IfOk result (λ int. int_number int ≡ number) }
     {
+        let mut buffer = itoa::Buffer::new();
         Ok(IntValue {
-            numeral: OwnedText::new(number.to_string(alloc)?),
+            numeral: Numeral::new(alloc, buffer.format(number))?,
         })
     }
 
@@ -91,11 +92,11 @@ impl Display for IntValue {
 }
 
 /// The text of a number with a fraction, an exponent or both (`FloatValue`, section 2.9.2). Two are equal exactly if
-/// their texts are.
+/// their texts are. A text of at most 30 bytes takes no memory.
 #[derive_where(PartialEq, Eq, Hash)]
 #[derive(Debug, Drop)]
 pub struct FloatValue {
-    text: OwnedText,
+    text: Numeral,
     pub ghost valid: { IsTrue (is_float text) },
 }
 
@@ -119,7 +120,7 @@ impl FloatValue {
         ensures { IfOk result (λ float. float_text float ≡ text.now) }
     {
         Ok(FloatValue {
-            text: OwnedText::new(String::from_str(alloc, text)?),
+            text: Numeral::new(alloc, text)?,
         })
     }
 

@@ -9,10 +9,10 @@ use Rattle.graphql_values.proofs.literal.IntValue.from_i32.Goals as goal
 
 pub invariant_of-result : goal.invariant_of-result
 invariant_of-result c =
-    let written = c.new.ensures ∙ c.in_ok-to_string.ensures.ok ∙ ap signed_decimal (to_z-of_z w32 c.args.number c.ranges.number) in
+    let written = c.in_ok-new.ensures.text ∙ c.format.ensures.text ∙ ap signed_decimal (to_z-of_z w32 c.args.number c.ranges.number) in
     record { valid = subst (λ text. IsTrue (is_int text)) (sym written) (decimal_int c.args.number (omega (arith, c.ranges.number.sfits))) }
 
 pub returns-clause-number : goal.returns-clause-number
 returns-clause-number c =
-    let written = c.new.ensures ∙ c.in_ok-to_string.ensures.ok ∙ ap signed_decimal (to_z-of_z w32 c.args.number c.ranges.number) in
+    let written = c.in_ok-new.ensures.text ∙ c.format.ensures.text ∙ ap signed_decimal (to_z-of_z w32 c.args.number c.ranges.number) in
     subst (λ text. signed_digits_value 10 text ≡ c.args.number) (sym written) (decimal_number c.args.number (omega (arith, c.ranges.number.sfits)))

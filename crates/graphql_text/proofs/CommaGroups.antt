@@ -1,10 +1,11 @@
 -- Comma groups are written item by item, in any mode.
-use Rattle.std.proofs.Common.{◌≡◌, ℕ, ◌+◌, Bool, true, false, List, [], ◌∷◌, ◌++◌, Option, refl, sym}
+use Rattle.std.proofs.Common.{◌≡◌, ℕ, ◌+◌, Bool, true, false, List, [], ◌∷◌, ◌++◌, Option, refl, sym, ◌∙◌, append_assoc, append-nil}
 use Rattle.graphql_text.specs.Groups.{comma_lead, comma_rest}
 use Rattle.graphql_text.specs.Layout.{Item, Word, Raise, Lower, Tight, last_comma}
 use Rattle.graphql_text.specs.Tokens.{Punctuator, Punctuation}
 use Rattle.graphql_text.specs.Writing.{WritesBeginning, WritesItems}
-use Rattle.graphql_text.proofs.WritingLaws.{beginning_all, beginning_next, beginning_none, levels_lower, levels_raise, writes_levels}
+use Rattle.graphql_text.proofs.CommaEnds.{levels_end}
+use Rattle.graphql_text.proofs.WritingLaws.{beginning_all, beginning_next, beginning_none, levels_lower, levels_raise, writes_levels, writes_then}
 
 module _ {O : Type 0} {wrote : O → List ℕ → O → Type 0} (more : (a b c : O) (x y : List ℕ) → wrote a x b → wrote b y c → wrote a (x ++ y) c) where
   -- what leads to an item was written, and the item
@@ -28,3 +29,12 @@ module _ {O : Type 0} {wrote : O → List ℕ → O → Type 0} (nothing : (a : 
   comma_closed closing broken front none level comma tight bracket =
       let lowered = beginning_next more (beginning_next more front none (writes_levels comma)) refl (levels_lower nothing (sym level)) in
       beginning_all (beginning_next more (beginning_next more lowered refl (writes_levels tight)) refl (writes_levels bracket)) refl refl
+
+  -- the same, where the comma and the break are one piece
+  pub comma_ended : {a b c d : O} {mode : Option (List ℕ)} {v v' : ℕ} {all rest : List Item} (closing : Punctuator) (broken : Bool) →
+      WritesBeginning wrote a b mode v all v' rest → rest ≡ last_comma broken ++ (Lower ∷ Tight ∷ Word (Punctuation closing) ∷ []) → v' ≡ v + 1 →
+      WritesItems wrote b c mode v (last_comma broken ++ (Tight ∷ [])) → WritesItems wrote c d mode v (Word (Punctuation closing) ∷ []) →
+      WritesItems wrote a d mode v all
+  comma_ended closing broken front none level end bracket =
+      let closed = rw append_assoc at (writes_then more end bracket) in
+      beginning_all (beginning_next more front (none ∙ sym (append-nil _)) (levels_end broken _ (sym level) closed)) refl refl

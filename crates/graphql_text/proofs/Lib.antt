@@ -8,6 +8,7 @@ pub mod Quotes
 pub mod Complete
 pub mod CommaGroups
 pub mod CommaLeads
+pub mod CommaEnds
 pub mod CurlyGroups
 pub mod JoinedNames
 pub mod Compose
@@ -44,7 +45,9 @@ pub mod Telling
 pub mod FixedText
 pub mod GroupLaws
 pub mod QuoteScans
+pub mod PlainCharacters
 pub mod Runs
+pub mod Pieces
 pub mod SplitLines
 pub mod StringTexts
 pub mod Headline

@@ -120,7 +120,7 @@ fn write_line<O: Target>(out: &mut O, prefix: &str, level: usize, line: &str)
     if line.is_empty() {
         return out.text("\n");
     }
-    line_break(out, prefix, level);
+    line_break(out, prefix, prefix == "  ", level);
     write_escaped(out, line);
 }
 
@@ -135,7 +135,7 @@ fn write_over_lines<O: Target>(out: &mut O, prefix: &str, level: usize, value: &
         }
         write_line(out, prefix, level, line);
     }
-    line_break(out, prefix, level);
+    line_break(out, prefix, prefix == "  ", level);
     out.text("\"\"\"");
 }
 

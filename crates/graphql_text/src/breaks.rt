@@ -1,6 +1,6 @@
 //! Line breaks, and the prefix that lines begin with.
 
-ghost use Rattle.std.specs.Prelude.{◌≡◌, ◌↔◌, ◌≤◌, ◌++◌, IsSome, IsTrue, MatchOption, ⊤, chars, codes, encode_utf8_all};
+ghost use Rattle.std.specs.Prelude.{◌≡◌, ◌≤◌, ◌++◌, IsSome, IsTrue, MatchOption, ⊤, chars, codes, encode_utf8_all};
 ghost use Rattle.std.specs.List.{repeat};
 ghost use Rattle.graphql_text.specs.Layout.{break_text};
 ghost use Rattle.graphql_text.specs.declared.breaks.TheConstants.{READY_LEVELS};
@@ -12,12 +12,6 @@ const READY_LEVELS: usize = 30;
 
 /// A comma, a line feed and the spaces of a level more than that.
 const COMMA_AND_SPACES: &str = ",\n                                                              ";
-
-fn is_two_spaces(prefix: &str) -> bool
-    ensures { IsTrue result ↔ (prefix.now ≡ codes "  ") }
-{
-    prefix == "  "
-}
 
 /// A break under a prefix of two spaces.
 fn two_space_break(level: usize) -> &'static str
@@ -53,10 +47,11 @@ pub(crate) fn indent<O: Target>(out: &mut O, prefix: &str, level: usize)
 
 /// A line feed, and the prefix as often as the level, where that is a text at hand.
 #[inline(always)]
-fn ready_break(prefix: &str, level: usize) -> Option<&'static str>
+fn ready_break(prefix: &str, is_two_spaces: bool, level: usize) -> Option<&'static str>
+    requires { IsTrue is_two_spaces → prefix.now ≡ codes "  " }
     ensures { MatchOption result ⊤ (λ text. text.now ≡ encode_utf8_all (break_text (chars prefix.now) level)) }
 {
-    if is_two_spaces(prefix) && level <= READY_LEVELS {
+    if is_two_spaces && level <= READY_LEVELS {
         Some(two_space_break(level))
     } else {
         None
@@ -64,12 +59,18 @@ fn ready_break(prefix: &str, level: usize) -> Option<&'static str>
 }
 
 /// A comma, a line feed, and the prefix as often as the level, where that is a text at hand.
-pub(crate) fn ready_comma_break(prefix: &str, level: usize) -> Option<&'static str>
+#[inline(always)]
+pub(crate) fn ready_comma_break(
+    prefix: &str,
+    is_two_spaces: bool,
+    level: usize,
+) -> Option<&'static str>
+    requires { IsTrue is_two_spaces → prefix.now ≡ codes "  " }
     ensures text { MatchOption result ⊤ (λ text.
         text.now ≡ codes "," ++ encode_utf8_all (break_text (chars prefix.now) level)) }
-    ensures ready { prefix.now ≡ codes "  " → level ≤ READY_LEVELS → IsSome result }
+    ensures ready { IsTrue is_two_spaces → level ≤ READY_LEVELS → IsSome result }
 {
-    if is_two_spaces(prefix) && level <= READY_LEVELS {
+    if is_two_spaces && level <= READY_LEVELS {
         Some(two_space_comma_break(level))
     } else {
         None
@@ -85,27 +86,23 @@ fn write_break<O: Target>(out: &mut O, prefix: &str, level: usize)
     indent(out, prefix, level);
 }
 
-/// Writes a line feed, and the prefix as often as the level.
-#[inline(always)]
-pub(crate) fn line_break<O: Target>(out: &mut O, prefix: &str, level: usize)
-    ensures { O.wrote out.old (encode_utf8_all (break_text (chars prefix.now) level)) out.new }
-{
-    match ready_break(prefix, level) {
-        Some(text) => out.text(text),
-        None => write_break(out, prefix, level),
-    }
-}
-
-/// Writes a comma, a line feed, and the prefix as often as the level.
+/// Writes a comma, a line feed, and the prefix as often as the level, one by one.
 #[inline(never)]
 pub(crate) fn comma_break<O: Target>(out: &mut O, prefix: &str, level: usize)
     ensures { O.wrote out.old (codes "," ++ encode_utf8_all (break_text (chars prefix.now) level)) out.new }
 {
-    match ready_comma_break(prefix, level) {
+    out.text(",\n");
+    indent(out, prefix, level);
+}
+
+/// Writes a line feed, and the prefix as often as the level.
+#[inline(always)]
+pub(crate) fn line_break<O: Target>(out: &mut O, prefix: &str, is_two_spaces: bool, level: usize)
+    requires { IsTrue is_two_spaces → prefix.now ≡ codes "  " }
+    ensures { O.wrote out.old (encode_utf8_all (break_text (chars prefix.now) level)) out.new }
+{
+    match ready_break(prefix, is_two_spaces, level) {
         Some(text) => out.text(text),
-        None => {
-            out.text(",\n");
-            indent(out, prefix, level);
-        }
+        None => write_break(out, prefix, level),
     }
 }

@@ -175,10 +175,7 @@ impl<'a, T: Syntax> Serialize<'a, T> {
         ensures mode { mode_of result.prefix ≡ print_mode self.now }
         ensures level { result.level ≡ print_level self.now }
     {
-        Place {
-            prefix: self.prefix,
-            level: self.level,
-        }
+        Place::new(self.prefix, self.level)
     }
 
     /// Prints into a sink.

@@ -1,14 +1,38 @@
 //! Where a writer stands.
-ghost use Rattle.std.specs.Prelude.{◌≡◌, ◌+◌, ◌-◌, ◌<◌, ◌^◌, None};
+ghost use Rattle.std.specs.Prelude.{◌≡◌, ◌↔◌, ◌+◌, ◌-◌, ◌<◌, ◌^◌, IsTrue, None, Some, codes, option_copied};
 
 /// Where a writer stands: the prefix of the lines, or none on one line, and the level, in levels of indentation.
 #[derive(Clone, Copy)]
 pub struct Place<'p> {
     pub prefix: Option<&'p str>,
     pub level: usize,
+    // Asked for at each break, so it is found once a print.
+    pub(crate) is_two_spaces: bool,
+    pub(crate) ghost two_spaces: { IsTrue is_two_spaces ↔ (option_copied prefix ≡ Some (codes "  ")) },
+}
+
+fn is_two_spaces(prefix: Option<&str>) -> bool
+    ensures { IsTrue result ↔ (option_copied prefix.entry ≡ Some (codes "  ")) }
+{
+    match prefix {
+        Some(prefix) => prefix == "  ",
+        None => false,
+    }
 }
 
 impl<'p> Place<'p> {
+    /// A place under a prefix, or on one line.
+    pub fn new(prefix: Option<&'p str>, level: usize) -> Place<'p>
+        ensures prefix { result.prefix ≡ prefix.entry }
+        ensures level { result.level ≡ level }
+    {
+        Place {
+            prefix,
+            level,
+            is_two_spaces: is_two_spaces(prefix),
+        }
+    }
+
     /// The same at the next level.
     #[inline(always)]
     pub fn inner(self) -> Place<'p>
@@ -19,6 +43,7 @@ impl<'p> Place<'p> {
         Place {
             prefix: self.prefix,
             level: self.level + 1,
+            is_two_spaces: self.is_two_spaces,
         }
     }
 
@@ -32,6 +57,7 @@ impl<'p> Place<'p> {
         Place {
             prefix: self.prefix,
             level: self.level - 1,
+            is_two_spaces: self.is_two_spaces,
         }
     }
 
@@ -41,9 +67,6 @@ impl<'p> Place<'p> {
         ensures prefix { result.prefix ≡ None }
         ensures level { result.level ≡ self.entry.level }
     {
-        Place {
-            prefix: None,
-            level: self.level,
-        }
+        Place::new(None, self.level)
     }
 }

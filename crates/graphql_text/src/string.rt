@@ -6,7 +6,7 @@ ghost use Rattle.graphql_text.specs.Writing.{Writes};
 
 use crate::block_string::{can_be_block, holds, write_block};
 use crate::place::Place;
-use crate::quoted_string::{has_escaped, write_plain, write_quoted};
+use crate::quoted_string::{has_escaped, write_plain, write_quoted, write_quoted_runs};
 use crate::target::Target;
 
 /// Writes a string value that may hold characters to escape.
@@ -18,7 +18,7 @@ fn write_with_escapes<O: Target>(out: &mut O, place: &Place<'_>, value: &str)
         Some(prefix) if holds(value, b'\n') && can_be_block(value) => {
             write_block(out, prefix, place.level, value)
         }
-        _ => write_quoted(out, value),
+        _ => write_quoted_runs(out, value),
     }
 }
 

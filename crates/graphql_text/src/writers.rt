@@ -1,5 +1,5 @@
 //! What kinds of trees are written with. Each writer appends the text of some items, at a place.
-ghost use Rattle.std.specs.Prelude.{◌≡◌, ℕ, ◌≤◌, List, Option, Some, [], ◌∷◌, IsSome, IsTrue, MatchOption, ⊤, codes, option_copied};
+ghost use Rattle.std.specs.Prelude.{◌≡◌, ℕ, ◌≤◌, List, Option, Some, [], ◌∷◌, ◌++◌, IsSome, IsTrue, MatchOption, ⊤, codes, option_copied};
 ghost use Rattle.std.specs.Option.{option_map};
 ghost use Rattle.graphql_base.specs.Name.{name_text};
 ghost use Rattle.graphql_text.specs.Descriptions.{description_shape};
@@ -72,7 +72,7 @@ pub fn write_soft<O: Target>(out: &mut O, place: &Place<'_>)
     ensures { Writes O.wrote out.old out.new place.now (Soft ∷ []) }
 {
     match place.prefix {
-        Some(prefix) => line_break(out, prefix, place.level),
+        Some(prefix) => line_break(out, prefix, place.is_two_spaces, place.level),
         None => out.text(" "),
     }
 }
@@ -83,7 +83,7 @@ pub fn write_tight<O: Target>(out: &mut O, place: &Place<'_>)
     ensures { Writes O.wrote out.old out.new place.now (Tight ∷ []) }
 {
     match place.prefix {
-        Some(prefix) => line_break(out, prefix, place.level),
+        Some(prefix) => line_break(out, prefix, place.is_two_spaces, place.level),
         None => {} // there is no break on one line
     }
 }
@@ -95,7 +95,7 @@ pub fn write_blank<O: Target>(out: &mut O, place: &Place<'_>)
     match place.prefix {
         Some(prefix) => {
             out.text("\n");
-            line_break(out, prefix, place.level);
+            line_break(out, prefix, place.is_two_spaces, place.level);
         }
         None => write_words(out, " "),
     }
@@ -120,7 +120,7 @@ pub fn ready_comma_lead(place: &Place<'_>) -> Option<&'static str>
         (λ prefix. prefix.now ≡ codes "  " → place.now.level ≤ 30 → IsSome result) }
 {
     match place.prefix {
-        Some(prefix) => ready_comma_break(prefix, place.level),
+        Some(prefix) => ready_comma_break(prefix, place.is_two_spaces, place.level),
         None => None,
     }
 }
@@ -156,6 +156,21 @@ pub fn write_last_comma<O: Target>(out: &mut O, place: &Place<'_>)
 {
     match place.prefix {
         Some(_) => write_words(out, ","),
+        None => {}
+    }
+}
+
+/// Writes what stands before the closing bracket of a comma group, at the place of the bracket: under a prefix a comma
+/// and a break, else nothing.
+#[inline(always)]
+pub fn write_comma_end<O: Target>(out: &mut O, place: &Place<'_>)
+    ensures { Writes O.wrote out.old out.new place.now (last_comma (breaks place.now) ++ (Tight ∷ [])) }
+{
+    match place.prefix {
+        Some(prefix) => match ready_comma_break(prefix, place.is_two_spaces, place.level) {
+            Some(text) => out.text(text),
+            None => comma_break(out, prefix, place.level),
+        },
         None => {}
     }
 }

@@ -18,7 +18,7 @@ use crate::stacks::Stacks;
 use crate::types::print::find_list_depth;
 use graphql_base::node::Node;
 use graphql_text::writers::{
-    Place, Target, ready_comma_lead, write_comma_lead, write_last_comma, write_tight, write_words,
+    Place, Target, ready_comma_lead, write_comma_end, write_comma_lead, write_words,
 };
 
 /// Whether each argument of an arguments definition is well formed.
@@ -102,8 +102,7 @@ fn write_argument_group<'a, O: Target>(
         write_input_value_definition(out, &inner, stacks, argument);
         is_first = false;
     }
-    write_last_comma(out, &inner);
-    write_tight(out, place);
+    write_comma_end(out, place);
     write_words(out, ")");
 }
 

@@ -70,7 +70,7 @@ fn values(rt: HostRuntime) {
             "\"\"\"\n>>a\\\"\"\"b\n>>\\\"\"\"\\\"\"\"\"\n>>\"\"\"",
         ),
     ] {
-        check_value(&rt, rt.alloc(), &Place { prefix, level }, value, wanted);
+        check_value(&rt, rt.alloc(), &Place::new(prefix, level), value, wanted);
     }
 }
 
@@ -90,15 +90,12 @@ fn descriptions(rt: HostRuntime) {
         ),
         (Some(" "), 3, "a\nb", "\"\"\"\n   a\n   b\n   \"\"\""),
     ] {
-        check_description(&rt, rt.alloc(), &Place { prefix, level }, value, wanted);
+        check_description(&rt, rt.alloc(), &Place::new(prefix, level), value, wanted);
     }
 }
 
 fn deepest(prefix: &str) -> Place<'_> {
-    Place {
-        prefix: Some(prefix),
-        level: usize::MAX,
-    }
+    Place::new(Some(prefix), usize::MAX)
 }
 
 /// What takes no more ends the writing at once, and so does an empty prefix.

@@ -45,7 +45,7 @@ fn at_several_places(rt: HostRuntime) {
         (None, 0, "[1, 1.5] a b c"),
         (None, 7, "[1, 1.5] a b c"),
     ] {
-        let page = page_at(rt.alloc(), Place { prefix, level });
+        let page = page_at(rt.alloc(), Place::new(prefix, level));
         check_text(&rt, page.text.as_str(), wanted);
         assert!(rt; !page.has_fault, "an empty piece");
     }

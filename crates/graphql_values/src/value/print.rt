@@ -17,8 +17,8 @@ use graphql_base::name::Name;
 use graphql_base::node::Node;
 use graphql_text::engine::{Serialize, Syntax};
 use graphql_text::writers::{
-    Place, Stack, Target, ready_comma_lead, write_comma_lead, write_first_indent, write_float,
-    write_int, write_last_comma, write_name, write_string_value, write_tight, write_words,
+    Place, Stack, Target, ready_comma_lead, write_comma_end, write_comma_lead, write_first_indent,
+    write_float, write_int, write_name, write_string_value, write_words,
 };
 use std::alloc::{AllocError, Global};
 use std::fmt;
@@ -261,9 +261,8 @@ fn write_closing<O: Target>(out: &mut O, here: &mut Place<'_>, bracket: &str)
         WritesToLevel O.wrote out.old out.new (mode_of here.old.prefix) here.old.level
         (last_comma (breaks here.old) ++ (Lower ∷ Tight ∷ items)) here.new.level }
 {
-    write_last_comma(out, here);
     here.level -= 1;
-    write_tight(out, here);
+    write_comma_end(out, here);
     write_words(out, bracket);
 }
 

@@ -2,5 +2,5 @@ use Rattle.std.proofs.Common.{[], ◌∷◌, arith}
 use Rattle.std.proofs.lemmas.Str.{encode_ascii}
 use Rattle.graphql_text.proofs.breaks.comma_break.Goals as goal
 
-pub returns-in-None : goal.returns-in-None
-returns-in-None g c = rw (encode_ascii 10 (omega arith)) (g.met.O.Target.more _ _ _ (44 ∷ 10 ∷ []) _ c.text-in-None.ensures c.indent.ensures)
+pub returns : goal.returns
+returns g c = rw (encode_ascii 10 (omega arith)) (g.met.O.Target.more _ _ _ (44 ∷ 10 ∷ []) _ c.text.ensures c.indent.ensures)

@@ -1,9 +1,10 @@
-use Rattle.std.proofs.Common.{◌≡◌, ℕ, ◌+◌, ◌<◌, List, [], ◌∷◌, get_or, length, ap, arith, refl}
+use Rattle.std.proofs.Common.{◌≡◌, ℕ, ◌+◌, ◌<◌, List, [], ◌∷◌, get_or, length, ap, arith, refl, sym, ◌∙◌}
 use Rattle.std.proofs.lemmas.Str.{IsCharBoundary-start, IsCharBoundary-after_ascii}
 use Rattle.graphql_text.specs.QuotedForm.{quoted_character}
+use Rattle.graphql_text.proofs.PlainCharacters.{plain}
 use Rattle.graphql_text.proofs.Runs.{flat_parted, run_plain, run_escape, run_restart}
 use Rattle.graphql_text.proofs.quoted_string.write_runs.Goals as goal
-use Rattle.graphql_text.proofs.quoted_string.write_runs.Goals.{in-Some+else-is_stopped, in_default}
+use Rattle.graphql_text.proofs.quoted_string.write_runs.Goals.{then-is_escaped+else-is_stopped, else-is_escaped}
 
 pub loop-i-init : goal.loop-i-init
 loop-i-init g c = record { order = omega arith; boundary = IsCharBoundary-start c.args.text.now c.utf8.text; plain = refl; wrote = g.met.O.Target.nothing _ }
@@ -20,16 +21,18 @@ loop-i-preserved g c =
     let i : ℕ = c.loop-i.i in
     let I = c.loop-i.invariant in
     let within : i < length t = omega (arith, ap length c.as_bytes-byte-items.ensures.value) in
-    elim c.match-escape.branch [
-      | in-Some+else-is_stopped w ↦
-          let is = rw c.as_bytes-byte-items.ensures.value at w.in-Some.ensures in
+    elim c.if-is_escaped.branch [
+      | then-is_escaped+else-is_stopped w ↦
+          let ascii = rw c.as_bytes-byte-items.ensures.value at (c.is_escaped.ensures.ascii w.if-is_escaped.true) in
+          let is = rw c.as_bytes-byte-items.ensures.value at w.escape.ensures in
           rw (w.from-is, w.out-is) (record {
             order = omega arith;
-            boundary = IsCharBoundary-after_ascii t i c.utf8.text within is.0;
+            boundary = IsCharBoundary-after_ascii t i c.utf8.text within ascii;
             plain = run_restart quoted_character t (i + 1);
-            wrote = rw (← run_escape quoted_character t w.in-Some.escape.now c.loop-i.from i within is.1 I.plain) (g.met.O.Target.more _ _ _ _ _ (g.met.O.Target.more _ _ _ _ _ I.wrote (rw w.range.ensures.value at w.write_piece.ensures)) w.text.ensures);
+            wrote = rw (← run_escape quoted_character t w.escape.result.now c.loop-i.from i within is I.plain) (g.met.O.Target.more _ _ _ _ _ (g.met.O.Target.more _ _ _ _ _ I.wrote (rw w.range.ensures.value at w.write_piece.ensures)) w.text.ensures);
           })
-      | in_default w ↦
-          let is : quoted_character (get_or t i 0) ≡ get_or t i 0 ∷ [] = rw c.as_bytes-byte-items.ensures.value at w.in_default.ensures in
+      | else-is_escaped w ↦
+          let unescaped = sym c.is_escaped.ensures.escaped ∙ w.if-is_escaped.false in
+          let is : quoted_character (get_or t i 0) ≡ get_or t i 0 ∷ [] = plain (get_or t i 0) (rw c.as_bytes-byte-items.ensures.value at unescaped) in
           rw (w.from-is, w.out-is) (record { order = omega arith; boundary = I.boundary; plain = run_plain quoted_character t c.loop-i.from i I.order within is I.plain; wrote = I.wrote })
     ]

@@ -16,9 +16,9 @@ pub returns-in_default : goal.returns-in_default
 returns-in_default g c = elim c.in_default.branch [
   | in_default-via-in-Some+then-holds+else-can_be_block w ↦
       let cannot = sym w.can_be_block.ensures ∙ w.if-can_be_block.false in
-      rw w.in-Some.is (writes_item refl (rw (impossible_here (chars w.in-Some.prefix.now) c.args.place.now.level (chars c.args.value.now) AsValue cannot) c.write_quoted.ensures))
+      rw w.in-Some.is (writes_item refl (rw (impossible_here (chars w.in-Some.prefix.now) c.args.place.now.level (chars c.args.value.now) AsValue cannot) c.write_quoted_runs.ensures))
   | in_default-via-in-Some+else-holds w ↦
       let unwanted = sym (key_in_chars 10 (lit< tt) c.args.value.now c.utf8.value) ∙ (sym w.holds.ensures ∙ w.if-holds.false) in
-      rw w.in-Some.is (writes_item refl (rw (unwanted_here (chars w.in-Some.prefix.now) c.args.place.now.level (chars c.args.value.now) AsValue unwanted) c.write_quoted.ensures))
-  | in_default-via-in_default w ↦ rw w.in_default.is (writes_item refl c.write_quoted.ensures)
+      rw w.in-Some.is (writes_item refl (rw (unwanted_here (chars w.in-Some.prefix.now) c.args.place.now.level (chars c.args.value.now) AsValue unwanted) c.write_quoted_runs.ensures))
+  | in_default-via-in_default w ↦ rw w.in_default.is (writes_item refl c.write_quoted_runs.ensures)
 ]

@@ -4,7 +4,7 @@ use Rattle.graphql_text.specs.Groups.{comma_rest}
 use Rattle.graphql_text.specs.Layout.{Word, is_broken}
 use Rattle.graphql_text.specs.Place.{mode_of}
 use Rattle.graphql_text.specs.Tokens.{lparen, rparen, Punctuation}
-use Rattle.graphql_text.proofs.CommaGroups.{comma_closed, comma_next, comma_opened}
+use Rattle.graphql_text.proofs.CommaGroups.{comma_ended, comma_next, comma_opened}
 use Rattle.graphql_text.proofs.Slices.{next_item}
 use Rattle.graphql_values.proofs.StacksKept.{stacks_twice, stacks_unused}
 use Rattle.graphql_text.proofs.WritingLaws.{beginning_stopped}
@@ -57,6 +57,5 @@ returns-clause-written g c =
     let mode = mode_of c.args.place.now.prefix in
     let broken = is_broken mode in
     let none = ap (λ arguments. comma_rest rparen broken c.loop-argument.is_first (shapes broken (input_value_definition_trees arguments))) (drop_of_length-le c.args.arguments.now c.loop-argument-test.false) in
-    let comma = rw c.inner-inner.ensures.prefix at c.write_last_comma.ensures in
     let bracket = c.write_words-2.ensures.items mode c.args.place.now.level (Word (Punctuation rparen) ∷ []) refl in
-    comma_closed g.met.O.Target.nothing g.met.O.Target.more rparen broken c.loop-argument.invariant.written none c.inner-inner.ensures.level comma c.write_tight.ensures bracket
+    comma_ended g.met.O.Target.nothing g.met.O.Target.more rparen broken c.loop-argument.invariant.written none c.inner-inner.ensures.level c.write_comma_end.ensures bracket

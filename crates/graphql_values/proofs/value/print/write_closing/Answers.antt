@@ -1,11 +1,12 @@
-use Rattle.std.proofs.Common.{[], ◌∷◌, arith}
-use Rattle.graphql_text.specs.Layout.{Tight}
-use Rattle.graphql_text.proofs.WritingLaws.{levels_then, levels_lower, writes_levels, writes_then}
+use Rattle.std.proofs.Common.{◌∷◌, append_assoc, arith}
+use Rattle.graphql_text.specs.Layout.{Tight, is_broken}
+use Rattle.graphql_text.specs.Place.{mode_of}
+use Rattle.graphql_text.proofs.CommaEnds.{levels_end}
+use Rattle.graphql_text.proofs.WritingLaws.{writes_then}
 use Rattle.graphql_values.proofs.value.print.write_closing.Goals as goal
 
 pub returns-clause-written : goal.returns-clause-written
 returns-clause-written g c = λ items is.
-    let more = g.met.O.Target.more in
-    levels_then more (writes_levels c.write_last_comma.ensures)
-    (levels_then more (levels_lower g.met.O.Target.nothing (omega (arith, c.requires)))
-    (writes_levels (writes_then more {xs = Tight ∷ []} c.write_tight.ensures (c.write_words.ensures.items _ _ items is))))
+    let broken = is_broken (mode_of c.args.here.now.prefix) in
+    let closed = rw append_assoc at (writes_then g.met.O.Target.more c.write_comma_end.ensures (c.write_words.ensures.items _ _ items is)) in
+    levels_end broken (Tight ∷ items) (omega (arith, c.requires)) closed

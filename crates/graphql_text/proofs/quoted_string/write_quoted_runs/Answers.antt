@@ -1,5 +1,5 @@
 use Rattle.graphql_text.proofs.Utf8.{quoted_in_chars}
-use Rattle.graphql_text.proofs.quoted_string.write_quoted.Goals as goal
+use Rattle.graphql_text.proofs.quoted_string.write_quoted_runs.Goals as goal
 
 pub returns : goal.returns
 returns g c =

@@ -1,9 +1,57 @@
 //! A buffer of text on its owner's frame.
-ghost use Rattle.std.specs.Prelude.{◌≡◌, ◌≤◌, ◌+◌, ◌++◌, [], IsTrue, IsUtf8, false, length, take};
+ghost use Rattle.std.specs.Prelude.{◌≡◌, ◌≤◌, ◌+◌, ◌*◌, ◌++◌, [], IsTrue, IsUtf8, false, length, take};
 ghost use Rattle.graphql_text.specs.declared.buffer.TheConstants.{SIZE};
 
 /// How many bytes a buffer holds.
 const SIZE: usize = 1024;
+
+/// Copies the first bytes and the last ones, which together are all. All are read before any is written, so each end
+/// is one move.
+#[inline(always)]
+fn copy_ends(to: &mut [u8], from: &[u8], size: usize)
+    requires len { length to.old ≡ length from.now }
+    requires small { size ≤ 8 }
+    requires within { size ≤ length from.now }
+    requires all { length from.now ≤ 2 * size }
+    ensures { to.new ≡ from.now }
+{
+    let last = from.len() - size;
+    let mut first_bytes = [0u8; 8];
+    let mut last_bytes = [0u8; 8];
+    first_bytes[..size].copy_from_slice(&from[..size]);
+    last_bytes[..size].copy_from_slice(&from[last..]);
+    to[..size].copy_from_slice(&first_bytes[..size]);
+    to[last..].copy_from_slice(&last_bytes[..size]);
+}
+
+/// Copies up to eight bytes.
+#[inline(always)]
+fn copy_few(to: &mut [u8], from: &[u8])
+    requires len { length to.old ≡ length from.now }
+    requires few { length from.now ≤ 8 }
+    ensures { to.new ≡ from.now }
+{
+    if from.len() > 4 {
+        copy_ends(to, from, 4);
+    } else if from.len() > 2 {
+        copy_ends(to, from, 2);
+    } else if !from.is_empty() {
+        copy_ends(to, from, 1);
+    }
+}
+
+/// Copies a piece. Most are short, and for those a call costs more than the copy.
+#[inline(always)]
+fn copy_piece(to: &mut [u8], from: &[u8])
+    requires { length to.old ≡ length from.now }
+    ensures { to.new ≡ from.now }
+{
+    match from.len() {
+        0..=8 => copy_few(to, from),
+        9..=16 => copy_ends(to, from, 8),
+        _ => to.copy_from_slice(from),
+    }
+}
 
 /// Text that waits to be sent. It takes no memory.
 #[derive(Drop)]
@@ -45,6 +93,7 @@ impl Buffer {
     }
 
     /// Adds the text, if there is room for all of it.
+    #[inline(always)]
     pub(crate) fn add(&mut self, text: &str) -> bool
         ensures added { IsTrue result → waiting_bytes self.new ≡ waiting_bytes self.old ++ text.now }
         ensures full { result ≡ false → self.new ≡ self.old }
@@ -53,7 +102,7 @@ impl Buffer {
         let used = self.used;
         if text.len() <= SIZE - used {
             let end = used + text.len();
-            self.bytes[used..end].copy_from_slice(text.as_bytes());
+            copy_piece(&mut self.bytes[used..end], text.as_bytes());
             self.used = end;
             true
         } else {

@@ -6,7 +6,7 @@ ghost use Rattle.std.specs.Prelude.{◌≡◌, ◌↔◌, ◌+◌, ◌-◌, ◌<
 pub struct Place<'p> {
     pub prefix: Option<&'p str>,
     pub level: usize,
-    // Asked for at each break, so it is found once a print.
+    // It is asked for at each break, and so found once a print.
     pub(crate) is_two_spaces: bool,
     pub(crate) ghost two_spaces: { IsTrue is_two_spaces ↔ (option_copied prefix ≡ Some (codes "  ")) },
 }

@@ -107,6 +107,7 @@ impl<'a, S: TextSink> Target for ToSink<'a, S> {
           (waiting_bytes a.buffer) (waiting_bytes b.buffer) (waiting_bytes c.buffer) x y h.1 k.1,
     ) };
 
+    #[inline(always)]
     fn text(&mut self, text: &str) {
         if !self.buffer.add(text) {
             self.stopped = send(&mut *self.sink, self.stopped, &mut self.buffer, text);
@@ -174,6 +175,7 @@ impl Target for ToText {
         grew_more (written_bytes a) (written_bytes b) (written_bytes c) a.failed b.failed c.failed x y h k };
 
     // It may go on after a failure: what stands in it then is never handed out.
+    #[inline(always)]
     fn text(&mut self, text: &str) {
         if !self.buffer.add(text) {
             self.failed = append(&mut self.text, self.failed, &mut self.buffer, text);
@@ -220,6 +222,7 @@ impl<'a, W: fmt::Write> Target for ToFormatter<'a, W> {
 }
 
 /// Writes a text; an empty one is left out.
+#[inline(always)]
 pub(crate) fn write_piece<O: Target>(out: &mut O, text: &str)
     ensures { O.wrote out.old text.now out.new }
 {

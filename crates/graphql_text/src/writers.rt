@@ -20,6 +20,7 @@ use graphql_base::name::Name;
 use graphql_base::node::NodeStr;
 
 /// Writes keywords, punctuators, spaces and commas, which stand alike at every place.
+#[inline(always)]
 pub fn write_words<O: Target>(out: &mut O, words: &str)
     ensures bytes { O.wrote out.old words.now out.new }
     ensures items { (mode : Option (List ℕ)) (level : ℕ) (items : List Item) →
@@ -30,6 +31,7 @@ pub fn write_words<O: Target>(out: &mut O, words: &str)
 }
 
 /// Writes a name.
+#[inline(always)]
 pub fn write_name<O: Target>(out: &mut O, name: &Name)
     ensures { WritesAnywhere O.wrote out.old out.new (Word (NameToken (name_text name.now)) ∷ []) }
 {
@@ -37,6 +39,7 @@ pub fn write_name<O: Target>(out: &mut O, name: &Name)
 }
 
 /// Writes an int.
+#[inline(always)]
 pub fn write_int<O: Target>(out: &mut O, int: &str)
     requires { IsTrue (is_int int.now) }
     ensures { WritesAnywhere O.wrote out.old out.new (Word (IntValue int.now) ∷ []) }
@@ -45,6 +48,7 @@ pub fn write_int<O: Target>(out: &mut O, int: &str)
 }
 
 /// Writes a float.
+#[inline(always)]
 pub fn write_float<O: Target>(out: &mut O, float: &str)
     requires { IsTrue (is_float float.now) }
     ensures { WritesAnywhere O.wrote out.old out.new (Word (FloatValue float.now) ∷ []) }

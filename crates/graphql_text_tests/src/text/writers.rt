@@ -6,8 +6,9 @@ use super::page::{Page, blank_page};
 use crate::checks::check_text;
 use graphql_base::name;
 use graphql_text::writers::{
-    Place, ready_comma_lead, write_blank, write_comma_lead, write_finish, write_first_indent,
-    write_float, write_int, write_last_comma, write_name, write_soft, write_tight, write_words,
+    Place, ready_comma_lead, write_blank, write_comma_end, write_comma_lead, write_finish,
+    write_first_indent, write_float, write_int, write_last_comma, write_name, write_soft,
+    write_tight, write_words,
 };
 use std::alloc::Global;
 
@@ -48,5 +49,26 @@ fn at_several_places(rt: HostRuntime) {
         let page = page_at(rt.alloc(), Place::new(prefix, level));
         check_text(&rt, page.text.as_str(), wanted);
         assert!(rt; !page.has_fault, "an empty piece");
+    }
+}
+
+/// A prefix, a level, and what stands before the closing bracket of a group.
+#[test]
+fn ends_of_groups(rt: HostRuntime) {
+    for (prefix, level, wanted) in [
+        (Some("  "), 1, ",\n  "),
+        (
+            Some("  "),
+            31,
+            ",\n                                                              ",
+        ),
+        (Some(" \t"), 2, ",\n \t \t"),
+        (Some(""), 7, ",\n"),
+        (None, 7, ""),
+    ] {
+        let mut out = blank_page(rt.alloc());
+        write_comma_end(&mut out, &Place::new(prefix, level));
+        check_text(&rt, out.text.as_str(), wanted);
+        assert!(rt; !out.has_fault, "an empty piece");
     }
 }

@@ -1,0 +1,14 @@
+pub mod Drafts
+pub mod Present
+pub mod Trees
+pub mod WrittenLists
+pub mod Outcomes
+pub mod OneTree
+pub mod Depths
+pub mod Each
+pub mod NodeKinds
+pub mod Names
+pub mod Passed
+pub mod TypeKinds
+pub mod ValueKinds
+pub mod Strings

@@ -1,0 +1,51 @@
+-- The kind of a node tells which type it is.
+use Rattle.std.proofs.Common.{◌≡◌, ℕ, List, ◌∷◌, Some, codes, sym, ap, ◌∙◌, arith}
+use Rattle.graphql_text.specs.Literals.{NameText}
+use Rattle.graphql_values.specs.TypeReferences.{TypeTree, named_type, non_null_named_type, list_type, non_null_list_type}
+use Rattle.serde_json.specs.Data.{Data, string}
+use Rattle.graphql_ast_json.specs.Nodes.{member_of}
+use Rattle.graphql_ast_json.specs.ReadingTypes.{IsWithoutNull}
+use Rattle.graphql_ast_json.specs.TypeJson.{IsNamedType, IsTypeAround, IsTypeReference}
+use Rattle.graphql_ast_json.proofs.NodeKinds.{IsOfKind, initial, text_of}
+
+abbrev pub type_kind : TypeTree → List ℕ
+type_kind (named_type name) = codes "NamedType"
+type_kind (non_null_named_type name) = codes "NonNullType"
+type_kind (list_type item) = codes "ListType"
+type_kind (non_null_list_type item) = codes "NonNullType"
+
+pub type_kind_of : (tree : TypeTree) (json : Data) → IsTypeReference tree json → IsOfKind (type_kind tree) json
+type_kind_of (named_type name) json is = is.0.0
+type_kind_of (non_null_named_type name) json is = is.0.0
+type_kind_of (list_type item) json is = is.0.0
+type_kind_of (non_null_list_type item) json is = is.0.0
+
+clash : (tree : TypeTree) (json : Data) (kind : List ℕ) → IsOfKind kind json → IsTypeReference tree json → type_kind tree ≡ kind
+clash tree json kind e is = ap text_of (sym (type_kind_of tree json is) ∙ e)
+
+-- the second letter, which tells `NamedType` from `NonNullType`
+abbrev second : List ℕ → ℕ
+second (a ∷ b ∷ more) = b
+second _ = 0
+
+pub only_named : (json : Data) → IsOfKind (codes "NamedType") json → ((name : NameText) → IsNamedType name json → ⊥) → (tree : TypeTree) → IsTypeReference tree json → ⊥
+only_named json e none (named_type name) is = none name is
+only_named json e none tree is = let h : second (type_kind tree) ≡ 97 = ap second (clash tree json _ e is) in absurd (omega arith)
+
+pub only_list_type : (json : Data) → IsOfKind (codes "ListType") json → ((item : TypeTree) → IsTypeAround (codes "ListType") (IsTypeReference item) json → ⊥) → (tree : TypeTree) → IsTypeReference tree json → ⊥
+only_list_type json e none (list_type item) is = none item is
+only_list_type json e none tree is = let h : initial (type_kind tree) ≡ 76 = ap initial (clash tree json _ e is) in absurd (omega arith)
+
+pub only_non_null : (json : Data) → IsOfKind (codes "NonNullType") json → ((tree : TypeTree) → IsTypeAround (codes "NonNullType") (IsWithoutNull tree) json → ⊥) → (tree : TypeTree) → IsTypeReference tree json → ⊥
+only_non_null json e none (non_null_named_type name) is = none (non_null_named_type name) is
+only_non_null json e none (non_null_list_type item) is = none (non_null_list_type item) is
+only_non_null json e none tree is = let h : second (type_kind tree) ≡ 111 = ap second (clash tree json _ e is) in absurd (omega arith)
+
+pub no_kind : (json : Data) → ((text : List ℕ) → member_of (codes "kind") json ≡ Some (string text) → ⊥) → (tree : TypeTree) → IsTypeReference tree json → ⊥
+no_kind json none tree is = none (type_kind tree) (type_kind_of tree json is)
+
+pub other_kind : (json : Data) (kind : List ℕ) → IsOfKind kind json → (kind ≡ codes "NamedType" → ⊥) → (kind ≡ codes "ListType" → ⊥) → (kind ≡ codes "NonNullType" → ⊥) → (tree : TypeTree) → IsTypeReference tree json → ⊥
+other_kind json kind e p q r (named_type name) is = p (sym (clash (named_type name) json kind e is))
+other_kind json kind e p q r (non_null_named_type name) is = r (sym (clash (non_null_named_type name) json kind e is))
+other_kind json kind e p q r (list_type item) is = q (sym (clash (list_type item) json kind e is))
+other_kind json kind e p q r (non_null_list_type item) is = r (sym (clash (non_null_list_type item) json kind e is))

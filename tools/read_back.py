@@ -1,0 +1,106 @@
+#!/usr/bin/env python3
+"""Reads what the printer prints with the parser of the public package graphql-core, and compares trees.
+
+    tools/read_back.py [FILE]
+
+The program `golden` prints the tree of each print of FILE (crates/golden/stdin, if none is named), and says that the text is that of the case.
+graphql-core reads the text, and its tree, written as AST JSON, has to be that of the case. Locations and `block` are left out of the comparison, and so are cases that no
+reader can read: of trees that are not well formed, under a prefix of other characters than spaces and tabs, and of trees that are deeper than
+JSON is read. What is no document of its own is read inside one: a directive behind a field, an input value definition as a field of an input
+object.
+
+It needs Python 3.8, `pip install graphql-core==3.2.*`, and the program, which `rt run` builds in crates/golden; it asks for no memory of the
+gate. It says how many texts were read, and how many of the trees differ; the exit status is 0 if none does.
+"""
+import json
+import os
+import subprocess
+import sys
+
+import graphql
+from graphql.language import ast, parse, parse_value
+
+sys.setrecursionlimit(20000)
+ROOT = os.path.join(os.path.dirname(os.path.abspath(__file__)), "..", "crates", "golden")
+LISTS = {
+    "Directive": ["arguments"],
+    "InputValueDefinition": ["directives"],
+    "DirectiveDefinition": ["arguments"],
+}
+
+
+def normal(tree):
+    """AST JSON without locations, `block` and null members, and with the lists that may be left out."""
+    if isinstance(tree, list):
+        return [normal(item) for item in tree]
+    if not isinstance(tree, dict):
+        return tree
+    members = {name: normal(member) for name, member in tree.items() if name not in ("loc", "block") and member is not None}
+    for name in LISTS.get(tree["kind"], []):
+        members.setdefault(name, [])
+    return members
+
+
+def camel(words):
+    first, *more = words.split("_")
+    return first + "".join(word.capitalize() for word in more)
+
+
+def told(node):
+    """A tree of graphql-core as AST JSON."""
+    if isinstance(node, (list, tuple)):
+        return [told(item) for item in node]
+    if not isinstance(node, ast.Node):
+        return node
+    members = {camel(key): told(getattr(node, key)) for key in node.keys if key != "loc"}
+    kind = type(node).__name__
+    return normal({"kind": kind[: -len("Node")], **members})
+
+
+def is_readable(case):
+    return case["text"] is not None and case["well_formed"] and set(case["prefix"] or "") <= {" ", "\t"} and "nested_lists" not in case["tree"]
+
+
+def is_list(tree):
+    return isinstance(tree, list)
+
+
+def read(tree, text):
+    """The tree that graphql-core reads in the text of a tree."""
+    if is_list(tree) or tree["kind"] == "Directive":
+        field = parse("{ field %s }" % text).definitions[0].selection_set.selections[0]
+        directives = told(field.directives)
+        return directives if is_list(tree) else directives[0]
+    if tree["kind"] == "InputValueDefinition":
+        return told(parse("input Input { %s }" % text).definitions[0].fields[0])
+    if tree["kind"] == "DirectiveDefinition":
+        return told(parse(text).definitions[0])
+    return told(parse_value(text))
+
+
+def main(path):
+    with open(path, encoding="utf-8") as source:
+        lines = source.read()
+    program = os.path.join(ROOT, "out", "golden")
+    if subprocess.run([program], input=lines.encode()).returncode != 0:
+        print("the program prints another text than that of a case")
+        return 1
+    cases = [json.loads(line) for line in lines.splitlines()]
+    count = different = 0
+    for number, case in enumerate(cases, 1):
+        wanted = case.get("print")
+        if wanted is None or not is_readable(wanted):
+            continue
+        count += 1
+        try:
+            found = read(wanted["tree"], wanted["text"])
+        except graphql.GraphQLError as error:
+            found = str(error)
+        if found != normal(wanted["tree"]):
+            different += 1
+            print(f"case {number}: {found}")
+    print(f"{count} texts read with graphql-core {graphql.version}, {different} trees differ")
+    return 0 if different == 0 else 1
+
+
+sys.exit(main(sys.argv[1] if len(sys.argv) > 1 else os.path.join(ROOT, "stdin")))

@@ -108,7 +108,8 @@ impl LocatedText {
     }
 
     pub fn location(&self) -> Option<SourceSpan>
-        ensures { result ≡ self.now.location }
+        ensures value { result ≡ self.now.location }
+        ensures length { IfSome result (λ span. span_len span ≡ length self.now.bytes) }
     {
         match &self.form {
             Form::StaticAt { start, file_id, .. } | Form::SharedAt { start, file_id, .. } =>

@@ -205,9 +205,10 @@ impl Name {
         }
     }
 
-    /// The place where the name stands in a source text. A name just made has none.
+    /// The place where the name stands in a source text, which is as long as the name. A name just made has none.
     pub fn location(&self) -> Option<SourceSpan>
-        ensures { result ≡ name_location self.now }
+        ensures value { result ≡ name_location self.now }
+        ensures length { IfSome result (λ span. span_len span ≡ length (name_text self.now)) }
     {
         self.text.location()
     }

@@ -1,0 +1,19 @@
+use Rattle.std.proofs.Common.{[], ◌∷◌, refl}
+use Rattle.graphql_base.specs.Name.{name_text}
+use Rattle.graphql_text.specs.Layout.{Space, Word}
+use Rattle.graphql_text.specs.Tokens.{colon, dollar, Punctuation, Name}
+use Rattle.graphql_text.proofs.WritingLaws.{writes_then}
+use Rattle.graphql_executable.specs.VariableDefinitions.{variable_definition_shape}
+use Rattle.graphql_executable.proofs.variable_definition.print.write_variable_definition.Goals as goal
+
+pub returns-clause-written : goal.returns-clause-written
+unfolding variable_definition_shape
+returns-clause-written g c =
+    let more = g.met.O.Target.more in
+    let description = rw c.as_ref.ensures.value at c.write_leading_description.ensures in
+    let name = writes_then more {xs = Word (Name (name_text c.args.variable.now.name)) ∷ []} (c.write_name.ensures _ _) (c.write_words-2.ensures.items _ _ (Word (Punctuation colon) ∷ Space ∷ []) refl) in
+    let dollar = writes_then more {xs = Word (Punctuation dollar) ∷ []} (c.write_words.ensures.items _ _ _ refl) name in
+    let type = rw c.deref.ensures at c.write_type.ensures.written _ _ in
+    let value = rw c.as_ref-2.ensures.value at c.write_default_value.ensures.written in
+    let directives = rw c.deref-2.ensures.value at c.write_directives.ensures.written in
+    writes_then more description (writes_then more dollar (writes_then more type (writes_then more value directives)))

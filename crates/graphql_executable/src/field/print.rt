@@ -1,0 +1,150 @@
+//! Fields are printed: the writer of a field up to its selection set, and its `Syntax`.
+ghost use Rattle.std.specs.Prelude.{◌≡◌, Some, option_copied};
+ghost use Rattle.std.specs.Option.{option_map};
+ghost use Rattle.graphql_text.specs.Leaves.{name_tree};
+ghost use Rattle.graphql_text.specs.Levels.{IsCount};
+ghost use Rattle.graphql_text.specs.Optional.{optional_shape};
+ghost use Rattle.graphql_text.specs.Printing.{IsDefaultPrint, default_bytes};
+ghost use Rattle.graphql_text.specs.Stack.{CanWrite, IsKept};
+ghost use Rattle.graphql_text.specs.Writing.{Writes, WritesAnywhere, WritesPart};
+ghost use Rattle.graphql_executable.specs.ExecutableStacks.{AreAllKept, CanWriteExecutable};
+ghost use Rattle.graphql_executable.specs.ExecutableTrees.{field_tree};
+ghost use Rattle.graphql_executable.specs.Fields.{field_kind};
+ghost use Rattle.graphql_executable.specs.SelectionHeads.{alias_shape, field_head_nesting, field_head_obeys, field_head_shape};
+ghost use Rattle.graphql_executable.specs.lemmas.Selections.{field_laws};
+
+use crate::field::Field;
+use crate::selection::print::{
+    are_selections_well_formed, find_selection_set_nesting, finish_sets, open_field,
+};
+use crate::stacks::ExecutableStacks;
+use graphql_base::name::Name;
+use graphql_text::engine::{Serialize, Syntax};
+use graphql_text::writers::{Place, Stack, Target, write_first_indent, write_name, write_words};
+use graphql_values::writers::{
+    Constness, ValueEntry, are_arguments_well_formed, are_directives_well_formed,
+    find_arguments_nesting, find_directives_nesting, write_arguments, write_directives,
+};
+use std::alloc::AllocError;
+use std::fmt;
+
+/// Whether the arguments and the directives of a field are well formed.
+#[tactic(auto, using(crate::proofs::SelectionShapes::field_head_is))]
+pub(crate) fn is_field_head_well_formed(field: &Field) -> bool
+    ensures { result ≡ field_head_obeys (field_tree field.now).head }
+{
+    are_arguments_well_formed(&field.arguments, Constness::NonConst)
+        && are_directives_well_formed(&field.directives.0, Constness::NonConst)
+}
+
+/// How deep the groups in the arguments and the directives of a field stand in one another. `None` if it is above
+/// `usize::MAX`.
+#[tactic(auto, using(crate::proofs::SelectionShapes::field_head_is))]
+pub(crate) fn find_field_head_nesting(field: &Field) -> Option<usize>
+    ensures { IsCount result (field_head_nesting (field_tree field.now).head) }
+{
+    let arguments = find_arguments_nesting(&field.arguments)?;
+    Some(arguments.max(find_directives_nesting(&field.directives.0)?))
+}
+
+/// Writes an alias and `:`; nothing where there is none.
+fn write_alias<O: Target>(out: &mut O, alias: Option<&Name>)
+    ensures { WritesAnywhere O.wrote out.old out.new
+        (optional_shape alias_shape (option_map name_tree (option_copied alias.entry))) }
+{
+    if let Some(alias) = alias {
+        write_name(out, alias);
+        write_words(out, ": ");
+    }
+}
+
+/// Writes a field without its selection set.
+#[tactic(auto, using(crate::proofs::SelectionShapes::field_head_is))]
+pub(crate) fn write_field_head<'a, O: Target>(
+    out: &mut O,
+    place: &Place<'_>,
+    stack: &mut Stack<ValueEntry<'a>>,
+    field: &'a Field,
+)
+    requires { CanWrite place.now stack.old (field_head_nesting (field_tree field.now).head) }
+    ensures kept { IsKept stack.old stack.new }
+    ensures written { Writes O.wrote out.old out.new place.now (field_head_shape (field_tree field.now).head) }
+{
+    write_alias(out, field.alias.as_ref());
+    write_name(out, &field.name);
+    write_arguments(out, place, stack, &field.arguments);
+    write_directives(out, place, stack, &field.directives.0);
+}
+
+/// Writes a field.
+pub fn write_field<'a, O: Target>(
+    out: &mut O,
+    place: &Place<'_>,
+    stacks: &mut ExecutableStacks<'a>,
+    field: &'a Field,
+)
+    requires { CanWriteExecutable place.now stacks.old (field_kind.nesting (field_tree field.now)) 0 }
+    ensures kept { AreAllKept stacks.old stacks.new }
+    ensures written { WritesPart O.wrote out.old out.new place.now field_kind (field_tree field.now) }
+{
+    let mut here = *place;
+    open_field(out, &mut here, stacks, field);
+    finish_sets(out, &mut here, stacks);
+}
+
+impl Field {
+    /// The field in the default layout, for `print_to`, `to_text` or another layout.
+    pub fn serialize(&self) -> Serialize<'_, Field>
+        ensures { IsDefaultPrint self.now result }
+    {
+        Serialize::new(self)
+    }
+
+    /// Whether no fragment spread in it is named `on`, each inline fragment in it has a selection, and no enum value in
+    /// its arguments and directives is `true`, `false` or `null`. Variables are allowed.
+    #[tactic(auto, using(crate::proofs::SelectionShapes::field_selections_are))]
+    pub fn is_well_formed(&self) -> bool
+        ensures { result ≡ field_kind.obeys (field_tree self.now) }
+    {
+        is_field_head_well_formed(self) && are_selections_well_formed(&self.selection_set)
+    }
+}
+
+impl Syntax for Field {
+    ghost kind = { field_kind };
+
+    ghost tree = { field_tree };
+
+    ghost laws = { field_laws };
+
+    fn is_well_formed(&self) -> bool {
+        Field::is_well_formed(self)
+    }
+
+    #[tactic(auto, using(crate::proofs::SelectionShapes::field_selections_are))]
+    fn find_nesting(&self) -> Option<usize> {
+        let head = find_field_head_nesting(self)?;
+        Some(head.max(find_selection_set_nesting(&self.selection_set)?))
+    }
+
+    fn write<O: Target>(
+        &self,
+        out: &mut O,
+        place: &Place<'_>,
+        depth: usize,
+    ) -> Result<(), AllocError> {
+        let alloc = *self.directives.0.allocator();
+        let mut stacks = ExecutableStacks::reserve(alloc, depth, 0)?;
+        write_first_indent(out, place);
+        write_field(out, place, &mut stacks, self);
+        Ok(())
+    }
+}
+
+impl fmt::Display for Field {
+    ghost output = { λ field. Some (default_bytes field_kind (field_tree field)) };
+
+    fn fmt<W: fmt::Write>(&self, f: &mut fmt::Formatter<W>) -> fmt::Result {
+        self.serialize().fmt(f)
+    }
+}

@@ -1,0 +1,188 @@
+//! Operations are printed: the writers of one, and its `Syntax`.
+ghost use Rattle.std.specs.Prelude.{◌≡◌, ◌&&◌, Some, option_copied};
+ghost use Rattle.std.specs.Option.{option_map};
+ghost use Rattle.graphql_text.specs.Layout.{is_front};
+ghost use Rattle.graphql_text.specs.Leaves.{name_tree};
+ghost use Rattle.graphql_text.specs.Levels.{IsCount};
+ghost use Rattle.graphql_text.specs.Optional.{optional_shape};
+ghost use Rattle.graphql_text.specs.Place.{breaks, mode_of};
+ghost use Rattle.graphql_text.specs.Printing.{IsDefaultPrint, default_bytes};
+ghost use Rattle.graphql_text.specs.Writing.{Writes, WritesAnywhere, WritesPart};
+ghost use Rattle.graphql_executable.specs.ExecutableStacks.{AreAllKept, CanWriteExecutable};
+ghost use Rattle.graphql_executable.specs.ExecutableTrees.{operation_definition_tree};
+ghost use Rattle.graphql_executable.specs.OperationDefinitions.{is_bare_query, operation_definition_kind, operation_name_shape};
+ghost use Rattle.graphql_executable.specs.VariableDefinitions.{variables_list_depth};
+ghost use Rattle.graphql_executable.specs.lemmas.Definitions.{operation_definition_laws};
+
+use crate::operation_definition::OperationDefinition;
+use crate::selection::print::{
+    find_selection_set_nesting, is_selection_set_well_formed, write_selection_set,
+};
+use crate::stacks::ExecutableStacks;
+use crate::variable_definitions::{
+    are_variable_definitions_well_formed, find_variable_definitions_nesting,
+    find_variables_list_depth, write_variable_definitions,
+};
+use graphql_base::name::Name;
+use graphql_text::engine::{Serialize, Syntax};
+use graphql_text::writers::{
+    Place, Target, write_first_indent, write_leading_description, write_name, write_words,
+};
+use graphql_values::operation_type::OperationType;
+use graphql_values::writers::{
+    Constness, are_directives_well_formed, find_directives_nesting, write_directives,
+};
+use std::alloc::AllocError;
+use std::fmt;
+
+/// Whether it is a query that has nothing but a selection set, which the query shorthand stands for.
+fn is_bare_query(operation: &OperationDefinition) -> bool
+    ensures { result ≡ is_bare_query (operation_definition_tree operation.now) }
+{
+    operation.description.is_none()
+        && matches!(operation.operation_type, OperationType::Query)
+        && operation.name.is_none()
+        && operation.variables.is_empty()
+        && operation.directives.0.is_empty()
+}
+
+/// Whether nothing is written before what begins a print: there is no prefix, or the level is 0.
+fn is_front(place: &Place<'_>) -> bool
+    ensures { result ≡ is_front (mode_of place.now.prefix) place.now.level }
+{
+    match place.prefix {
+        Some(_) => place.level == 0,
+        None => true,
+    }
+}
+
+/// Whether an operation that a print begins with stands in shorthand.
+fn is_in_shorthand(place: &Place<'_>, operation: &OperationDefinition) -> bool
+    ensures { result ≡ (is_front (mode_of place.now.prefix) place.now.level
+        && is_bare_query (operation_definition_tree operation.now)) }
+{
+    is_front(place) && is_bare_query(operation)
+}
+
+/// Writes a space and the name of an operation; nothing where it is anonymous.
+fn write_operation_name<O: Target>(out: &mut O, name: Option<&Name>)
+    ensures { WritesAnywhere O.wrote out.old out.new
+        (optional_shape operation_name_shape (option_map name_tree (option_copied name.entry))) }
+{
+    if let Some(name) = name {
+        write_words(out, " ");
+        write_name(out, name);
+    }
+}
+
+/// Writes an operation behind something else, and so not in shorthand.
+pub fn write_operation_definition<'a, O: Target>(
+    out: &mut O,
+    place: &Place<'_>,
+    stacks: &mut ExecutableStacks<'a>,
+    operation: &'a OperationDefinition,
+)
+    requires { CanWriteExecutable place.now stacks.old
+        (operation_definition_kind.nesting (operation_definition_tree operation.now))
+        (variables_list_depth (operation_definition_tree operation.now).body.variables) }
+    ensures kept { AreAllKept stacks.old stacks.new }
+    ensures written { WritesPart O.wrote out.old out.new place.now
+        operation_definition_kind (operation_definition_tree operation.now) }
+{
+    write_leading_description(out, place, operation.description.as_ref());
+    write_words(out, operation.operation_type.name());
+    write_operation_name(out, operation.name.as_ref());
+    write_variable_definitions(out, place, &mut stacks.definitions, &operation.variables);
+    write_directives(
+        out,
+        place,
+        &mut stacks.definitions.values,
+        &operation.directives.0,
+    );
+    write_words(out, " ");
+    write_selection_set(out, place, stacks, &operation.selection_set);
+}
+
+/// Writes an operation that a print begins with: in shorthand, where it is a query that has nothing but a selection
+/// set and nothing is written before it.
+pub fn write_first_operation_definition<'a, O: Target>(
+    out: &mut O,
+    place: &Place<'_>,
+    stacks: &mut ExecutableStacks<'a>,
+    operation: &'a OperationDefinition,
+)
+    requires { CanWriteExecutable place.now stacks.old
+        (operation_definition_kind.nesting (operation_definition_tree operation.now))
+        (variables_list_depth (operation_definition_tree operation.now).body.variables) }
+    ensures kept { AreAllKept stacks.old stacks.new }
+    ensures written { Writes O.wrote out.old out.new place.now
+        (operation_definition_kind.shape (breaks place.now) (is_front (mode_of place.now.prefix) place.now.level)
+        (operation_definition_tree operation.now)) }
+{
+    if is_in_shorthand(place, operation) {
+        write_selection_set(out, place, stacks, &operation.selection_set);
+    } else {
+        write_operation_definition(out, place, stacks, operation);
+    }
+}
+
+impl OperationDefinition {
+    /// The operation in the default layout, for `print_to`, `to_text` or another layout.
+    pub fn serialize(&self) -> Serialize<'_, OperationDefinition>
+        ensures { IsDefaultPrint self.now result }
+    {
+        Serialize::new(self)
+    }
+
+    /// Whether it has a selection, no variable stands in the default value or the directives of one, and its variables,
+    /// directives and selections are well formed.
+    pub fn is_well_formed(&self) -> bool
+        ensures { result ≡ operation_definition_kind.obeys (operation_definition_tree self.now) }
+    {
+        are_variable_definitions_well_formed(&self.variables)
+            && are_directives_well_formed(&self.directives.0, Constness::NonConst)
+            && is_selection_set_well_formed(&self.selection_set)
+    }
+}
+
+impl Syntax for OperationDefinition {
+    ghost kind = { operation_definition_kind };
+
+    ghost tree = { operation_definition_tree };
+
+    ghost laws = { operation_definition_laws };
+
+    fn is_well_formed(&self) -> bool {
+        OperationDefinition::is_well_formed(self)
+    }
+
+    fn find_nesting(&self) -> Option<usize> {
+        let variables = find_variable_definitions_nesting(&self.variables)?;
+        let directives = find_directives_nesting(&self.directives.0)?;
+        let selections = find_selection_set_nesting(&self.selection_set)?;
+        Some(variables.max(directives.max(selections)))
+    }
+
+    fn write<O: Target>(
+        &self,
+        out: &mut O,
+        place: &Place<'_>,
+        depth: usize,
+    ) -> Result<(), AllocError> {
+        let alloc = *self.directives.0.allocator();
+        let list_depth = find_variables_list_depth(&self.variables).ok_or(AllocError)?;
+        let mut stacks = ExecutableStacks::reserve(alloc, depth, list_depth)?;
+        write_first_indent(out, place);
+        write_first_operation_definition(out, place, &mut stacks, self);
+        Ok(())
+    }
+}
+
+impl fmt::Display for OperationDefinition {
+    ghost output = { λ operation.
+        Some (default_bytes operation_definition_kind (operation_definition_tree operation)) };
+
+    fn fmt<W: fmt::Write>(&self, f: &mut fmt::Formatter<W>) -> fmt::Result {
+        self.serialize().fmt(f)
+    }
+}

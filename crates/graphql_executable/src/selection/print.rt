@@ -1,0 +1,359 @@
+//! Selections are printed: the loop that writes selection sets, and the `Syntax` of a selection.
+ghost use Rattle.std.specs.Prelude.{◌≡◌, ◌≤◌, ◌∷◌, Some};
+ghost use Rattle.graphql_text.specs.Layout.{Space};
+ghost use Rattle.graphql_text.specs.Levels.{Fits, IsCount};
+ghost use Rattle.graphql_text.specs.Place.{mode_of};
+ghost use Rattle.graphql_text.specs.Printing.{IsDefaultPrint, default_bytes};
+ghost use Rattle.graphql_text.specs.Stack.{stack_entries, stack_room};
+ghost use Rattle.graphql_text.specs.Writing.{Writes, WritesPart};
+ghost use Rattle.graphql_executable.specs.ExecutableStacks.{AreAllKept, CanWriteExecutable};
+ghost use Rattle.graphql_executable.specs.ExecutableTrees.{field_tree, inline_fragment_tree, selection_tree, selection_trees};
+ghost use Rattle.graphql_executable.specs.Fields.{selection_of_field};
+ghost use Rattle.graphql_executable.specs.InlineFragments.{selection_of_inline_fragment};
+ghost use Rattle.graphql_executable.specs.SelectionWalk.{CanFinish, CanGoOn, CanOpen, Finishes, GoesOn, LoseNoRoom, Opens, OpensSelection, need_with, set_level, stack_items};
+ghost use Rattle.graphql_executable.specs.Selections.{optional_braced_shape, selection_kind, selection_nesting, selection_obeys, selection_set_nesting, selection_set_obeys, selection_set_shape, selections_obey, selections_shapes};
+ghost use Rattle.graphql_executable.specs.lemmas.Selections.{selection_laws};
+
+use crate::field::Field;
+use crate::field::print::{find_field_head_nesting, is_field_head_well_formed, write_field_head};
+use crate::fragment_spread::print::write_fragment_spread;
+use crate::inline_fragment::InlineFragment;
+use crate::inline_fragment::print::{
+    find_inline_fragment_head_nesting, is_inline_fragment_head_well_formed,
+    write_inline_fragment_head,
+};
+use crate::selection::Selection;
+use crate::stacks::{ExecutableStacks, SelectionEntry};
+use graphql_text::engine::{Serialize, Syntax};
+use graphql_text::writers::{Place, Stack, Target, write_first_indent, write_soft, write_words};
+use graphql_values::writers::find_directives_nesting;
+use std::alloc::{AllocError, Global};
+use std::fmt;
+
+/// Whether a selection is well formed: no fragment spread in it is named `on`, each inline fragment in it has a
+/// selection, and no enum value in its arguments and directives is `true`, `false` or `null`.
+#[cycle(selection_is_well_formed)]
+#[tactic(auto, using(crate::proofs::SelectionShapes::obeys_field, crate::proofs::SelectionShapes::obeys_spread, crate::proofs::SelectionShapes::obeys_inline))]
+pub fn is_selection_well_formed(selection: &Selection) -> bool
+    ensures { result ≡ selection_obeys (selection_tree selection.now) }
+{
+    match selection {
+        Selection::Field(field) => is_field_head_well_formed(field)
+            && are_selections_well_formed(&field.selection_set),
+        Selection::FragmentSpread(spread) => spread.is_well_formed(),
+        Selection::InlineFragment(fragment) => is_inline_fragment_head_well_formed(fragment)
+            && is_selection_set_well_formed(&fragment.selection_set),
+    }
+}
+
+/// Whether each selection is well formed.
+#[cycle(selection_is_well_formed)]
+pub fn are_selections_well_formed(selections: &[Selection]) -> bool
+    ensures { result ≡ selections_obey (selection_trees selections.now) }
+{
+    for selection in selections {
+        if !is_selection_well_formed(selection) {
+            return false;
+        }
+    }
+    true
+}
+
+/// Whether there is a selection, and each is well formed.
+#[cycle(selection_is_well_formed)]
+#[tactic(auto, using(crate::proofs::SelectionShapes::has_selections_is))]
+pub fn is_selection_set_well_formed(selections: &[Selection]) -> bool
+    ensures { result ≡ selection_set_obeys (selection_trees selections.now) }
+{
+    !selections.is_empty() && are_selections_well_formed(selections)
+}
+
+/// How deep the groups of a selection stand in one another. `None` if it is above `usize::MAX`.
+#[cycle(nesting)]
+#[tactic(auto, using(crate::proofs::SelectionShapes::nesting_field, crate::proofs::SelectionShapes::nesting_spread, crate::proofs::SelectionShapes::nesting_inline))]
+pub fn find_selection_nesting(selection: &Selection) -> Option<usize>
+    ensures { IsCount result (selection_nesting (selection_tree selection.now)) }
+{
+    match selection {
+        Selection::Field(field) => {
+            let head = find_field_head_nesting(field)?;
+            Some(head.max(find_selection_set_nesting(&field.selection_set)?))
+        }
+        Selection::FragmentSpread(spread) => find_directives_nesting(&spread.directives.0),
+        Selection::InlineFragment(fragment) => {
+            let head = find_inline_fragment_head_nesting(fragment)?;
+            Some(head.max(find_selection_set_nesting(&fragment.selection_set)?))
+        }
+    }
+}
+
+/// How deep the groups of a selection set stand in one another: one more than the selection that nests most, and 0
+/// without selections. `None` if it is above `usize::MAX`.
+#[cycle(nesting)]
+pub fn find_selection_set_nesting(selections: &[Selection]) -> Option<usize>
+    ensures { IsCount result (selection_set_nesting (selection_trees selections.now)) }
+{
+    let mut most = 0;
+    for selection in selections {
+        most = most.max(find_selection_nesting(selection)?.checked_add(1)?);
+    }
+    Some(most)
+}
+
+/// Writes a selection set up to its selections, and puts these on the stack; all of one without selections.
+#[inline(always)]
+fn open_set<'a, O: Target>(
+    out: &mut O,
+    here: &mut Place<'_>,
+    stack: &mut Stack<SelectionEntry<'a>>,
+    selections: &'a [Selection],
+)
+    requires fits { Fits here.old.level (selection_set_nesting (selection_trees selections.now)) }
+    requires room { need_with (selection_set_nesting (selection_trees selections.now)) (stack_entries stack.old)
+        ≤ stack_room stack.old }
+    ensures prefix { here.new.prefix ≡ here.old.prefix }
+    ensures room { stack_room stack.old ≤ stack_room stack.new }
+    ensures opened { Opens O.wrote out.old out.new (mode_of here.old.prefix) here.old.level here.new.level
+        (selection_set_shape (selection_trees selections.now)) (set_level (selection_trees selections.now))
+        (selection_set_nesting (selection_trees selections.now)) (stack_entries stack.old) (stack_entries stack.new) }
+{
+    if selections.is_empty() {
+        write_words(out, "{}");
+        return;
+    }
+    write_words(out, "{");
+    here.level += 1;
+    stack.push(SelectionEntry { rest: selections });
+}
+
+/// The same after a space, and nothing of a set without selections.
+#[inline(always)]
+fn open_optional_set<'a, O: Target>(
+    out: &mut O,
+    here: &mut Place<'_>,
+    stack: &mut Stack<SelectionEntry<'a>>,
+    selections: &'a [Selection],
+)
+    requires fits { Fits here.old.level (selection_set_nesting (selection_trees selections.now)) }
+    requires room { need_with (selection_set_nesting (selection_trees selections.now)) (stack_entries stack.old)
+        ≤ stack_room stack.old }
+    ensures prefix { here.new.prefix ≡ here.old.prefix }
+    ensures room { stack_room stack.old ≤ stack_room stack.new }
+    ensures opened { Opens O.wrote out.old out.new (mode_of here.old.prefix) here.old.level here.new.level
+        (optional_braced_shape (selections_shapes (selection_trees selections.now)))
+        (set_level (selection_trees selections.now))
+        (selection_set_nesting (selection_trees selections.now)) (stack_entries stack.old) (stack_entries stack.new) }
+{
+    if selections.is_empty() {
+        return;
+    }
+    write_words(out, " ");
+    open_set(out, here, stack, selections);
+}
+
+/// Writes a field up to its selections, and puts these on the stack.
+#[inline(always)]
+pub(crate) fn open_field<'a, O: Target>(
+    out: &mut O,
+    here: &mut Place<'_>,
+    stacks: &mut ExecutableStacks<'a>,
+    field: &'a Field,
+)
+    requires { CanOpen here.old.level stacks.old (selection_nesting (selection_of_field (field_tree field.now))) }
+    ensures prefix { here.new.prefix ≡ here.old.prefix }
+    ensures kept { LoseNoRoom stacks.old stacks.new }
+    ensures opened { OpensSelection O.wrote out.old out.new (mode_of here.old.prefix) here.old.level here.new.level
+        (selection_of_field (field_tree field.now))
+        (stack_entries stacks.old.selections) (stack_entries stacks.new.selections) }
+{
+    write_field_head(out, here, &mut stacks.definitions.values, field);
+    open_optional_set(out, here, &mut stacks.selections, &field.selection_set);
+}
+
+/// Writes an inline fragment up to its selections, and puts these on the stack.
+#[inline(always)]
+pub(crate) fn open_inline_fragment<'a, O: Target>(
+    out: &mut O,
+    here: &mut Place<'_>,
+    stacks: &mut ExecutableStacks<'a>,
+    fragment: &'a InlineFragment,
+)
+    requires { CanOpen here.old.level stacks.old
+        (selection_nesting (selection_of_inline_fragment (inline_fragment_tree fragment.now))) }
+    ensures prefix { here.new.prefix ≡ here.old.prefix }
+    ensures kept { LoseNoRoom stacks.old stacks.new }
+    ensures opened { OpensSelection O.wrote out.old out.new (mode_of here.old.prefix) here.old.level here.new.level
+        (selection_of_inline_fragment (inline_fragment_tree fragment.now))
+        (stack_entries stacks.old.selections) (stack_entries stacks.new.selections) }
+{
+    write_inline_fragment_head(out, here, &mut stacks.definitions.values, fragment);
+    write_words(out, " ");
+    open_set(out, here, &mut stacks.selections, &fragment.selection_set);
+}
+
+/// Writes a selection up to the selections of its set, and puts these on the stack; all of one without a set.
+#[inline(always)]
+fn open_selection<'a, O: Target>(
+    out: &mut O,
+    here: &mut Place<'_>,
+    stacks: &mut ExecutableStacks<'a>,
+    selection: &'a Selection,
+)
+    requires { CanOpen here.old.level stacks.old (selection_nesting (selection_tree selection.now)) }
+    ensures prefix { here.new.prefix ≡ here.old.prefix }
+    ensures kept { LoseNoRoom stacks.old stacks.new }
+    ensures opened { OpensSelection O.wrote out.old out.new (mode_of here.old.prefix) here.old.level here.new.level
+        (selection_tree selection.now)
+        (stack_entries stacks.old.selections) (stack_entries stacks.new.selections) }
+{
+    match selection {
+        Selection::Field(field) => open_field(out, here, stacks, field),
+        Selection::FragmentSpread(spread) => {
+            write_fragment_spread(out, here, &mut stacks.definitions.values, spread);
+        }
+        Selection::InlineFragment(fragment) => open_inline_fragment(out, here, stacks, fragment),
+    }
+}
+
+/// Writes the next selection of an open set up to the selections of its own set, and puts these and the rest on the
+/// stack; or the end of the set.
+#[inline(always)]
+fn write_entry<'a, O: Target>(
+    out: &mut O,
+    here: &mut Place<'_>,
+    stacks: &mut ExecutableStacks<'a>,
+    entry: SelectionEntry<'a>,
+)
+    requires { CanGoOn here.old.level stacks.old entry }
+    ensures prefix { here.new.prefix ≡ here.old.prefix }
+    ensures kept { LoseNoRoom stacks.old stacks.new }
+    ensures written { GoesOn O.wrote out.old out.new (mode_of here.old.prefix) here.old.level here.new.level
+        entry.entry (stack_entries stacks.old.selections) (stack_entries stacks.new.selections) }
+{
+    match entry.rest.split_first() {
+        Some((selection, rest)) => {
+            write_soft(out, here);
+            stacks.selections.push(SelectionEntry { rest });
+            open_selection(out, here, stacks, selection);
+        }
+        None => {
+            here.level -= 1;
+            write_soft(out, here);
+            write_words(out, "}");
+        }
+    }
+}
+
+/// Writes all selections and ends of sets that wait on the stack. What was begun is whole then.
+pub(crate) fn finish_sets<'a, O: Target>(
+    out: &mut O,
+    here: &mut Place<'_>,
+    stacks: &mut ExecutableStacks<'a>,
+)
+    requires { CanFinish here.old.level stacks.old }
+    ensures kept { AreAllKept stacks.old stacks.new }
+    ensures finished { Finishes O.wrote out.old out.new (mode_of here.old.prefix) here.old.level
+        (stack_items (stack_entries stacks.old.selections)) }
+{
+    while let Some(entry) = stacks.selections.pop() {
+        if out.is_stopped() {
+            stacks.selections.clear();
+            return;
+        }
+        write_entry(out, here, stacks, entry);
+    }
+}
+
+/// Writes a selection set. The stacks are empty before and after, and have room for what waits meanwhile.
+pub fn write_selection_set<'a, O: Target>(
+    out: &mut O,
+    place: &Place<'_>,
+    stacks: &mut ExecutableStacks<'a>,
+    selections: &'a [Selection],
+)
+    requires { CanWriteExecutable place.now stacks.old (selection_set_nesting (selection_trees selections.now)) 0 }
+    ensures kept { AreAllKept stacks.old stacks.new }
+    ensures written { Writes O.wrote out.old out.new place.now (selection_set_shape (selection_trees selections.now)) }
+{
+    let mut here = *place;
+    open_set(out, &mut here, &mut stacks.selections, selections);
+    finish_sets(out, &mut here, stacks);
+}
+
+/// Writes a selection.
+pub fn write_selection<'a, O: Target>(
+    out: &mut O,
+    place: &Place<'_>,
+    stacks: &mut ExecutableStacks<'a>,
+    selection: &'a Selection,
+)
+    requires { CanWriteExecutable place.now stacks.old (selection_nesting (selection_tree selection.now)) 0 }
+    ensures kept { AreAllKept stacks.old stacks.new }
+    ensures written { WritesPart O.wrote out.old out.new place.now selection_kind (selection_tree selection.now) }
+{
+    let mut here = *place;
+    open_selection(out, &mut here, stacks, selection);
+    finish_sets(out, &mut here, stacks);
+}
+
+impl Selection {
+    /// The selection in the default layout, for `print_to`, `to_text` or another layout.
+    pub fn serialize(&self) -> Serialize<'_, Selection>
+        ensures { IsDefaultPrint self.now result }
+    {
+        Serialize::new(self)
+    }
+
+    /// Whether no fragment spread in it is named `on`, each inline fragment in it has a selection, and no enum value in
+    /// its arguments and directives is `true`, `false` or `null`. Variables are allowed.
+    pub fn is_well_formed(&self) -> bool
+        ensures { result ≡ selection_kind.obeys (selection_tree self.now) }
+    {
+        is_selection_well_formed(self)
+    }
+
+    /// The allocator of its directives.
+    fn allocator(&self) -> Global {
+        match self {
+            Selection::Field(field) => *field.directives.0.allocator(),
+            Selection::FragmentSpread(spread) => *spread.directives.0.allocator(),
+            Selection::InlineFragment(fragment) => *fragment.directives.0.allocator(),
+        }
+    }
+}
+
+impl Syntax for Selection {
+    ghost kind = { selection_kind };
+
+    ghost tree = { selection_tree };
+
+    ghost laws = { selection_laws };
+
+    fn is_well_formed(&self) -> bool {
+        Selection::is_well_formed(self)
+    }
+
+    fn find_nesting(&self) -> Option<usize> {
+        find_selection_nesting(self)
+    }
+
+    fn write<O: Target>(
+        &self,
+        out: &mut O,
+        place: &Place<'_>,
+        depth: usize,
+    ) -> Result<(), AllocError> {
+        let mut stacks = ExecutableStacks::reserve(self.allocator(), depth, 0)?;
+        write_first_indent(out, place);
+        write_selection(out, place, &mut stacks, self);
+        Ok(())
+    }
+}
+
+impl fmt::Display for Selection {
+    ghost output = { λ selection. Some (default_bytes selection_kind (selection_tree selection)) };
+
+    fn fmt<W: fmt::Write>(&self, f: &mut fmt::Formatter<W>) -> fmt::Result {
+        self.serialize().fmt(f)
+    }
+}

@@ -1,0 +1,5 @@
+pub mod MemberGroups
+pub mod NoLists
+pub mod Readings
+pub mod RootOperations
+pub mod TypeSystemEquality

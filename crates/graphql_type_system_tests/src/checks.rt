@@ -1,0 +1,27 @@
+//! What the examples compare.
+use graphql_text::engine::{Serialize, Syntax};
+use std::alloc::Global;
+use std::fmt::Display;
+use std::process::Abort;
+
+/// The print on one line, and whether the tree is well formed.
+pub(crate) fn check_line<T: Syntax>(
+    rt: &impl Abort,
+    alloc: Global,
+    tree: &T,
+    well_formed: bool,
+    wanted: &str,
+) {
+    let text = Serialize::new(tree)
+        .no_indent()
+        .to_text(alloc)
+        .expect(rt, "memory");
+    assert_eq!(rt; text.as_str(), wanted);
+    assert_eq!(rt; tree.is_well_formed(), well_formed);
+}
+
+/// The print in the default layout.
+pub(crate) fn check_displayed<T: Display>(rt: &impl Abort, alloc: Global, tree: &T, wanted: &str) {
+    let text = format!(in alloc; "{tree}").expect(rt, "memory");
+    assert_eq!(rt; text.as_str(), wanted);
+}

@@ -1,0 +1,13 @@
+//! Worked examples of definitions and extensions of the type system, and of their prints, through public calls alone.
+#![tactic(auto)]
+
+#[cfg(test)]
+mod checks;
+#[cfg(test)]
+mod comparisons;
+#[cfg(test)]
+mod edges;
+#[cfg(test)]
+mod prints;
+#[cfg(test)]
+mod samples;

@@ -8,13 +8,14 @@ first, and then the new cases. The output has a case a line, each once, as the t
 tree in AST JSON, the form of graphql-js 16.
 
 The model knows the rules of docs/LAYOUT.md and nothing of this printer; the texts in the cases are its own. A case is an object with the
-members `kind` (those of other kinds than the five of KINDS are passed over), `tree`, `prefix` (null: on one line), `level` (a text where
-the number is great), `well_formed`, and `text`, or `refusal` where the level overflows. A tree is `{"node": CLASS, FIELD: ..}`, or
-`{"built": "N lists, each the one item .."}`: lists deeper than JSON is read are told by their number.
+members `kind` (those of other kinds than those of KINDS are passed over), `tree`, `prefix` (null: on one line), `level` (a text where
+the number is great), `well_formed`, and `text`, or `refusal` where the level overflows. A tree is `{"node": CLASS, FIELD: ..}`; one that
+is deeper than JSON is read is told by its number: `{"built": "N lists, each the one item .."}` or
+`{"built": "anonymous query, N selection sets .."}`.
 
 The prints that stand there are of five sources, and the model laid out the first four:
 - rows that docs/LAYOUT.md follows from, and rows written where these try nothing;
-- random trees of the five kinds, some of them ill formed, each in several layouts and at levels near the greatest;
+- random trees of these kinds, some of them ill formed, each in several layouts and at levels near the greatest;
 - pieces longer than the buffer of a print (1,024 bytes): strings and descriptions of 600 to 3,000 bytes, plain, with characters to escape,
   of several lines (one of them longer than the buffer), and of characters of two to four bytes; names and numbers of 1,500 bytes; names of
   1,022 to 1,026 and of 2,047 to 2,049 letters, alone and in a list;
@@ -75,7 +76,7 @@ def directive_list(tree):
 
 
 def described(tree, body):
-    if tree["description"] is None:
+    if tree.get("description") is None:
         return body
     return {"kind": body["kind"], "description": {"kind": "StringValue", "value": tree["description"]}, **body}
 
@@ -99,12 +100,151 @@ def directive_definition(tree):
     return described(tree, body)
 
 
+def named_type(text):
+    return {"kind": "NamedType", "name": name(text)}
+
+
+def field_definition(tree):
+    body = {
+        "kind": "FieldDefinition",
+        "name": name(tree["name"]),
+        "arguments": [input_value_definition(argument) for argument in tree["arguments"]],
+        "type": type_reference(tree["ty"]),
+        "directives": directive_list(tree["directives"]),
+    }
+    return described(tree, body)
+
+
+def enum_value_definition(tree):
+    body = {"kind": "EnumValueDefinition", "name": name(tree["value"]), "directives": directive_list(tree["directives"])}
+    return described(tree, body)
+
+
+def root_operation(pair):
+    return {"kind": "OperationTypeDefinition", "operation": pair[0], "type": named_type(pair[1])}
+
+
+# what definitions and extensions of the type system have besides a description: of each member its name in AST JSON, and its form
+MEMBERS = {
+    "name": ("name", name),
+    "implements_interfaces": ("interfaces", lambda names: [named_type(text) for text in names]),
+    "directives": ("directives", directive_list),
+    "members": ("types", lambda names: [named_type(text) for text in names]),
+    "values": ("values", lambda values: [enum_value_definition(item) for item in values]),
+    "root_operations": ("operationTypes", lambda pairs: [root_operation(pair) for pair in pairs]),
+}
+
+
+def fields(tree):
+    form = input_value_definition if tree["node"].startswith("InputObject") else field_definition
+    return [form(field) for field in tree["fields"]]
+
+
+def type_system(tree):
+    body = {"kind": tree["node"]}
+    for field, (member, form) in MEMBERS.items():
+        if field in tree:
+            body[member] = form(tree[field])
+    if "fields" in tree:
+        body["fields"] = fields(tree)
+    return described(tree, body)
+
+
+def with_members(kind, **members):
+    """A node of this kind. A member that is None is left out."""
+    return {"kind": kind, **{member: form for member, form in members.items() if form is not None}}
+
+
+def optional(form, tree):
+    return None if tree is None else form(tree)
+
+
+def variable_definition(tree):
+    body = with_members(
+        "VariableDefinition",
+        variable={"kind": "Variable", "name": name(tree["name"])},
+        type=type_reference(tree["ty"]),
+        defaultValue=optional(value, tree["default_value"]),
+        directives=directive_list(tree["directives"]),
+    )
+    return described(tree, body)
+
+
+def selection_set(trees):
+    return {"kind": "SelectionSet", "selections": [selection(tree) for tree in trees]}
+
+
+def field(tree):
+    return with_members(
+        "Field",
+        alias=optional(name, tree["alias"]),
+        name=name(tree["name"]),
+        arguments=[named_value("Argument", argument["name"], argument["value"]) for argument in tree["arguments"]],
+        directives=directive_list(tree["directives"]),
+        selectionSet=selection_set(tree["selection_set"]) if tree["selection_set"] else None,
+    )
+
+
+def fragment_spread(tree):
+    return with_members("FragmentSpread", name=name(tree["fragment_name"]), directives=directive_list(tree["directives"]))
+
+
+def inline_fragment(tree):
+    return with_members(
+        "InlineFragment",
+        typeCondition=optional(named_type, tree["type_condition"]),
+        directives=directive_list(tree["directives"]),
+        selectionSet=selection_set(tree["selection_set"]),
+    )
+
+
+SELECTIONS = {"Field": field, "FragmentSpread": fragment_spread, "InlineFragment": inline_fragment}
+
+
+def selection(tree):
+    return SELECTIONS[tree["node"]](tree)
+
+
+def operation_definition(tree):
+    if "built" in tree:
+        return {"nested_fields": int(re.match(r"anonymous query, ([0-9]+) selection sets each in the field a", tree["built"])[1])}
+    body = with_members(
+        "OperationDefinition",
+        operation=tree["operation_type"],
+        name=optional(name, tree["name"]),
+        variableDefinitions=[variable_definition(variable) for variable in tree["variables"]],
+        directives=directive_list(tree["directives"]),
+        selectionSet=selection_set(tree["selection_set"]),
+    )
+    return described(tree, body)
+
+
+def fragment_definition(tree):
+    body = with_members(
+        "FragmentDefinition",
+        name=name(tree["name"]),
+        typeCondition=named_type(tree["type_condition"]),
+        directives=directive_list(tree["directives"]),
+        selectionSet=selection_set(tree["selection_set"]),
+    )
+    return described(tree, body)
+
+
 KINDS = {
     "Value": value,
     "Directive": directive,
     "DirectiveList": directive_list,
     "InputValueDefinition": input_value_definition,
     "DirectiveDefinition": directive_definition,
+    "FieldDefinition": field_definition,
+    "EnumValueDefinition": enum_value_definition,
+    **{kind + end: type_system for kind in ("Schema", "ScalarType", "ObjectType", "InterfaceType", "UnionType", "EnumType",
+        "InputObjectType") for end in ("Definition", "Extension")},
+    "VariableDefinition": variable_definition,
+    "Selection": selection,
+    **SELECTIONS,
+    "OperationDefinition": operation_definition,
+    "FragmentDefinition": fragment_definition,
 }
 
 

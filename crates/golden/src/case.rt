@@ -15,7 +15,8 @@ pub enum Case {
 #[derive(Drop, Deserialize)]
 #[serde(deny_unknown_fields)]
 pub struct PrintCase {
-    /// AST JSON; or `{"nested_lists":N}`, N lists in one another, for what is deeper than JSON is read.
+    /// AST JSON; or, for what is deeper than JSON is read, `{"nested_lists":N}`, N lists in one another, or
+    /// `{"nested_fields":N}`, a query of N selection sets in one another.
     pub tree: Json,
     /// The prefix of each level, or none for one line.
     pub prefix: Option<String>,
@@ -30,33 +31,11 @@ pub struct PrintCase {
 #[derive(Drop, Deserialize)]
 #[serde(deny_unknown_fields)]
 pub struct JsonCase {
-    pub kind: Kind,
+    /// The kind of trees that it is read as, as `scalar_type_definition`.
+    pub kind: String,
     pub json: Json,
     /// The text of the error, or none where the tree that is read is written as this JSON again.
     pub error: Option<String>,
-}
-
-/// A kind of trees that has a form in AST JSON.
-#[derive(Clone, Copy, Deserialize)]
-#[serde(rename_all = "snake_case")]
-pub enum Kind {
-    Value,
-    Type,
-    Argument,
-    Directive,
-    DirectiveList,
-    InputValueDefinition,
-    DirectiveDefinition,
-}
-
-/// A kind of trees that is printed.
-#[derive(Clone, Copy)]
-pub enum PrintedKind {
-    Value,
-    Directive,
-    DirectiveList,
-    InputValueDefinition,
-    DirectiveDefinition,
 }
 
 impl PrintCase {
@@ -65,17 +44,17 @@ impl PrintCase {
         self.tree.get("nested_lists").and_then(Json::as_u64)
     }
 
-    /// The kind of the tree. What is of no other kind is a value, if it is anything.
-    pub fn kind(&self) -> PrintedKind {
-        if self.tree.is_array() {
-            return PrintedKind::DirectiveList;
-        }
-        match self.tree.get("kind").and_then(Json::as_str) {
-            Some("Directive") => PrintedKind::Directive,
-            Some("InputValueDefinition") => PrintedKind::InputValueDefinition,
-            Some("DirectiveDefinition") => PrintedKind::DirectiveDefinition,
-            _ => PrintedKind::Value,
-        }
+    /// How many selection sets in one another the tree is, if it is told so.
+    pub fn nested_fields(&self) -> Option<u64> {
+        self.tree.get("nested_fields").and_then(Json::as_u64)
+    }
+
+    /// The kind of the node that the tree is: nothing where it is no node, but a list of directives or nested.
+    pub fn kind(&self) -> &str {
+        self.tree
+            .get("kind")
+            .and_then(Json::as_str)
+            .unwrap_or_default()
     }
 }
 

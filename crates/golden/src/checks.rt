@@ -7,8 +7,8 @@ use std::alloc::Global;
 use std::fmt;
 use std::fmt::{Display, Formatter, Write};
 
-/// What is asked of AST JSON or a tree: whether it is read and written as the case wants, whether the tree is well formed, or its
-/// text, in one of the ways in which it can be printed.
+/// What is asked of AST JSON or a tree: whether it is read and written as the case wants, whether the tree is well
+/// formed, or its text, in one of the ways in which it can be printed.
 #[derive(Clone, Copy, Debug, PartialEq, Eq)]
 pub enum Check {
     AstJson,

@@ -4,6 +4,7 @@ use crate::checks::{Check, first_failed};
 use anyhow::Result;
 use graphql_ast_json::AstJson;
 use graphql_base::span::FileId;
+use graphql_executable::selection::Selection;
 use graphql_text::engine::Syntax;
 use std::alloc::Global;
 use std::fmt::Display;
@@ -20,6 +21,17 @@ pub fn failed_print<T: AstJson + Syntax + Display + PartialEq + Drop>(
         return Ok(Some(Check::AstJson));
     }
     Ok(first_failed(alloc, case, &tree))
+}
+
+/// The same of a field, a fragment spread or an inline fragment, and then of the selection that it is.
+pub fn failed_selection<T: AstJson + Syntax + Display + PartialEq + Drop>(
+    alloc: Global,
+    case: &PrintCase,
+) -> Result<Option<Check>> {
+    match failed_print::<T>(alloc, case)? {
+        None => failed_print::<Selection>(alloc, case),
+        failed => Ok(failed),
+    }
 }
 
 /// Whether JSON is read, and written again, as the case wants.

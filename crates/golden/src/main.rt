@@ -1,19 +1,36 @@
-//! Makes the trees of the cases on its input, one a line, of their AST JSON, prints them, and compares each print with the
-//! text that stands in the case; or reads JSON, and compares what that gives with what the case wants.
+//! Makes the trees of the cases on its input, one a line, of their AST JSON, prints them, and compares each print with
+//! the text that stands in the case; or reads JSON, and compares what that gives with what the case wants.
 //!
 //! The texts were made by an independent model of the layout rules, not by this printer.
 #![tactic(auto)]
 
+mod built;
 mod case;
 mod checks;
 mod json;
 mod sink;
 
-use crate::case::{Case, JsonCase, Kind, PrintCase, PrintedKind, read_case};
+use crate::built::{nested_fields, nested_lists};
+use crate::case::{Case, JsonCase, PrintCase, read_case};
 use crate::checks::{Check, first_failed};
-use crate::json::{failed_print, is_read};
-use anyhow::{Context, Result};
-use graphql_base::node::Node;
+use crate::json::{failed_print, failed_selection, is_read};
+use anyhow::{Context, Result, bail};
+use graphql_executable::field::Field;
+use graphql_executable::fragment_definition::FragmentDefinition;
+use graphql_executable::fragment_spread::FragmentSpread;
+use graphql_executable::inline_fragment::InlineFragment;
+use graphql_executable::operation_definition::OperationDefinition;
+use graphql_executable::selection::Selection;
+use graphql_executable::variable_definition::VariableDefinition;
+use graphql_type_system::enum_type::{EnumTypeDefinition, EnumTypeExtension};
+use graphql_type_system::enum_value_definition::EnumValueDefinition;
+use graphql_type_system::field_definition::FieldDefinition;
+use graphql_type_system::input_object_type::{InputObjectTypeDefinition, InputObjectTypeExtension};
+use graphql_type_system::interface_type::{InterfaceTypeDefinition, InterfaceTypeExtension};
+use graphql_type_system::object_type::{ObjectTypeDefinition, ObjectTypeExtension};
+use graphql_type_system::scalar_type::{ScalarTypeDefinition, ScalarTypeExtension};
+use graphql_type_system::schema::{SchemaDefinition, SchemaExtension};
+use graphql_type_system::union_type::{UnionTypeDefinition, UnionTypeExtension};
 use graphql_values::argument::Argument;
 use graphql_values::directive::Directive;
 use graphql_values::directive_definition::DirectiveDefinition;
@@ -21,48 +38,88 @@ use graphql_values::directive_list::DirectiveList;
 use graphql_values::input_value_definition::InputValueDefinition;
 use graphql_values::types::Type;
 use graphql_values::value::Value;
-use std::alloc::{AllocError, Global};
+use std::alloc::Global;
 use std::io::{BufRead, BufReader};
 use std::process::ExitCode;
-
-/// As many lists, each the one item of the one around it; the innermost is empty. None is `null`.
-fn nested_lists(alloc: Global, count: u64) -> Result<Value, AllocError> {
-    let mut value = Value::Null;
-    for depth in 0..count {
-        let mut items = Vec::new(alloc);
-        if depth > 0 {
-            items.push(Node::new(alloc, value)?)?;
-        }
-        value = Value::List(items);
-    }
-    Ok(value)
-}
 
 /// The first check that a print doesn't pass, if there is one.
 fn first_of_print(alloc: Global, case: &PrintCase) -> Result<Option<Check>> {
     if let Some(count) = case.nested_lists() {
-        let value = nested_lists(alloc, count)?;
-        return Ok(first_failed(alloc, case, &value));
+        return Ok(first_failed(alloc, case, &nested_lists(alloc, count)?));
     }
+    if let Some(count) = case.nested_fields() {
+        return Ok(first_failed(alloc, case, &nested_fields(alloc, count)?));
+    }
+    first_of_node(alloc, case)
+}
+
+/// The same where the tree stands in AST JSON.
+fn first_of_node(alloc: Global, case: &PrintCase) -> Result<Option<Check>> {
     match case.kind() {
-        PrintedKind::Value => failed_print::<Value>(alloc, case),
-        PrintedKind::Directive => failed_print::<Directive>(alloc, case),
-        PrintedKind::DirectiveList => failed_print::<DirectiveList>(alloc, case),
-        PrintedKind::InputValueDefinition => failed_print::<InputValueDefinition>(alloc, case),
-        PrintedKind::DirectiveDefinition => failed_print::<DirectiveDefinition>(alloc, case),
+        "" => failed_print::<DirectiveList>(alloc, case),
+        "Directive" => failed_print::<Directive>(alloc, case),
+        "InputValueDefinition" => failed_print::<InputValueDefinition>(alloc, case),
+        "DirectiveDefinition" => failed_print::<DirectiveDefinition>(alloc, case),
+        "SchemaDefinition" => failed_print::<SchemaDefinition>(alloc, case),
+        "SchemaExtension" => failed_print::<SchemaExtension>(alloc, case),
+        "ScalarTypeDefinition" => failed_print::<ScalarTypeDefinition>(alloc, case),
+        "ScalarTypeExtension" => failed_print::<ScalarTypeExtension>(alloc, case),
+        "ObjectTypeDefinition" => failed_print::<ObjectTypeDefinition>(alloc, case),
+        "ObjectTypeExtension" => failed_print::<ObjectTypeExtension>(alloc, case),
+        "InterfaceTypeDefinition" => failed_print::<InterfaceTypeDefinition>(alloc, case),
+        "InterfaceTypeExtension" => failed_print::<InterfaceTypeExtension>(alloc, case),
+        "UnionTypeDefinition" => failed_print::<UnionTypeDefinition>(alloc, case),
+        "UnionTypeExtension" => failed_print::<UnionTypeExtension>(alloc, case),
+        "EnumTypeDefinition" => failed_print::<EnumTypeDefinition>(alloc, case),
+        "EnumTypeExtension" => failed_print::<EnumTypeExtension>(alloc, case),
+        "InputObjectTypeDefinition" => failed_print::<InputObjectTypeDefinition>(alloc, case),
+        "InputObjectTypeExtension" => failed_print::<InputObjectTypeExtension>(alloc, case),
+        "FieldDefinition" => failed_print::<FieldDefinition>(alloc, case),
+        "EnumValueDefinition" => failed_print::<EnumValueDefinition>(alloc, case),
+        "VariableDefinition" => failed_print::<VariableDefinition>(alloc, case),
+        "Field" => failed_selection::<Field>(alloc, case),
+        "FragmentSpread" => failed_selection::<FragmentSpread>(alloc, case),
+        "InlineFragment" => failed_selection::<InlineFragment>(alloc, case),
+        "OperationDefinition" => failed_print::<OperationDefinition>(alloc, case),
+        "FragmentDefinition" => failed_print::<FragmentDefinition>(alloc, case),
+        _ => failed_print::<Value>(alloc, case),
     }
 }
 
 /// Whether JSON is read as the case wants.
 fn passes(alloc: Global, case: &JsonCase) -> Result<bool> {
-    match case.kind {
-        Kind::Value => is_read::<Value>(alloc, case),
-        Kind::Type => is_read::<Type>(alloc, case),
-        Kind::Argument => is_read::<Argument>(alloc, case),
-        Kind::Directive => is_read::<Directive>(alloc, case),
-        Kind::DirectiveList => is_read::<DirectiveList>(alloc, case),
-        Kind::InputValueDefinition => is_read::<InputValueDefinition>(alloc, case),
-        Kind::DirectiveDefinition => is_read::<DirectiveDefinition>(alloc, case),
+    match case.kind.as_str() {
+        "value" => is_read::<Value>(alloc, case),
+        "type" => is_read::<Type>(alloc, case),
+        "argument" => is_read::<Argument>(alloc, case),
+        "directive" => is_read::<Directive>(alloc, case),
+        "directive_list" => is_read::<DirectiveList>(alloc, case),
+        "input_value_definition" => is_read::<InputValueDefinition>(alloc, case),
+        "directive_definition" => is_read::<DirectiveDefinition>(alloc, case),
+        "schema_definition" => is_read::<SchemaDefinition>(alloc, case),
+        "schema_extension" => is_read::<SchemaExtension>(alloc, case),
+        "scalar_type_definition" => is_read::<ScalarTypeDefinition>(alloc, case),
+        "scalar_type_extension" => is_read::<ScalarTypeExtension>(alloc, case),
+        "object_type_definition" => is_read::<ObjectTypeDefinition>(alloc, case),
+        "object_type_extension" => is_read::<ObjectTypeExtension>(alloc, case),
+        "interface_type_definition" => is_read::<InterfaceTypeDefinition>(alloc, case),
+        "interface_type_extension" => is_read::<InterfaceTypeExtension>(alloc, case),
+        "union_type_definition" => is_read::<UnionTypeDefinition>(alloc, case),
+        "union_type_extension" => is_read::<UnionTypeExtension>(alloc, case),
+        "enum_type_definition" => is_read::<EnumTypeDefinition>(alloc, case),
+        "enum_type_extension" => is_read::<EnumTypeExtension>(alloc, case),
+        "input_object_type_definition" => is_read::<InputObjectTypeDefinition>(alloc, case),
+        "input_object_type_extension" => is_read::<InputObjectTypeExtension>(alloc, case),
+        "field_definition" => is_read::<FieldDefinition>(alloc, case),
+        "enum_value_definition" => is_read::<EnumValueDefinition>(alloc, case),
+        "variable_definition" => is_read::<VariableDefinition>(alloc, case),
+        "selection" => is_read::<Selection>(alloc, case),
+        "field" => is_read::<Field>(alloc, case),
+        "fragment_spread" => is_read::<FragmentSpread>(alloc, case),
+        "inline_fragment" => is_read::<InlineFragment>(alloc, case),
+        "operation_definition" => is_read::<OperationDefinition>(alloc, case),
+        "fragment_definition" => is_read::<FragmentDefinition>(alloc, case),
+        kind => bail!("no trees are of the kind {kind}"),
     }
 }
 

@@ -12,7 +12,7 @@ use Rattle.graphql_text.specs.Forms.{is_one_of}
 use Rattle.serde_json.proofs.Views.{get_member-put, get_member-put_other}
 use Rattle.serde_json.specs.Data.{Data, number, string, object, unsigned, Members, no_members, member, put}
 use Rattle.serde_json.specs.Find.{get, get_member}
-use Rattle.graphql_ast_json.specs.Drafts.{location_json, IsAt, put_optional, beginning}
+use Rattle.graphql_ast_json.specs.Drafts.{location_json, IsAt, IsBegun, IsGiven, put_optional, beginning}
 use Rattle.graphql_ast_json.specs.Nodes.{present, member_of, names_among, HasOnly, Offsets, IsLocation, IsNode, Anywhere, offsets_of}
 
 abbrev pub Entry : Type 0
@@ -193,3 +193,38 @@ one_written kind location name inner json other w =
     let here : entry_at name (all_entries kind location ((name, Some inner) ∷ [])) ≡ Some inner =
     ap (λ same. cond same (Some inner) (entry_at name (all_entries kind location []))) (same_name name) in
     (node_written kind location ((name, Some inner) ∷ []) (name ∷ []) json w apart among at_kind at_loc, found kind location ((name, Some inner) ∷ []) json w apart name ∙ here)
+
+-- A NODE, MEMBER AFTER MEMBER
+
+-- members so far of a node that was begun and given these
+pub record IsDraft (kind : List ℕ) (location : Option SourceSpan) (entries : List Entry) (members : Members) : Type 0 where
+  pub are : members ≡ given entries (beginning kind location)
+  pub reach : IfSome location (λ span. span_end span < 2 ^ 32)
+
+pub begun : {kind : List ℕ} {location : Option SourceSpan} {members : Members} → IsBegun kind location members → IsDraft kind location [] members
+begun is = record { are = is.are; reach = is.reach }
+
+pub gained : {kind : List ℕ} {location : Option SourceSpan} {entries : List Entry} {name : List ℕ} {Is : Option Data → Type 0} {before after : Members} →
+    IsDraft kind location entries before → (one : IsGiven name Is before after) → IsDraft kind location ((name, one.json) ∷ entries) after
+gained {name = name} draft one = record { are = one.made ∙ ap (put_optional name one.json) draft.are; reach = draft.reach }
+
+pub gained_json : {kind : List ℕ} {location : Option SourceSpan} {entries : List Entry} {name : List ℕ} {given_json : Data} {before after : Members} →
+    IsDraft kind location entries before → after ≡ put name given_json before → IsDraft kind location ((name, Some given_json) ∷ entries) after
+gained_json {name = name} {given_json = json} draft one = record { are = one ∙ ap (put name json) draft.are; reach = draft.reach }
+
+pub ended : {kind : List ℕ} {location : Option SourceSpan} {entries : List Entry} {members : Members} {json : Data} → json ≡ object members → IsDraft kind location entries members → IsWritten kind location entries json
+ended is draft = record { are = is ∙ ap object draft.are; reach = draft.reach }
+
+-- It is a node: its members have names of their own, each one that such a node has.
+pub is_node : {kind : List ℕ} {location : Option SourceSpan} {entries : List Entry} {json : Data} (names : List (List ℕ)) → IsWritten kind location entries json →
+    IsTrue (are_apart (entry_names (all_entries kind location entries))) → IsTrue (are_among (codes "kind" ∷ codes "loc" ∷ names) (entry_names (all_entries kind location entries))) →
+    entry_at (codes "kind") (all_entries kind location entries) ≡ Some (string kind) → entry_at (codes "loc") (all_entries kind location entries) ≡ option_map location_json location →
+    IsNode kind names Anywhere json
+is_node {kind = kind} {location = location} {entries = entries} {json = json} names w apart among at_kind at_loc =
+    anywhere kind names (IsAt location) json (node_written kind location entries names json w apart among at_kind at_loc)
+
+-- What a member was given as is what it is.
+pub given_member : {kind : List ℕ} {location : Option SourceSpan} {entries : List Entry} {json : Data} {name : List ℕ} {Is : Option Data → Type 0} {before after : Members} → IsWritten kind location entries json →
+    (one : IsGiven name Is before after) → IsTrue (are_apart (entry_names (all_entries kind location entries))) → entry_at name (all_entries kind location entries) ≡ one.json → Is (member_of name json)
+given_member {kind = kind} {location = location} {entries = entries} {json = json} {name = name} {Is = Is} w one apart at =
+    subst Is (sym (ap (option_and_then present) (found kind location entries json w apart name ∙ at) ∙ one.there)) one.is

@@ -3,7 +3,6 @@ pub mod Present
 pub mod Trees
 pub mod WrittenLists
 pub mod Outcomes
-pub mod OneTree
 pub mod Depths
 pub mod Each
 pub mod NodeKinds
@@ -11,4 +10,6 @@ pub mod Names
 pub mod Passed
 pub mod TypeKinds
 pub mod ValueKinds
+pub mod SelectionKinds
+pub mod SelectionTrees
 pub mod Strings

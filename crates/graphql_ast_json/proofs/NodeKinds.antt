@@ -1,10 +1,6 @@
--- The kind of a node in JSON.
-use Rattle.std.proofs.Common.{◌≡◌, ℕ, List, [], ◌∷◌, Option, Some, codes}
+-- The text of a kind, as far as it tells kinds apart.
+use Rattle.std.proofs.Common.{ℕ, List, [], ◌∷◌, Option, Some}
 use Rattle.serde_json.specs.Data.{Data, string}
-use Rattle.graphql_ast_json.specs.Nodes.{member_of}
-
-abbrev pub IsOfKind : List ℕ → Data → Type 0
-IsOfKind kind json = member_of (codes "kind") json ≡ Some (string kind)
 
 abbrev pub text_of : Option Data → List ℕ
 text_of (Some (string text)) = text

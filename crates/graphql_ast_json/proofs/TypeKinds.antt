@@ -1,4 +1,4 @@
--- The kind of a node tells which type it is.
+-- Where JSON is of one kind of types, and of none of that kind, it is of no type.
 use Rattle.std.proofs.Common.{◌≡◌, ℕ, List, ◌∷◌, Some, codes, sym, ap, ◌∙◌, arith}
 use Rattle.graphql_text.specs.Literals.{NameText}
 use Rattle.graphql_values.specs.TypeReferences.{TypeTree, named_type, non_null_named_type, list_type, non_null_list_type}
@@ -6,22 +6,12 @@ use Rattle.serde_json.specs.Data.{Data, string}
 use Rattle.graphql_ast_json.specs.Nodes.{member_of}
 use Rattle.graphql_ast_json.specs.ReadingTypes.{IsWithoutNull}
 use Rattle.graphql_ast_json.specs.TypeJson.{IsNamedType, IsTypeAround, IsTypeReference}
-use Rattle.graphql_ast_json.proofs.NodeKinds.{IsOfKind, initial, text_of}
-
-abbrev pub type_kind : TypeTree → List ℕ
-type_kind (named_type name) = codes "NamedType"
-type_kind (non_null_named_type name) = codes "NonNullType"
-type_kind (list_type item) = codes "ListType"
-type_kind (non_null_list_type item) = codes "NonNullType"
-
-pub type_kind_of : (tree : TypeTree) (json : Data) → IsTypeReference tree json → IsOfKind (type_kind tree) json
-type_kind_of (named_type name) json is = is.0.0
-type_kind_of (non_null_named_type name) json is = is.0.0
-type_kind_of (list_type item) json is = is.0.0
-type_kind_of (non_null_list_type item) json is = is.0.0
+use Rattle.graphql_ast_json.proofs.NodeKinds.{initial, text_of}
+use Rattle.graphql_ast_json.specs.lemmas.Leaves.{IsOfKind}
+use Rattle.graphql_ast_json.specs.lemmas.TypeNodes.{type_kind, type_node}
 
 clash : (tree : TypeTree) (json : Data) (kind : List ℕ) → IsOfKind kind json → IsTypeReference tree json → type_kind tree ≡ kind
-clash tree json kind e is = ap text_of (sym (type_kind_of tree json is) ∙ e)
+clash tree json kind e is = ap text_of (sym (type_node tree json is).is.0 ∙ e)
 
 -- the second letter, which tells `NamedType` from `NonNullType`
 abbrev second : List ℕ → ℕ
@@ -42,7 +32,7 @@ only_non_null json e none (non_null_list_type item) is = none (non_null_list_typ
 only_non_null json e none tree is = let h : second (type_kind tree) ≡ 111 = ap second (clash tree json _ e is) in absurd (omega arith)
 
 pub no_kind : (json : Data) → ((text : List ℕ) → member_of (codes "kind") json ≡ Some (string text) → ⊥) → (tree : TypeTree) → IsTypeReference tree json → ⊥
-no_kind json none tree is = none (type_kind tree) (type_kind_of tree json is)
+no_kind json none tree is = none (type_kind tree) (type_node tree json is).is.0
 
 pub other_kind : (json : Data) (kind : List ℕ) → IsOfKind kind json → (kind ≡ codes "NamedType" → ⊥) → (kind ≡ codes "ListType" → ⊥) → (kind ≡ codes "NonNullType" → ⊥) → (tree : TypeTree) → IsTypeReference tree json → ⊥
 other_kind json kind e p q r (named_type name) is = p (sym (clash (named_type name) json kind e is))

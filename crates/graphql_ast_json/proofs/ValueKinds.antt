@@ -1,4 +1,4 @@
--- The kind of a node tells the kind of its value, and lists of values go item by item.
+-- Where JSON is of one kind of values, and of none of that kind, it is of no value. And lists of values go item by item.
 use Rattle.std.proofs.Common.{◌≡◌, ℕ, zero, suc, ◌<◌, List, [], ◌∷◌, ◌++◌, length, get_or, Bool, String, Global, codes, string_bytes, sym, ap, subst, ◌∙◌, arith, rules}
 use Rattle.graphql_base.specs.declared.name.Name.{Name}
 use Rattle.graphql_base.specs.declared.node.Node.{Node}
@@ -14,59 +14,39 @@ use Rattle.serde_json.specs.Data.{Data}
 use Rattle.serde_json.specs.View.{view, items_view}
 use Rattle.serde_json.specs.declared.value.Value as json
 use Rattle.graphql_ast_json.specs.Reading.{IsStringOf}
-use Rattle.graphql_ast_json.proofs.NodeKinds.{IsOfKind, initial, initial_of}
+use Rattle.graphql_ast_json.proofs.NodeKinds.{initial, initial_of}
+use Rattle.graphql_ast_json.specs.lemmas.Leaves.{IsOfKind}
+use Rattle.graphql_ast_json.specs.lemmas.ValueNodes.{value_kind, value_node}
 use Rattle.graphql_ast_json.specs.ValueJson.{IsValue, AreValues, AreObjectFields, IsNamedValue}
-
-abbrev value_kind : ValueTree → List ℕ
-value_kind null_value = codes "NullValue"
-value_kind (enum_value name) = codes "EnumValue"
-value_kind (variable name) = codes "Variable"
-value_kind (string_value text) = codes "StringValue"
-value_kind (float_value float) = codes "FloatValue"
-value_kind (int_value int) = codes "IntValue"
-value_kind (boolean_value value) = codes "BooleanValue"
-value_kind (list_value items) = codes "ListValue"
-value_kind (object_value members) = codes "ObjectValue"
-
-kind_of : (tree : ValueTree) (json : Data) → IsValue tree json → IsOfKind (value_kind tree) json
-kind_of null_value json is = is.0
-kind_of (enum_value name) json is = is.0.0
-kind_of (variable name) json is = is.0.0
-kind_of (string_value text) json is = is.0.0
-kind_of (float_value float) json is = is.0.0
-kind_of (int_value int) json is = is.0.0
-kind_of (boolean_value value) json is = is.0.0
-kind_of (list_value items) json is = is.0.0
-kind_of (object_value members) json is = is.0.0
 
 -- where a value of one kind is none, and the JSON is of that kind, it is of no value
 pub only_enum : (json : Data) → IsOfKind (codes "EnumValue") json → ((name : NameText) → IsValue (enum_value name) json → ⊥) → (tree : ValueTree) → IsValue tree json → ⊥
 only_enum json e none (enum_value name) is = none name is
-only_enum json e none tree is = let clash : initial (value_kind tree) ≡ 69 = ap initial_of (sym (kind_of tree json is) ∙ e) in absurd (omega arith)
+only_enum json e none tree is = let clash : initial (value_kind tree) ≡ 69 = ap initial_of (sym (value_node tree json is).is.0 ∙ e) in absurd (omega arith)
 
 pub only_string : (json : Data) → IsOfKind (codes "StringValue") json → ((bytes : List ℕ) → IsStringOf bytes json → ⊥) → (tree : ValueTree) → IsValue tree json → ⊥
 only_string json e none (string_value text) is = none _ is
-only_string json e none tree is = let clash : initial (value_kind tree) ≡ 83 = ap initial_of (sym (kind_of tree json is) ∙ e) in absurd (omega arith)
+only_string json e none tree is = let clash : initial (value_kind tree) ≡ 83 = ap initial_of (sym (value_node tree json is).is.0 ∙ e) in absurd (omega arith)
 
 pub only_float : (json : Data) → IsOfKind (codes "FloatValue") json → ((float : FloatText) → IsValue (float_value float) json → ⊥) → (tree : ValueTree) → IsValue tree json → ⊥
 only_float json e none (float_value float) is = none float is
-only_float json e none tree is = let clash : initial (value_kind tree) ≡ 70 = ap initial_of (sym (kind_of tree json is) ∙ e) in absurd (omega arith)
+only_float json e none tree is = let clash : initial (value_kind tree) ≡ 70 = ap initial_of (sym (value_node tree json is).is.0 ∙ e) in absurd (omega arith)
 
 pub only_int : (json : Data) → IsOfKind (codes "IntValue") json → ((int : IntText) → IsValue (int_value int) json → ⊥) → (tree : ValueTree) → IsValue tree json → ⊥
 only_int json e none (int_value int) is = none int is
-only_int json e none tree is = let clash : initial (value_kind tree) ≡ 73 = ap initial_of (sym (kind_of tree json is) ∙ e) in absurd (omega arith)
+only_int json e none tree is = let clash : initial (value_kind tree) ≡ 73 = ap initial_of (sym (value_node tree json is).is.0 ∙ e) in absurd (omega arith)
 
 pub only_boolean : (json : Data) → IsOfKind (codes "BooleanValue") json → ((value : Bool) → IsValue (boolean_value value) json → ⊥) → (tree : ValueTree) → IsValue tree json → ⊥
 only_boolean json e none (boolean_value value) is = none value is
-only_boolean json e none tree is = let clash : initial (value_kind tree) ≡ 66 = ap initial_of (sym (kind_of tree json is) ∙ e) in absurd (omega arith)
+only_boolean json e none tree is = let clash : initial (value_kind tree) ≡ 66 = ap initial_of (sym (value_node tree json is).is.0 ∙ e) in absurd (omega arith)
 
 pub only_list : (json : Data) → IsOfKind (codes "ListValue") json → ((items : ValueTrees) → IsValue (list_value items) json → ⊥) → (tree : ValueTree) → IsValue tree json → ⊥
 only_list json e none (list_value items) is = none items is
-only_list json e none tree is = let clash : initial (value_kind tree) ≡ 76 = ap initial_of (sym (kind_of tree json is) ∙ e) in absurd (omega arith)
+only_list json e none tree is = let clash : initial (value_kind tree) ≡ 76 = ap initial_of (sym (value_node tree json is).is.0 ∙ e) in absurd (omega arith)
 
 pub only_object : (json : Data) → IsOfKind (codes "ObjectValue") json → ((members : ObjectFieldTrees) → IsValue (object_value members) json → ⊥) → (tree : ValueTree) → IsValue tree json → ⊥
 only_object json e none (object_value members) is = none members is
-only_object json e none tree is = let clash : initial (value_kind tree) ≡ 79 = ap initial_of (sym (kind_of tree json is) ∙ e) in absurd (omega arith)
+only_object json e none tree is = let clash : initial (value_kind tree) ≡ 79 = ap initial_of (sym (value_node tree json is).is.0 ∙ e) in absurd (omega arith)
 
 -- one more item
 pub more_are_values : (nodes : List (Node Value)) (items : List json.Value) (node : Node Value) (item : json.Value) → AreValues (value_trees nodes) (items_view items) → IsValue (value_tree (node_value node)) (view item)

@@ -6,10 +6,8 @@ use Rattle.graphql_base.specs.declared.node.Node.{Node}
 use Rattle.graphql_text.specs.Leaves.{name_tree}
 use Rattle.graphql_values.specs.ValueTrees.{value_tree, value_trees, object_field_trees}
 use Rattle.graphql_values.specs.declared.value.Value.{Value}
-use Rattle.serde_json.specs.Data.{Data}
 use Rattle.serde_json.specs.View.{view, items_view}
 use Rattle.serde_json.specs.declared.value.Value.{Value as Json}
-use Rattle.graphql_ast_json.specs.Nodes.{Each}
 use Rattle.graphql_ast_json.specs.ValueJson.{IsValue, IsNamedValue, AreValues, AreObjectFields}
 
 pub values_more : (nodes : List (Node Value)) (node : Node Value) (jsons : List Json) (json : Json) → AreValues (value_trees nodes) (items_view jsons) → IsValue (value_tree node.value) (view json) →
@@ -26,20 +24,6 @@ fields_more [] field [] json are is = (is, tt)
 fields_more (first ∷ fields) field (one ∷ jsons) json are is = (are.0, fields_more fields field jsons json are.1 is)
 fields_more [] field (one ∷ jsons) json are is = absurd are
 fields_more (first ∷ fields) field [] json are is = absurd are
-
-pub each_more : {A : Type 0} (Is : A → Data → Type 0) (xs : List A) (x : A) (jsons : List Json) (json : Json) → Each Is xs (items_view jsons) → Is x (view json) → Each Is (xs ++ x ∷ []) (items_view (jsons ++ json ∷ []))
-each_more Is [] x [] json are is = (is, tt)
-each_more Is (y ∷ xs) x (one ∷ jsons) json are is = (are.0, each_more Is xs x jsons json are.1 is)
-each_more Is [] x (one ∷ jsons) json are is = absurd are
-each_more Is (y ∷ xs) x [] json are is = absurd are
-
--- of things of the code, of which each stands for one of these
-pub each_tree_more : {A B : Type 0} (Is : B → Data → Type 0) (tree : A → B) (xs : List A) (x : A) (jsons : List Json) (json : Json) → Each Is (map tree xs) (items_view jsons) → Is (tree x) (view json) →
-    Each Is (map tree (xs ++ x ∷ [])) (items_view (jsons ++ json ∷ []))
-each_tree_more Is tree [] x [] json are is = (is, tt)
-each_tree_more Is tree (y ∷ xs) x (one ∷ jsons) json are is = (are.0, each_tree_more Is tree xs x jsons json are.1 is)
-each_tree_more Is tree [] x (one ∷ jsons) json are is = absurd are
-each_tree_more Is tree (y ∷ xs) x [] json are is = absurd are
 
 -- the step of a loop: one more is taken, which is the item at that index
 pub take_next : {A : Type 0} (xs : List A) (i : ℕ) (x : A) → i < length xs → x ≡ get_or xs i x → take (i + 1) xs ≡ take i xs ++ x ∷ []

@@ -1,19 +1,13 @@
 -- Which JSON is of which input value definition and directive definition.
-use Rattle.std.specs.Prelude.{◌≡◌, [], ◌∷◌, Option, Some, None, ⊤, codes}
+use Rattle.std.specs.Prelude.{◌≡◌, [], ◌∷◌, Some, codes}
 use Rattle.serde_json.specs.Data.{Data, boolean, string}
 use Rattle.graphql_values.specs.DirectiveDefinitions.{directive_definition_kind}
 use Rattle.graphql_values.specs.DirectiveLocations.{DirectiveLocationTree, location_name}
 use Rattle.graphql_values.specs.InputValueDefinitions.{input_value_definition_kind}
 use Rattle.graphql_ast_json.specs.DirectiveJson.{IsDirective}
-use Rattle.graphql_ast_json.specs.Nodes.{IsNode, IsName, IsStringValue, Anywhere, Member, ListMember, OptionalListMember, Each, member_of}
+use Rattle.graphql_ast_json.specs.Nodes.{IsNode, IsName, IsStringValue, IsOptional, Anywhere, Member, ListMember, OptionalListMember, Each, member_of}
 use Rattle.graphql_ast_json.specs.TypeJson.{IsTypeReference}
 use Rattle.graphql_ast_json.specs.ValueJson.{IsValue}
-
--- a member is there exactly where something is, and is that
-abbrev pub IsOptional : {A : Type 0} → (A → Data → Type 0) → Option A → Option Data → Type 0
-IsOptional Is None None = ⊤
-IsOptional Is (Some x) (Some json) = Is x json
-IsOptional Is _ _ = ⊥
 
 abbrev pub IsInputValueDefinition : input_value_definition_kind.Tree → Data → Type 0
 IsInputValueDefinition input json =

@@ -15,6 +15,10 @@ IsDirective directive json =
     IsNode (codes "Directive") (codes "name" ∷ codes "arguments" ∷ []) Anywhere json × Member (codes "name") json (IsName directive.name)
     × OptionalListMember (codes "arguments") json (Each IsArgument directive.arguments)
 
+-- the member `directives` has these directives, or is left out where there are none
+abbrev pub HasDirectives : List DirectiveTree → Data → Type 0
+HasDirectives directives json = OptionalListMember (codes "directives") json (Each IsDirective directives)
+
 -- a list of directives alone is an array
 abbrev pub AreDirectives : List DirectiveTree → Data → Type 0
 AreDirectives directives json = IsSomeAnd (as_array json) (Each IsDirective directives)

@@ -61,6 +61,12 @@ Member name json Is = IsSomeAnd (member_of name json) Is
 abbrev pub OptionalMember : List ℕ → Data → (Data → Type 0) → Type 0
 OptionalMember name json Is = MatchOption (member_of name json) ⊤ Is
 
+-- a member is there exactly where something is, and is that
+abbrev pub IsOptional : {A : Type 0} → (A → Data → Type 0) → Option A → Option Data → Type 0
+IsOptional Is None None = ⊤
+IsOptional Is (Some x) (Some json) = Is x json
+IsOptional Is _ _ = ⊥
+
 -- a list is there, and its items are such
 abbrev pub ListMember : List ℕ → Data → (Items → Type 0) → Type 0
 ListMember name json Are = IsSomeAnd (option_and_then as_array (member_of name json)) Are
@@ -93,3 +99,7 @@ abbrev pub IsStringValue : StringText → Data → Type 0
 IsStringValue text json =
     IsNode (codes "StringValue") (codes "value" ∷ codes "block" ∷ []) Anywhere json × (member_of (codes "value") json ≡ Some (string (encode_utf8_all text.text)))
     × OptionalMember (codes "block") json IsBoolean
+
+-- the member `name` is this name
+abbrev pub HasName : NameText → Data → Type 0
+HasName name json = Member (codes "name") json (IsName name)

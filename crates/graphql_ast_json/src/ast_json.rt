@@ -1,40 +1,18 @@
 //! What can be read from AST JSON, and written as it.
-ghost use Rattle.std.specs.Prelude.{List, IfOk, IfErr};
+ghost use Rattle.std.specs.Prelude.{◌≡◌, IfOk, IfErr, Some};
 ghost use Rattle.serde_json.specs.Data.{Data};
+ghost use Rattle.serde_json.specs.Read.{read};
 ghost use Rattle.serde_json.specs.View.{view};
-ghost use Rattle.graphql_values.specs.Arguments.{ArgumentTree};
-ghost use Rattle.graphql_values.specs.Directives.{DirectiveTree};
-ghost use Rattle.graphql_values.specs.TypeReferences.{TypeTree};
-ghost use Rattle.graphql_values.specs.Values.{ValueTree};
-ghost use Rattle.graphql_values.specs.DirectiveDefinitions.{directive_definition_kind};
-ghost use Rattle.graphql_values.specs.InputValueDefinitions.{input_value_definition_kind};
-ghost use Rattle.graphql_values.specs.DefinitionTrees.{directive_definition_tree, input_value_definition_tree};
-ghost use Rattle.graphql_values.specs.DirectiveTrees.{argument_tree, directive_tree, directive_trees};
-ghost use Rattle.graphql_values.specs.TypeTrees.{type_tree};
-ghost use Rattle.graphql_values.specs.ValueTrees.{value_tree};
-ghost use Rattle.graphql_ast_json.specs.DefinitionJson.{IsDirectiveDefinition, IsInputValueDefinition};
-ghost use Rattle.graphql_ast_json.specs.DirectiveJson.{AreDirectives, IsArgument, IsDirective};
+ghost use Rattle.graphql_base.specs.Node.{node_value};
 ghost use Rattle.graphql_ast_json.specs.Errors.{IsMemory};
-ghost use Rattle.graphql_ast_json.specs.TypeJson.{IsTypeReference};
-ghost use Rattle.graphql_ast_json.specs.ValueJson.{IsValue};
+ghost use Rattle.graphql_ast_json.specs.Nodes.{Anywhere, IsLocated};
+ghost use Rattle.graphql_ast_json.specs.OneTree.{IsNeverNull, IsOfOneTree};
 
 use crate::error::AstJsonError;
-use crate::read::{
-    read_argument, read_directive, read_directive_definition, read_directives,
-    read_input_value_definition, read_type, read_value,
-};
-use crate::write::{
-    write_argument, write_directive, write_directive_definition, write_directives,
-    write_input_value_definition, write_type, write_value,
-};
-use graphql_base::span::FileId;
-use graphql_values::argument::Argument;
-use graphql_values::directive::Directive;
-use graphql_values::directive_definition::DirectiveDefinition;
-use graphql_values::directive_list::DirectiveList;
-use graphql_values::input_value_definition::InputValueDefinition;
-use graphql_values::types::Type;
-use graphql_values::value::Value;
+use crate::read::node::{location, node_of};
+use crate::read::text::read_json;
+use graphql_base::node::Node;
+use graphql_base::span::{FileId, SourceSpan};
 use serde_json::Value as Json;
 use std::alloc::{AllocError, Global};
 
@@ -69,132 +47,66 @@ pub trait AstJson: Sized {
     /// The tree as JSON. `AllocError` where memory is refused.
     fn to_ast_json(&self, alloc: Global) -> Result<Json, AllocError>
         ensures { IfOk result (λ json. is_json_of (tree self.now) (view json)) };
+
+    /// No two trees are written alike.
+    ghost one_tree: { IsOfOneTree is_json_of };
+
+    /// Null is of no tree.
+    ghost never_null: { IsNeverNull is_json_of };
 }
 
-impl AstJson for Value {
-    ghost Tree = { ValueTree };
-
-    ghost tree = { value_tree };
-
-    ghost is_json_of = { IsValue };
-
-    fn from_ast_json(alloc: Global, json: &Json, source: FileId) -> Result<Value, AstJsonError> {
-        read_value(alloc, json, source)
-    }
-
-    fn to_ast_json(&self, alloc: Global) -> Result<Json, AllocError> {
-        write_value(alloc, self)
-    }
-}
-
-impl AstJson for Type {
-    ghost Tree = { TypeTree };
-
-    ghost tree = { type_tree };
-
-    ghost is_json_of = { IsTypeReference };
-
-    fn from_ast_json(alloc: Global, json: &Json, source: FileId) -> Result<Type, AstJsonError> {
-        read_type(alloc, json, source)
-    }
-
-    fn to_ast_json(&self, alloc: Global) -> Result<Json, AllocError> {
-        write_type(alloc, self)
-    }
-}
-
-impl AstJson for Argument {
-    ghost Tree = { ArgumentTree };
-
-    ghost tree = { argument_tree };
-
-    ghost is_json_of = { IsArgument };
-
-    fn from_ast_json(alloc: Global, json: &Json, source: FileId) -> Result<Argument, AstJsonError> {
-        read_argument(alloc, json, source)
-    }
-
-    fn to_ast_json(&self, alloc: Global) -> Result<Json, AllocError> {
-        write_argument(alloc, self)
-    }
-}
-
-impl AstJson for Directive {
-    ghost Tree = { DirectiveTree };
-
-    ghost tree = { directive_tree };
-
-    ghost is_json_of = { IsDirective };
-
-    fn from_ast_json(
+/// A kind of which each tree is one node, so that it may stand at a location.
+pub trait AstNode: AstJson {
+    /// The tree as JSON, at a location if there is one. `AllocError` where memory is refused.
+    fn to_ast_json_at(
+        &self,
         alloc: Global,
-        json: &Json,
-        source: FileId,
-    ) -> Result<Directive, AstJsonError> {
-        read_directive(alloc, json, source)
+        location: Option<SourceSpan>,
+    ) -> Result<Json, AllocError>
+        ensures { IfOk result (λ json. Self.is_json_of (Self.tree self.now) (view json)) };
+
+    /// The JSON tells where the node stands, or doesn't tell.
+    ghost located: { (tree : Self.Tree) (json : Data) → Self.is_json_of tree json → IsLocated Anywhere json };
+}
+
+impl<T: AstNode + Drop> AstJson for Node<T> {
+    ghost Tree = { T.Tree };
+
+    ghost tree = { λ node. T.tree (node_value node) };
+
+    ghost is_json_of = { T.is_json_of };
+
+    ghost one_tree = { T.one_tree };
+
+    ghost never_null = { T.never_null };
+
+    /// The node, at its location if the JSON tells one.
+    fn from_ast_json(alloc: Global, json: &Json, source: FileId) -> Result<Node<T>, AstJsonError> {
+        let value = T::from_ast_json(alloc, json, source)?;
+        let location = location(alloc, json, source)?;
+        Ok(node_of(alloc, location, value)?)
     }
 
+    /// The node, at its location if it has one.
     fn to_ast_json(&self, alloc: Global) -> Result<Json, AllocError> {
-        write_directive(alloc, self)
+        self.as_ref().to_ast_json_at(alloc, self.location())
     }
 }
 
-impl AstJson for DirectiveList {
-    ghost Tree = { List DirectiveTree };
-
-    ghost tree = { directive_trees };
-
-    ghost is_json_of = { AreDirectives };
-
-    fn from_ast_json(
-        alloc: Global,
-        json: &Json,
-        source: FileId,
-    ) -> Result<DirectiveList, AstJsonError> {
-        read_directives(alloc, json, source)
-    }
-
-    fn to_ast_json(&self, alloc: Global) -> Result<Json, AllocError> {
-        write_directives(alloc, self)
-    }
-}
-
-impl AstJson for InputValueDefinition {
-    ghost Tree = { input_value_definition_kind.Tree };
-
-    ghost tree = { input_value_definition_tree };
-
-    ghost is_json_of = { IsInputValueDefinition };
-
-    fn from_ast_json(
-        alloc: Global,
-        json: &Json,
-        source: FileId,
-    ) -> Result<InputValueDefinition, AstJsonError> {
-        read_input_value_definition(alloc, json, source)
-    }
-
-    fn to_ast_json(&self, alloc: Global) -> Result<Json, AllocError> {
-        write_input_value_definition(alloc, self)
-    }
-}
-
-impl AstJson for DirectiveDefinition {
-    ghost Tree = { directive_definition_kind.Tree };
-
-    ghost tree = { directive_definition_tree };
-
-    ghost is_json_of = { IsDirectiveDefinition };
-
-    fn from_ast_json(
-        alloc: Global,
-        json: &Json,
-        source: FileId,
-    ) -> Result<DirectiveDefinition, AstJsonError> {
-        read_directive_definition(alloc, json, source)
-    }
-
-    fn to_ast_json(&self, alloc: Global) -> Result<Json, AllocError> {
-        write_directive_definition(alloc, self)
-    }
+/// The tree that a text of AST JSON is of: `AstJson::from_ast_json` of the JSON that the text is.
+///
+/// `AstJsonError::TooDeep` where arrays and objects of the text stand in one another more than 127 deep, at which the
+/// reader of JSON gives up, and `AstJsonError::NotJson` where the text is otherwise no JSON.
+pub fn from_ast_json_str<T: AstJson>(
+    alloc: Global,
+    text: &str,
+    source: FileId,
+) -> Result<T, AstJsonError>
+    ensures ok { IfOk result (λ value.
+        (json : Data) × (read text.now ≡ Some json) × T.is_json_of (T.tree value) json) }
+    ensures err { IfErr result (λ error. ¬ IsMemory error
+        → (json : Data) → read text.now ≡ Some json → (tree : T.Tree) → ¬ T.is_json_of tree json) }
+{
+    let json = read_json(alloc, text)?;
+    T::from_ast_json(alloc, &json, source)
 }

@@ -132,6 +132,12 @@ pub enum AstJsonError {
     /// Memory was refused, for the tree or for the error.
     #[error("out of memory")]
     Memory,
+    /// The text is no JSON.
+    #[error(transparent)]
+    NotJson(serde_json::Error),
+    /// Arrays and objects of the text stand in one another deeper than JSON is read.
+    #[error("arrays and objects stand in one another more than 127 deep")]
+    TooDeep,
     /// The JSON is of no such tree, because of this problem at this place.
     #[error("at {path}: {problem}")]
     Invalid {
@@ -176,11 +182,11 @@ impl AstJsonError {
         ensures { IsMemory self → IsMemory result }
     {
         match self {
-            AstJsonError::Memory => AstJsonError::Memory,
             AstJsonError::Invalid { path, problem } => match path.in_member(alloc, name) {
                 Ok(path) => AstJsonError::Invalid { path, problem },
                 Err(_) => AstJsonError::Memory,
             },
+            other => other,
         }
     }
 
@@ -189,11 +195,11 @@ impl AstJsonError {
         ensures { IsMemory self → IsMemory result }
     {
         match self {
-            AstJsonError::Memory => AstJsonError::Memory,
             AstJsonError::Invalid { path, problem } => match path.in_item(alloc, index) {
                 Ok(path) => AstJsonError::Invalid { path, problem },
                 Err(_) => AstJsonError::Memory,
             },
+            other => other,
         }
     }
 

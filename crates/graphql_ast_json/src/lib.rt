@@ -1,15 +1,45 @@
 //! Syntax trees from AST JSON, the form of graphql-js 16, and as AST JSON.
 //!
-//! - `AstJson`: what can be read from AST JSON, and written as it.
+//! - `AstJson`: what can be read from AST JSON, and written as it; `AstNode`: of which each tree is one node.
+//! - `from_ast_json_str`: a tree from the text of its JSON.
 //! - `error`: why JSON is of no tree, and where in it.
 //! - `laws`: what holds of AST JSON, as contracts of functions that do nothing.
 #![tactic(auto)]
 
+mod argument;
 mod ast_json;
+mod directive;
+mod directive_definition;
+mod directive_list;
+mod directive_location;
+mod enum_type;
+mod enum_value_definition;
 pub mod error;
+mod field;
+mod field_definition;
+mod form;
+mod fragment_definition;
+mod fragment_spread;
+mod inline_fragment;
+mod input_object_type;
+mod input_value_definition;
+mod interface_type;
 pub mod laws;
+mod name;
+mod object_type;
+mod operation_definition;
+mod operation_type;
 mod read;
+mod root_operation;
+mod scalar_type;
+mod schema;
+mod selection;
+mod string;
+mod types;
+mod union_type;
+mod value;
+mod variable_definition;
 mod write;
 
-pub use crate::ast_json::AstJson;
+pub use crate::ast_json::{AstJson, AstNode, from_ast_json_str};
 pub use crate::error::AstJsonError;

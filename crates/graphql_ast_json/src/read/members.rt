@@ -1,6 +1,6 @@
 //! Members of JSON by their names, and of which type they are.
-ghost use Rattle.std.specs.Prelude.{◌≡◌, ◌<◌, ◌+◌, ℕ, List, IfOk, IfErr, IfSome, Some, None, option_map, option_and_then};
-ghost use Rattle.serde_json.specs.Data.{depth, items_depth, string};
+ghost use Rattle.std.specs.Prelude.{◌≡◌, ◌<◌, ◌+◌, ℕ, Bool, List, IfOk, IfErr, IfSome, Some, None, option_map, option_and_then};
+ghost use Rattle.serde_json.specs.Data.{boolean, depth, items_depth, string};
 ghost use Rattle.serde_json.specs.Find.{as_array};
 ghost use Rattle.serde_json.specs.View.{view, items_view};
 ghost use Rattle.graphql_ast_json.specs.Errors.{IsMemory};
@@ -80,6 +80,30 @@ pub(crate) fn text_member<'j>(
             Some(text) => Ok(text),
             None => Err(wrong_type(alloc, member, JsonType::Text).in_member(alloc, name)),
         },
+    }
+}
+
+/// Whether the member of this name is true.
+pub(crate) fn boolean_member(alloc: Global, json: &Json, name: &str) -> Result<bool, AstJsonError>
+    ensures ok { IfOk result (λ is_so. member_of name.now (view json.now) ≡ Some (boolean is_so)) }
+    ensures err { IfErr result (λ error. ¬ IsMemory error
+        → (is_so : Bool) → ¬ (member_of name.now (view json.now) ≡ Some (boolean is_so))) }
+{
+    let member = required_member(alloc, json, name)?;
+    match member {
+        Json::Bool(is_so) => Ok(*is_so),
+        _ => Err(wrong_type(alloc, member, JsonType::Boolean).in_member(alloc, name)),
+    }
+}
+
+/// The items of JSON that is an array.
+pub(crate) fn array_items(alloc: Global, json: &Json) -> Result<&[Json], AstJsonError>
+    ensures ok { IfOk result (λ items. as_array (view json.now) ≡ Some (items_view items.now)) }
+    ensures err { IfErr result (λ error. ¬ IsMemory error → as_array (view json.now) ≡ None) }
+{
+    match json {
+        Json::Array(items) => Ok(items.as_slice()),
+        _ => Err(wrong_type(alloc, json, JsonType::Array)),
     }
 }
 

@@ -1,12 +1,14 @@
 //! Nodes are written: objects with a kind, perhaps a location, and members.
-ghost use Rattle.std.specs.Prelude.{◌≡◌, ◌∷◌, [], IfOk, OnErr, OnOk, Some, codes, false, option_map};
-ghost use Rattle.graphql_ast_json.specs.Drafts.{IsAt, IsBegun, IsLocationJson, beginning, members_so_far, put_optional};
-ghost use Rattle.graphql_ast_json.specs.Nodes.{Anywhere, IsLocated, IsNode, member_of};
+ghost use Rattle.std.specs.Prelude.{◌≡◌, ◌∷◌, [], IfOk, IsSomeAnd, OnErr, OnOk, Some, codes, false, map, option_map};
+ghost use Rattle.graphql_ast_json.specs.Drafts.{IsArrayOf, IsAt, IsBegun, IsGiven, IsLocationJson, beginning, members_so_far, put_optional};
+ghost use Rattle.graphql_ast_json.specs.Nodes.{Anywhere, Each, IsLocated, IsNode, IsOptional, member_of};
 ghost use Rattle.graphql_text.specs.Forms.{is_one_of};
-ghost use Rattle.serde_json.specs.Data.{object, string, put as with_member};
+ghost use Rattle.serde_json.specs.Data.{boolean, object, string, put as with_member};
 ghost use Rattle.serde_json.specs.Find.{get};
 ghost use Rattle.serde_json.specs.View.{view};
 
+use crate::form::Form;
+use crate::write::list::write_list;
 use graphql_base::span::SourceSpan;
 use serde_json::{Map, Value as Json, json, put};
 use std::alloc::{AllocError, Global};
@@ -32,13 +34,13 @@ impl NodeWriter {
             alloc,
             members: Map::new(alloc),
         };
-        node.put("kind", Json::try_from_str(alloc, kind)?)?;
-        node.put_optional("loc", write_location(alloc, location)?)?;
+        node.put_json("kind", Json::try_from_str(alloc, kind)?)?;
+        node.put_optional_json("loc", write_location(alloc, location)?)?;
         Ok(node)
     }
 
     /// Gives the node a member. After an error it has those that it had.
-    pub fn put(&mut self, name: &str, json: Json) -> Result<(), AllocError>
+    pub fn put_json(&mut self, name: &str, json: Json) -> Result<(), AllocError>
         ensures ok { OnOk result
             (members_so_far self.new ≡ with_member name.now (view json) (members_so_far self.old)) }
         ensures err { OnErr result (members_so_far self.new ≡ members_so_far self.old) }
@@ -47,15 +49,65 @@ impl NodeWriter {
     }
 
     /// Gives the node a member, if there is one. After an error it has those that it had.
-    pub fn put_optional(&mut self, name: &str, json: Option<Json>) -> Result<(), AllocError>
+    pub fn put_optional_json(&mut self, name: &str, json: Option<Json>) -> Result<(), AllocError>
         ensures ok { OnOk result
             (members_so_far self.new ≡ put_optional name.now (option_map view json) (members_so_far self.old)) }
         ensures err { OnErr result (members_so_far self.new ≡ members_so_far self.old) }
     {
         match json {
-            Some(json) => self.put(name, json),
+            Some(json) => self.put_json(name, json),
             None => Ok(()),
         }
+    }
+
+    /// Gives the node a member that is the JSON of this tree.
+    pub fn put<F: Form>(&mut self, name: &str, value: &F::Value) -> Result<(), AllocError>
+        ensures { OnOk result (IsGiven name.now (λ json. IsSomeAnd json (F.is_json_of (F.tree value.now)))
+            (members_so_far self.old) (members_so_far self.new)) }
+    {
+        let json = F::write(self.alloc, value)?;
+        self.put_json(name, json)
+    }
+
+    /// Gives the node a member that is the JSON of this tree, if there is one.
+    pub fn put_optional<F: Form>(
+        &mut self,
+        name: &str,
+        value: &Option<F::Value>,
+    ) -> Result<(), AllocError>
+        ensures { OnOk result (IsGiven name.now (IsOptional F.is_json_of (option_map F.tree value.now))
+            (members_so_far self.old) (members_so_far self.new)) }
+    {
+        match value {
+            Some(value) => self.put::<F>(name, value),
+            None => Ok(()),
+        }
+    }
+
+    /// Gives the node a member that is an array of the JSON of these trees.
+    pub fn put_list<F: Form>(&mut self, name: &str, values: &[F::Value]) -> Result<(), AllocError>
+        ensures { OnOk result (IsGiven name.now (IsArrayOf (Each F.is_json_of (map F.tree values.now)))
+            (members_so_far self.old) (members_so_far self.new)) }
+    {
+        let json = write_list::<F>(self.alloc, values)?;
+        self.put_json(name, json)
+    }
+
+    /// Gives the node a member that is this text.
+    pub fn put_text(&mut self, name: &str, text: &str) -> Result<(), AllocError>
+        ensures { OnOk result (IsGiven name.now (λ json. json ≡ Some (string text.now))
+            (members_so_far self.old) (members_so_far self.new)) }
+    {
+        let json = Json::try_from_str(self.alloc, text)?;
+        self.put_json(name, json)
+    }
+
+    /// Gives the node a member that is this boolean.
+    pub fn put_boolean(&mut self, name: &str, is_so: bool) -> Result<(), AllocError>
+        ensures { OnOk result (IsGiven name.now (λ json. json ≡ Some (boolean is_so))
+            (members_so_far self.old) (members_so_far self.new)) }
+    {
+        self.put_json(name, Json::Bool(is_so))
     }
 
     /// The node as it stands.
@@ -93,7 +145,7 @@ pub fn write_node_with(
     ensures member { IfOk result (λ node. get name.now (view node) ≡ Some (view json)) }
 {
     let mut node = NodeWriter::new(alloc, kind, location)?;
-    node.put(name, json)?;
+    node.put_json(name, json)?;
     Ok(node.into_json())
 }
 

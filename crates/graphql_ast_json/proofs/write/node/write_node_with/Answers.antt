@@ -9,7 +9,7 @@ pub returns : goal.returns
 returns c =
     let begun = c.in_ok-node.ensures in
     let written : IsWritten c.args.kind.now c.args.location ((c.args.name.now, Some (view c.args.json)) ∷ []) (view c.into_json.result) = record {
-      are = c.into_json.ensures ∙ ap object (c.in_ok-put.ensures.ok ∙ ap (put c.args.name.now (view c.args.json)) begun.are);
+      are = c.into_json.ensures ∙ ap object (c.in_ok-put_json.ensures.ok ∙ ap (put c.args.name.now (view c.args.json)) begun.are);
       reach = begun.reach;
     } in
     let is = one_written c.args.kind.now c.args.location c.args.name.now (view c.args.json) (view c.into_json.result) c.requires written in

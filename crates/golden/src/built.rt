@@ -1,0 +1,54 @@
+//! Trees that cases tell by a number, since they are deeper than JSON is read.
+use graphql_base::name;
+use graphql_base::node::Node;
+use graphql_executable::field::Field;
+use graphql_executable::operation_definition::OperationDefinition;
+use graphql_executable::selection::Selection;
+use graphql_values::directive_list::DirectiveList;
+use graphql_values::operation_type::OperationType;
+use graphql_values::value::Value;
+use std::alloc::{AllocError, Global};
+
+/// As many lists, each the one item of the one around it; the innermost is empty. None is `null`.
+pub fn nested_lists(alloc: Global, count: u64) -> Result<Value, AllocError> {
+    let mut value = Value::Null;
+    for depth in 0..count {
+        let mut items = Vec::new(alloc);
+        if depth > 0 {
+            items.push(Node::new(alloc, value)?)?;
+        }
+        value = Value::List(items);
+    }
+    Ok(value)
+}
+
+/// The field `a` with these selections, alone.
+fn field_around(
+    alloc: Global,
+    selection_set: Vec<Selection>,
+) -> Result<Vec<Selection>, AllocError> {
+    let field = Field {
+        alias: None,
+        name: name!(a),
+        arguments: Vec::new(alloc),
+        directives: DirectiveList(Vec::new(alloc)),
+        selection_set,
+    };
+    Ok(vec![in alloc; Selection::Field(Node::new(alloc, field)?)]?)
+}
+
+/// An anonymous query with as many selection sets, each in the field `a` of the one around it.
+pub fn nested_fields(alloc: Global, count: u64) -> Result<OperationDefinition, AllocError> {
+    let mut selection_set = Vec::new(alloc);
+    for _ in 0..count {
+        selection_set = field_around(alloc, selection_set)?;
+    }
+    Ok(OperationDefinition {
+        description: None,
+        operation_type: OperationType::Query,
+        name: None,
+        variables: Vec::new(alloc),
+        directives: DirectiveList(Vec::new(alloc)),
+        selection_set,
+    })
+}

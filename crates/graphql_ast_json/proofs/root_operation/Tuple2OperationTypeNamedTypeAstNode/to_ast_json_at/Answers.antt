@@ -1,0 +1,11 @@
+use Rattle.std.proofs.Common.{[], ◌∷◌, codes, refl, sym}
+use Rattle.graphql_ast_json.proofs.Drafts.{begun, ended, gained, given_member, is_node}
+use Rattle.graphql_ast_json.proofs.root_operation.Tuple2OperationTypeNamedTypeAstNode.to_ast_json_at.Goals as goal
+
+pub returns : goal.returns
+returns c =
+    let w = ended c.into_json.ensures (gained (gained (begun c.in_ok-node.ensures) c.in_ok-put_text.ensures) c.in_ok-put.ensures) in (
+      is_node (codes "operation" ∷ codes "type" ∷ []) w refl refl refl refl,
+      rw (sym c.name.ensures) (given_member w c.in_ok-put_text.ensures refl refl),
+      given_member w c.in_ok-put.ensures refl refl,
+    )

@@ -1,0 +1,13 @@
+use Rattle.std.proofs.Common.{sym, ◌∙◌}
+use Rattle.std.proofs.lemmas.Str.{IsUtf8-had, encodes-chars}
+use Rattle.graphql_base.specs.Node.{node_str_text}
+use Rattle.graphql_text.specs.Leaves.{description_tree}
+use Rattle.graphql_ast_json.proofs.Outcomes.{one_then}
+use Rattle.graphql_ast_json.proofs.string.NodeStrAstJson.to_ast_json.Goals as goal
+
+pub returns : goal.returns
+returns c =
+    let text = c.args.self.now in
+    let bytes = node_str_text text in
+    one_then c.write_string.result c.write_string.ensures
+    (λ json is. is (description_tree text) (encodes-chars bytes (IsUtf8-had bytes text.valid) ∙ sym c.as_str.ensures))

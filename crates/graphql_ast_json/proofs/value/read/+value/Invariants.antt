@@ -1,0 +1,33 @@
+use Rattle.std.proofs.Common.{◌+◌, ◌*◌, take}
+use Rattle.serde_json.specs.Data.{depth, items_depth}
+use Rattle.serde_json.specs.View.{view, items_view}
+use Rattle.graphql_values.specs.ValueTrees.{value_trees, object_field_trees}
+use Rattle.graphql_ast_json.specs.ValueJson.{AreValues, AreObjectFields}
+use Rattle.graphql_ast_json.proofs.value.read.+value.Given as goal
+
+abbrev pub decreases-read_value : goal.decreases-read_value
+decreases-read_value l = 3 * depth (view l.json.now) + 2
+
+abbrev pub decreases-read_value_node : goal.decreases-read_value_node
+decreases-read_value_node l = 3 * depth (view l.json.now) + 3
+
+abbrev pub decreases-list_items : goal.decreases-list_items
+decreases-list_items l = 3 * depth (view l.json.now) + 1
+
+abbrev pub decreases-values : goal.decreases-values
+decreases-values l = 3 * items_depth (items_view l.items.now) + 4
+
+abbrev pub decreases-object_fields : goal.decreases-object_fields
+decreases-object_fields l = 3 * depth (view l.json.now) + 1
+
+abbrev pub decreases-fields : goal.decreases-fields
+decreases-fields l = 3 * items_depth (items_view l.items.now) + 4
+
+abbrev pub decreases-named_value : goal.decreases-named_value
+decreases-named_value l = 3 * depth (view l.json.now) + 3
+
+abbrev pub invariant-values-loop-index : goal.invariant-values-loop-index
+invariant-values-loop-index l = AreValues (value_trees l.values.items) (items_view (take l.index l.items))
+
+abbrev pub invariant-fields-loop-index : goal.invariant-fields-loop-index
+invariant-fields-loop-index l = AreObjectFields (object_field_trees l.fields.items) (items_view (take l.index l.items))

@@ -1,0 +1,11 @@
+//! Trees from AST JSON and as it, through public calls alone: with ample memory, and where memory is refused.
+#![tactic(auto)]
+
+#[cfg(test)]
+mod errors;
+#[cfg(test)]
+mod refusals;
+#[cfg(test)]
+mod samples;
+#[cfg(test)]
+mod trees;

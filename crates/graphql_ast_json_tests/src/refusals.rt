@@ -1,0 +1,35 @@
+//! Calls that meet a refused growth, wherever it comes: the answer is the refusal, or that of an undisturbed call.
+//! `rt try --test --fail-alloc N` refuses the Nth growth of each test.
+use crate::samples::{DEFINITION, PRINTED};
+use graphql_ast_json::{AstJson, AstJsonError, from_ast_json_str};
+use graphql_base::span::FileId;
+use graphql_text::engine::PrintError;
+use graphql_values::directive_definition::DirectiveDefinition;
+
+#[test]
+fn a_definition_is_read_or_memory_was_refused(rt: HostRuntime) {
+    let alloc = rt.alloc();
+    match from_ast_json_str::<DirectiveDefinition>(alloc, DEFINITION, FileId::new(1)) {
+        Ok(definition) => match definition.serialize().no_indent().to_text(alloc) {
+            Ok(text) => assert_eq!(rt; text.as_str(), PRINTED),
+            Err(error) => assert_eq!(rt; error, PrintError::Memory),
+        },
+        Err(error) => assert!(rt; matches!(error, AstJsonError::Memory)),
+    }
+}
+
+#[test]
+fn a_definition_is_written_or_memory_was_refused(rt: HostRuntime) {
+    let alloc = rt.alloc();
+    let source = FileId::new(1);
+    let Ok(definition) = from_ast_json_str::<DirectiveDefinition>(alloc, DEFINITION, source) else {
+        return;
+    };
+    let Ok(json) = definition.to_ast_json(alloc) else {
+        return;
+    };
+    match DirectiveDefinition::from_ast_json(alloc, &json, source) {
+        Ok(again) => assert!(rt; again == definition),
+        Err(error) => assert!(rt; matches!(error, AstJsonError::Memory)),
+    }
+}

@@ -1,0 +1,3 @@
+-- Documents: definitions, and documents of them.
+pub mod Definitions
+pub mod Documents

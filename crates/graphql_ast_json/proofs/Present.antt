@@ -1,5 +1,5 @@
 -- A member that is such was given under its name.
-use Rattle.std.proofs.Common.{◌≡◌, ℕ, List, Option, Some, None, option_and_then, IsSomeAnd, refl, sym, subst}
+use Rattle.std.proofs.Common.{◌≡◌, ℕ, List, Some, option_and_then, IsSomeAnd, refl, sym, subst}
 use Rattle.serde_json.specs.Data.{Data, null, boolean, number, string, array, object, Items}
 use Rattle.serde_json.specs.Find.{get, as_array}
 use Rattle.graphql_ast_json.specs.Nodes.{present, Member, ListMember}

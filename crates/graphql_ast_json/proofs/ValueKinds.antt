@@ -5,7 +5,7 @@ use Rattle.graphql_base.specs.declared.node.Node.{Node}
 use Rattle.graphql_base.specs.Node.{node_value}
 use Rattle.graphql_text.specs.Leaves.{name_tree}
 use Rattle.graphql_text.specs.Literals.{NameText, IntText, FloatText}
-use Rattle.graphql_values.specs.Values.{ValueTree, null_value, enum_value, variable, string_value, float_value, int_value, boolean_value, list_value, object_value, ValueTrees, no_values, more_values, ObjectFieldTrees, no_fields, more_fields}
+use Rattle.graphql_values.specs.Values.{ValueTree, enum_value, string_value, float_value, int_value, boolean_value, list_value, object_value, ValueTrees, no_values, more_values, ObjectFieldTrees, no_fields, more_fields}
 use Rattle.graphql_values.specs.ValueTrees.{value_tree, value_trees, object_field_trees}
 use Rattle.graphql_values.specs.declared.value.Value.{Value, String as TheString, the_lemmas}
 use Rattle.graphql_values.specs.Literals.{string_tree}

@@ -3,7 +3,6 @@
 use Rattle.std.specs.Prelude.{◌≡◌, ℕ, List, [], ◌∷◌, Some, codes}
 use Rattle.serde_json.specs.Data.{Data, string}
 use Rattle.graphql_text.specs.Descriptions.{Described}
-use Rattle.graphql_text.specs.Kinds.{Kind}
 use Rattle.graphql_values.specs.OperationTypes.{operation_type_name}
 use Rattle.graphql_type_system.specs.BracedTypes.{BracedTypeTree}
 use Rattle.graphql_type_system.specs.EnumValueDefinitions.{EnumValueDefinitionTree, enum_value_definition_kind}

@@ -26,8 +26,8 @@ use graphql_executable::selection::Selection;
 use serde_json::Value as Json;
 use std::alloc::{AllocError, Global};
 
-/// A form in which values of a type stand in AST JSON. What has `AstJson` has a form of its own; the name of a type also
-/// stands as a node `NamedType`, that of a variable as a node `Variable`, and selections as a node `SelectionSet`.
+/// A form in which values of a type stand in AST JSON. What has `AstJson` has a form of its own; the name of a type
+/// also stands as a node `NamedType`, that of a variable as a node `Variable`, and selections as a node `SelectionSet`.
 pub trait Form {
     type Value: Drop;
 

@@ -30,7 +30,8 @@ impl AstJson for InputObjectTypeDefinition {
     ghost one_tree = { same_definition (codes "InputObjectTypeDefinition") input_object_type_members HasInputObjectType
         same_input_object_type };
 
-    ghost never_null = { definition_never_null (codes "InputObjectTypeDefinition") input_object_type_members HasInputObjectType };
+    ghost never_null = { definition_never_null (codes "InputObjectTypeDefinition") input_object_type_members
+        HasInputObjectType };
 
     fn from_ast_json(
         alloc: Global,
@@ -64,7 +65,8 @@ impl AstJson for InputObjectTypeDefinition {
 }
 
 impl AstNode for InputObjectTypeDefinition {
-    ghost located = { definition_located (codes "InputObjectTypeDefinition") input_object_type_members HasInputObjectType };
+    ghost located = { definition_located (codes "InputObjectTypeDefinition") input_object_type_members
+        HasInputObjectType };
 
     fn to_ast_json_at(
         &self,
@@ -90,7 +92,8 @@ impl AstJson for InputObjectTypeExtension {
     ghost one_tree = { same_extension (codes "InputObjectTypeExtension") input_object_type_members HasInputObjectType
         same_input_object_type };
 
-    ghost never_null = { extension_never_null (codes "InputObjectTypeExtension") input_object_type_members HasInputObjectType };
+    ghost never_null = { extension_never_null (codes "InputObjectTypeExtension") input_object_type_members
+        HasInputObjectType };
 
     fn from_ast_json(
         alloc: Global,
@@ -122,7 +125,8 @@ impl AstJson for InputObjectTypeExtension {
 }
 
 impl AstNode for InputObjectTypeExtension {
-    ghost located = { extension_located (codes "InputObjectTypeExtension") input_object_type_members HasInputObjectType };
+    ghost located = { extension_located (codes "InputObjectTypeExtension") input_object_type_members
+        HasInputObjectType };
 
     fn to_ast_json_at(
         &self,

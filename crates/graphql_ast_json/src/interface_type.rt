@@ -31,7 +31,8 @@ impl AstJson for InterfaceTypeDefinition {
     ghost one_tree = { same_definition (codes "InterfaceTypeDefinition") implementing_type_members HasImplementingType
         same_implementing_type };
 
-    ghost never_null = { definition_never_null (codes "InterfaceTypeDefinition") implementing_type_members HasImplementingType };
+    ghost never_null = { definition_never_null (codes "InterfaceTypeDefinition") implementing_type_members
+        HasImplementingType };
 
     fn from_ast_json(
         alloc: Global,
@@ -78,7 +79,8 @@ impl AstJson for InterfaceTypeDefinition {
 }
 
 impl AstNode for InterfaceTypeDefinition {
-    ghost located = { definition_located (codes "InterfaceTypeDefinition") implementing_type_members HasImplementingType };
+    ghost located = { definition_located (codes "InterfaceTypeDefinition") implementing_type_members
+        HasImplementingType };
 
     fn to_ast_json_at(
         &self,
@@ -105,7 +107,8 @@ impl AstJson for InterfaceTypeExtension {
     ghost one_tree = { same_extension (codes "InterfaceTypeExtension") implementing_type_members HasImplementingType
         same_implementing_type };
 
-    ghost never_null = { extension_never_null (codes "InterfaceTypeExtension") implementing_type_members HasImplementingType };
+    ghost never_null = { extension_never_null (codes "InterfaceTypeExtension") implementing_type_members
+        HasImplementingType };
 
     fn from_ast_json(
         alloc: Global,
@@ -142,7 +145,8 @@ impl AstJson for InterfaceTypeExtension {
 }
 
 impl AstNode for InterfaceTypeExtension {
-    ghost located = { extension_located (codes "InterfaceTypeExtension") implementing_type_members HasImplementingType };
+    ghost located = { extension_located (codes "InterfaceTypeExtension") implementing_type_members
+        HasImplementingType };
 
     fn to_ast_json_at(
         &self,

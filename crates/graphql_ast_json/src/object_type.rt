@@ -31,7 +31,8 @@ impl AstJson for ObjectTypeDefinition {
     ghost one_tree = { same_definition (codes "ObjectTypeDefinition") implementing_type_members HasImplementingType
         same_implementing_type };
 
-    ghost never_null = { definition_never_null (codes "ObjectTypeDefinition") implementing_type_members HasImplementingType };
+    ghost never_null = { definition_never_null (codes "ObjectTypeDefinition") implementing_type_members
+        HasImplementingType };
 
     fn from_ast_json(
         alloc: Global,
@@ -105,7 +106,8 @@ impl AstJson for ObjectTypeExtension {
     ghost one_tree = { same_extension (codes "ObjectTypeExtension") implementing_type_members HasImplementingType
         same_implementing_type };
 
-    ghost never_null = { extension_never_null (codes "ObjectTypeExtension") implementing_type_members HasImplementingType };
+    ghost never_null = { extension_never_null (codes "ObjectTypeExtension") implementing_type_members
+        HasImplementingType };
 
     fn from_ast_json(
         alloc: Global,

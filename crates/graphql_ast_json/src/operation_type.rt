@@ -32,8 +32,8 @@ pub(crate) fn operation_type_member(
     alloc: Global,
     json: &Json,
 ) -> Result<OperationType, AstJsonError>
-    ensures ok { IfOk result (λ type.
-        member_of (codes "operation") (view json.now) ≡ Some (string (operation_type_name (operation_type_tree type)))) }
+    ensures ok { IfOk result (λ type. member_of (codes "operation") (view json.now)
+        ≡ Some (string (operation_type_name (operation_type_tree type)))) }
     ensures err { IfErr result (λ error. ¬ IsMemory error → (tree : OperationTypeTree)
         → ¬ (member_of (codes "operation") (view json.now) ≡ Some (string (operation_type_name tree)))) }
 {

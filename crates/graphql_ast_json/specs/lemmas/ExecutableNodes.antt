@@ -1,20 +1,19 @@
 -- Lemmas, no definitions of the product: the JSON of variable definitions, selections, operations and fragment definitions is of one of them,
 -- and is a node.
-use Rattle.std.proofs.Common.{◌≡◌, ℕ, List, [], ◌∷◌, Option, Some, None, MatchOption, option_and_then, codes, nat_eq, refl, sym, ap, ◌∙◌, false}
+use Rattle.std.proofs.Common.{◌≡◌, ℕ, List, [], ◌∷◌, Option, Some, None, MatchOption, option_and_then, codes, nat_eq, refl, ap, false}
 use Rattle.std.specs.Cmp.Lexicographic.{pointwise}
 use Rattle.graphql_text.specs.Literals.{NameText}
 use Rattle.graphql_values.specs.OperationTypes.{operation_type_name}
-use Rattle.graphql_values.specs.Values.{ValueTree, null_value, enum_value, variable, string_value, float_value, int_value, boolean_value, list_value, object_value}
+use Rattle.graphql_values.specs.Values.{ValueTree, variable}
 use Rattle.graphql_executable.specs.Fields.{FieldTree, selection_of_field}
 use Rattle.graphql_executable.specs.FragmentSpreads.{FragmentSpreadTree}
 use Rattle.graphql_executable.specs.InlineFragments.{InlineFragmentTree, selection_of_inline_fragment}
-use Rattle.graphql_executable.specs.SelectionHeads.{FieldHeadTree, InlineFragmentHeadTree}
 use Rattle.graphql_executable.specs.Selections.{SelectionTree, field_selection, spread_selection, inline_selection, SelectionTrees, no_selections, more_selections}
 use Rattle.serde_json.specs.Data.{Data, Items, no_items, item}
 use Rattle.serde_json.specs.Find.{as_array}
-use Rattle.graphql_ast_json.specs.DirectiveJson.{HasDirectives, IsArgument}
-use Rattle.graphql_ast_json.specs.ExecutableJson.{IsVariable, HasVariableDefinition, IsVariableDefinition, variable_definition_members, IsSetOf, HasSetOf, HasOptionalSetOf, field_members, HasFieldHead, IsFragmentSpread, inline_fragment_members, HasInlineFragmentHead, IsSelection, AreSelections, IsSelectionSet, IsField, IsInlineFragment, HasOperationDefinition, HasFragmentDefinition}
-use Rattle.graphql_ast_json.specs.Nodes.{Anywhere, Each, HasName, IsLocated, IsName, IsNode, member_of}
+use Rattle.graphql_ast_json.specs.DirectiveJson.{IsArgument}
+use Rattle.graphql_ast_json.specs.ExecutableJson.{IsVariable, HasVariableDefinition, IsVariableDefinition, variable_definition_members, IsSetOf, HasSetOf, field_members, HasFieldHead, IsFragmentSpread, inline_fragment_members, HasInlineFragmentHead, IsSelection, AreSelections, IsSelectionSet, IsField, IsInlineFragment, HasOperationDefinition, HasFragmentDefinition}
+use Rattle.graphql_ast_json.specs.Nodes.{Anywhere, IsLocated, IsName, member_of}
 use Rattle.graphql_ast_json.specs.OneTree.{IsNeverNull, IsOfOneTree}
 use Rattle.graphql_ast_json.specs.TypeJson.{IsNamedType, IsTypeReference}
 use Rattle.graphql_ast_json.specs.ValueJson.{IsValue}

@@ -1,12 +1,11 @@
 -- Lemmas, no definitions of the product: of JSON and nodes of any kind, of names and of strings.
-use Rattle.std.proofs.Common.{◌≡◌, ℕ, Bool, true, false, List, [], ◌∷◌, Option, Some, None, IsSomeAnd, codes, nat_eq, refl, sym, ap, ◌∙◌, true≢false}
+use Rattle.std.proofs.Common.{◌≡◌, ℕ, Bool, false, List, [], ◌∷◌, Option, Some, None, IsSomeAnd, codes, nat_eq, refl, sym, ap, ◌∙◌, true≢false}
 use Rattle.std.proofs.lemmas.Slice.Eq.{bytes_eq-Decides}
 use Rattle.std.proofs.lemmas.Str.{encodes_same}
 use Rattle.std.specs.Cmp.Lexicographic.{pointwise}
 use Rattle.graphql_text.proofs.Checked.{same_text}
-use Rattle.graphql_text.specs.Literals.{NameText, StringText}
 use Rattle.serde_json.specs.Data.{Data, null, boolean, number, string, array, object, Items, no_items, item}
-use Rattle.graphql_ast_json.specs.Nodes.{Anywhere, Each, IsLocated, IsName, IsNode, IsOptional, IsStringValue, member_of, present}
+use Rattle.graphql_ast_json.specs.Nodes.{Anywhere, Each, IsName, IsNode, IsOptional, IsStringValue, member_of, present}
 use Rattle.graphql_ast_json.specs.OneTree.{IsNeverNull, IsOfOneTree}
 
 -- JSON

@@ -1,10 +1,10 @@
 -- Lemmas, no definitions of the product: the JSON of a type is a node, of a kind that tells the kind of the type, and of one type.
-use Rattle.std.proofs.Common.{◌≡◌, ℕ, List, [], ◌∷◌, Some, codes, nat_eq, refl, ap, false}
+use Rattle.std.proofs.Common.{◌≡◌, ℕ, List, [], ◌∷◌, codes, nat_eq, refl, ap, false}
 use Rattle.std.specs.Cmp.Lexicographic.{pointwise}
 use Rattle.graphql_text.specs.Literals.{NameText}
 use Rattle.graphql_values.specs.TypeReferences.{TypeTree, named_type, non_null_named_type, list_type, non_null_list_type}
-use Rattle.serde_json.specs.Data.{Data, string}
-use Rattle.graphql_ast_json.specs.Nodes.{Anywhere, IsLocated, IsName, IsNode, member_of}
+use Rattle.serde_json.specs.Data.{Data}
+use Rattle.graphql_ast_json.specs.Nodes.{Anywhere, IsLocated, IsName, member_of}
 use Rattle.graphql_ast_json.specs.OneTree.{IsNeverNull}
 use Rattle.graphql_ast_json.specs.TypeJson.{IsNamedType, IsTypeAround, IsTypeReference}
 use Rattle.graphql_ast_json.specs.lemmas.Leaves.{IsNodeOf, both_some, different, no_null, same_name}

@@ -1,20 +1,11 @@
 -- Lemmas, no definitions of the product: the JSON of definitions and extensions of the type system is of one of them, and is a node.
-use Rattle.std.proofs.Common.{◌≡◌, ℕ, List, [], ◌∷◌, Some, option_and_then, codes, refl, sym, ap, ◌∙◌, nat_eq, Option, None, true, false}
+use Rattle.std.proofs.Common.{◌≡◌, ℕ, List, Some, codes, refl, sym, ap, ◌∙◌, nat_eq, Option, true, false}
 use Rattle.std.specs.Cmp.Lexicographic.{pointwise}
-use Rattle.serde_json.specs.Data.{Data, null}
+use Rattle.serde_json.specs.Data.{Data}
 use Rattle.graphql_text.specs.Descriptions.{Described}
-use Rattle.graphql_text.specs.Literals.{NameText}
-use Rattle.graphql_values.specs.Directives.{DirectiveTree}
-use Rattle.graphql_values.specs.InputValueDefinitions.{input_value_definition_kind}
 use Rattle.graphql_values.specs.OperationTypes.{OperationTypeTree, operation_type_name}
 use Rattle.graphql_values.specs.OperationTypes as operation
-use Rattle.graphql_type_system.specs.BracedTypes.{BracedTypeTree}
-use Rattle.graphql_type_system.specs.EnumValueDefinitions.{EnumValueDefinitionTree, enum_value_definition_kind}
-use Rattle.graphql_type_system.specs.FieldDefinitions.{FieldDefinitionTree, field_definition_kind}
-use Rattle.graphql_type_system.specs.ImplementingTypes.{ImplementingTypeTree}
-use Rattle.graphql_type_system.specs.ScalarTypes.{ScalarTypeTree}
-use Rattle.graphql_type_system.specs.Schemas.{RootOperationTree, SchemaTree}
-use Rattle.graphql_type_system.specs.UnionTypes.{UnionTypeTree}
+use Rattle.graphql_type_system.specs.Schemas.{RootOperationTree}
 use Rattle.graphql_ast_json.specs.DefinitionJson.{IsInputValueDefinition}
 use Rattle.graphql_ast_json.specs.DirectiveJson.{HasDirectives, IsDirective}
 use Rattle.graphql_ast_json.specs.Nodes.{Anywhere, Each, HasName, IsLocated, IsName, IsStringValue, OptionalListMember, items_or_none, member_of}

@@ -1,11 +1,11 @@
 -- Lemmas, no definitions of the product: the JSON of a value is a node, of a kind that tells the kind of the value, and of one value.
-use Rattle.std.proofs.Common.{◌≡◌, ℕ, Bool, List, [], ◌∷◌, Some, option_and_then, codes, nat_eq, refl, sym, ap, false, ◌∙◌}
+use Rattle.std.proofs.Common.{◌≡◌, ℕ, List, [], ◌∷◌, option_and_then, codes, nat_eq, refl, ap, false}
 use Rattle.std.specs.Cmp.Lexicographic.{pointwise}
 use Rattle.graphql_text.proofs.Checked.{same_text}
 use Rattle.graphql_values.specs.Values.{ValueTree, null_value, enum_value, variable, string_value, float_value, int_value, boolean_value, list_value, object_value, ValueTrees, no_values, more_values, ObjectFieldTrees, no_fields, more_fields}
-use Rattle.serde_json.specs.Data.{Data, string, Items, no_items, item}
+use Rattle.serde_json.specs.Data.{Data, Items, no_items, item}
 use Rattle.serde_json.specs.Find.{as_array}
-use Rattle.graphql_ast_json.specs.Nodes.{Anywhere, IsLocated, IsName, IsNode, member_of}
+use Rattle.graphql_ast_json.specs.Nodes.{Anywhere, IsLocated, IsName, member_of}
 use Rattle.graphql_ast_json.specs.OneTree.{IsNeverNull}
 use Rattle.graphql_ast_json.specs.ValueJson.{IsValue, AreValues, AreObjectFields}
 use Rattle.graphql_ast_json.specs.lemmas.Leaves.{IsNodeOf, both_some, different, no_null, same_boolean, same_name, same_string, same_string_value}

@@ -1,7 +1,6 @@
 use Rattle.std.proofs.Common.{[], ◌∷◌, ap, codes, refl, Some, sym, ◌∙◌, subst, MatchOption, option_and_then}
 use Rattle.std.specs.Prelude.{⊤}
 use Rattle.serde_json.specs.Data.{string}
-use Rattle.serde_json.specs.View.{view}
 use Rattle.graphql_ast_json.specs.Nodes.{IsBoolean, present}
 use Rattle.graphql_ast_json.proofs.Drafts.{begun, ended, found, gained, given_member, is_node}
 use Rattle.graphql_ast_json.proofs.string.write_string.Goals as goal

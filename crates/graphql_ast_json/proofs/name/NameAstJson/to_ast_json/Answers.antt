@@ -1,7 +1,7 @@
 use Rattle.std.proofs.Common.{◌≡◌, ℕ, ◌-◌, length, codes, ap, ap₂, ◌∙◌, Option, Some, None, IfSome}
 use Rattle.serde_json.specs.Data.{string}
 use Rattle.serde_json.specs.View.{view}
-use Rattle.graphql_base.specs.Name.{name_location, name_text}
+use Rattle.graphql_base.specs.Name.{name_text}
 use Rattle.graphql_base.specs.Span.{span_len}
 use Rattle.graphql_base.specs.declared.span.SourceSpan.{SourceSpan}
 use Rattle.graphql_ast_json.specs.Drafts.{IsAt}

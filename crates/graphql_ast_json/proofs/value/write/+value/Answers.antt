@@ -6,11 +6,10 @@ use Rattle.serde_json.specs.View.{view, items_view}
 use Rattle.graphql_text.specs.Leaves.{name_tree}
 use Rattle.graphql_values.specs.Literals.{string_tree}
 use Rattle.graphql_values.specs.ValueTrees.{value_tree, value_trees, object_field_trees}
-use Rattle.graphql_ast_json.specs.Nodes.{IsName}
 use Rattle.graphql_ast_json.specs.ValueJson.{IsValue, IsNamedValue, AreValues, AreObjectFields}
 use Rattle.graphql_ast_json.proofs.Drafts.{begun, ended, is_node}
 use Rattle.graphql_ast_json.proofs.Outcomes.{both_then, one_then}
-use Rattle.graphql_ast_json.specs.lemmas.Leaves.{name_never_null, there}
+use Rattle.graphql_ast_json.specs.lemmas.Leaves.{there}
 use Rattle.graphql_ast_json.specs.lemmas.ValueNodes.{value_never_null}
 use Rattle.graphql_ast_json.proofs.Present.{list_is, member_is}
 use Rattle.graphql_ast_json.proofs.Trees.{list_tree, null_tree, object_tree, string_value_tree, variable_tree}

@@ -1,17 +1,21 @@
 -- The trees of selections, fields and inline fragments, and what their nesting and their side conditions are.
-use Rattle.std.proofs.Common.{◌≡◌, ◌==◌, max, not, ◌&&◌, List, [], ◌∷◌, length, refl, ap, sym, ◌∙◌}
+use Rattle.std.proofs.Common.{◌≡◌, ◌==◌, max, not, ◌&&◌, List, [], ◌∷◌, ◌++◌, false, length, refl, ap, sym, append-nil, ◌∙◌}
+use Rattle.std.proofs.lemmas.Bool.{true≢false}
 use Rattle.std.proofs.Math.Dec.{eqb-suc-zero}
 use Rattle.std.specs.Option.{option_map}
 use Rattle.graphql_base.specs.declared.node.Node.{Node}
+use Rattle.graphql_text.specs.Layout.{Space, Word}
 use Rattle.graphql_text.specs.Leaves.{name_tree}
+use Rattle.graphql_text.specs.Tokens.{lbrace, rbrace, Punctuation}
 use Rattle.graphql_values.specs.DirectiveTrees.{argument_trees, directive_trees}
 use Rattle.graphql_values.specs.Directives.{directives_nesting}
 use Rattle.graphql_executable.specs.ExecutableTrees.{field_tree, field_tree_step, fragment_spread_tree, inline_fragment_tree, inline_fragment_tree_step, selection_tree, selection_tree_step, selection_trees}
 use Rattle.graphql_executable.specs.Fields.{FieldTree, selection_of_field}
-use Rattle.graphql_executable.specs.FragmentSpreads.{fragment_spread_obeys}
+use Rattle.graphql_executable.specs.FragmentSpreads.{fragment_spread_obeys, fragment_spread_shape}
 use Rattle.graphql_executable.specs.InlineFragments.{InlineFragmentTree, selection_of_inline_fragment}
-use Rattle.graphql_executable.specs.SelectionHeads.{FieldHeadTree, InlineFragmentHeadTree, field_head_nesting, field_head_obeys, inline_fragment_head_nesting, inline_fragment_head_obeys}
-use Rattle.graphql_executable.specs.Selections.{SelectionTree, has_selections, selection_nesting, selection_obeys, selection_set_nesting, selection_set_obeys, selections_obey, spread_selection}
+use Rattle.graphql_executable.specs.SelectionHeads.{FieldHeadTree, InlineFragmentHeadTree, field_head_nesting, field_head_obeys, field_head_shape, inline_fragment_head_nesting, inline_fragment_head_obeys, inline_fragment_head_shape}
+use Rattle.graphql_executable.specs.SelectionWalk.{has_set}
+use Rattle.graphql_executable.specs.Selections.{SelectionTree, SelectionTrees, field_selection, has_selections, inline_selection, more_selections, no_selections, selection_nesting, selection_obeys, selection_shape, selection_set_nesting, selection_set_obeys, selections_obey, spread_selection}
 use Rattle.graphql_executable.specs.declared.field.Field.{Field, fold_out-Field}
 use Rattle.graphql_executable.specs.declared.fragment_spread.FragmentSpread.{FragmentSpread}
 use Rattle.graphql_executable.specs.declared.inline_fragment.InlineFragment.{InlineFragment, fold_out-InlineFragment}
@@ -83,3 +87,37 @@ obeys_inline n = ap selection_obeys (selection_is_inline n) ∙ ap (λ set. inli
 pub has_selections_is : (selections : List Selection) → has_selections (selection_trees selections) ≡ not (length selections == 0)
 has_selections_is [] = refl
 has_selections_is (selection ∷ more) = rw (eqb-suc-zero (length more)) refl
+
+-- SELECTIONS WITHOUT A SET
+
+pub has_set_field : (n : Node Field) → has_set (selection_tree (variant.Field n)) ≡ not (length n.value.selection_set.items == 0)
+has_set_field n = ap has_set (selection_is_field n) ∙ ap has_selections (field_selections_are n.value) ∙ has_selections_is n.value.selection_set.items
+
+pub has_set_spread : (n : Node FragmentSpread) → has_set (selection_tree (variant.FragmentSpread n)) ≡ false
+has_set_spread n = ap has_set (selection_is_spread n)
+
+pub has_set_inline : (n : Node InlineFragment) → has_set (selection_tree (variant.InlineFragment n)) ≡ not (length n.value.selection_set.items == 0)
+has_set_inline n = ap has_set (selection_is_inline n) ∙ ap has_selections (inline_selections_are n.value) ∙ has_selections_is n.value.selection_set.items
+
+-- what is written of them
+plain_field : (head : FieldHeadTree) (set : SelectionTrees) → has_selections set ≡ false → selection_shape (field_selection head set) ≡ field_head_shape head
+unfolding selection_shape
+plain_field head no_selections none = append-nil (field_head_shape head)
+plain_field head (more_selections selection more) none = absurd (true≢false none)
+
+empty_inline : (head : InlineFragmentHeadTree) (set : SelectionTrees) → has_selections set ≡ false →
+    selection_shape (inline_selection head set) ≡ inline_fragment_head_shape head ++ (Space ∷ Word (Punctuation lbrace) ∷ Word (Punctuation rbrace) ∷ [])
+unfolding selection_shape
+empty_inline head no_selections none = refl
+empty_inline head (more_selections selection more) none = absurd (true≢false none)
+
+pub plain_field_shape : (n : Node Field) → has_set (selection_tree (variant.Field n)) ≡ false → selection_shape (selection_tree (variant.Field n)) ≡ field_head_shape (field_tree n.value).head
+plain_field_shape n none = ap selection_shape (selection_is_field n) ∙ plain_field (field_tree n.value).head (field_tree n.value).selections (rw (selection_is_field n) at none)
+
+pub spread_shape : (n : Node FragmentSpread) → selection_shape (selection_tree (variant.FragmentSpread n)) ≡ fragment_spread_shape (fragment_spread_tree n.value)
+unfolding selection_shape
+spread_shape n = ap selection_shape (selection_is_spread n)
+
+pub empty_inline_shape : (n : Node InlineFragment) → has_set (selection_tree (variant.InlineFragment n)) ≡ false →
+    selection_shape (selection_tree (variant.InlineFragment n)) ≡ inline_fragment_head_shape (inline_fragment_tree n.value).head ++ (Space ∷ Word (Punctuation lbrace) ∷ Word (Punctuation rbrace) ∷ [])
+empty_inline_shape n none = ap selection_shape (selection_is_inline n) ∙ empty_inline (inline_fragment_tree n.value).head (inline_fragment_tree n.value).selections (rw (selection_is_inline n) at none)

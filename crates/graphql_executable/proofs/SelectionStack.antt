@@ -6,7 +6,7 @@ use Rattle.graphql_text.specs.Tokens.{lbrace, rbrace, Punctuation}
 use Rattle.graphql_text.specs.Writing.{WritesBeginning, WritesItems, WritesToLevel}
 use Rattle.graphql_text.proofs.GroupLaws.{curly_group_opened}
 use Rattle.graphql_text.proofs.Telling.{told_balanced, told_curly_group}
-use Rattle.graphql_text.proofs.WritingLaws.{beginning_all, beginning_none, beginning_next, beginning_then, levels_raise, levels_then, writes_levels}
+use Rattle.graphql_text.proofs.WritingLaws.{beginning_all, beginning_none, beginning_next, beginning_then, beginning_within, levels_raise, levels_then, writes_levels}
 use Rattle.graphql_executable.specs.ExecutableTrees.{selection_tree, selection_trees}
 use Rattle.graphql_executable.specs.SelectionWalk.{Finishes, GoesOn, Opens, entry_items, entry_nesting, set_level, stack_items, stack_need}
 use Rattle.graphql_executable.specs.Selections.{SelectionTree, SelectionTrees, no_selections, optional_braced_shape, selection_set_nesting, selection_set_shape, selection_shape, selections_shapes}
@@ -143,6 +143,16 @@ module _ {O : Type 0} {wrote : O → List ℕ → O → Type 0} (nothing : (a : 
     levels = omega (arith, level);
     need = omega (arith, stack_need_push entries entry);
     less = omega (arith, ap length e);
+  }
+
+  -- after selections that were written before
+  pub goes_on_after : {a b c : O} {mode : Option (List ℕ)} {level after : ℕ} (entry rest : SelectionEntry) (entries left : List SelectionEntry) → entry_nesting rest ≤ entry_nesting entry →
+      WritesBeginning wrote a b mode level (entry_items entry) level (entry_items rest) → GoesOn wrote b c mode level after rest entries left → GoesOn wrote a c mode level after entry entries left
+  goes_on_after entry rest entries left nests begun goes = record {
+    written = beginning_then more (beginning_within (stack_items entries) begun) refl goes.written;
+    levels = goes.levels;
+    need = omega (arith, goes.need, nests, stack_need_push entries entry, stack_need_push entries rest);
+    less = omega (arith, goes.less, ap length begun.parted ∙ length-append begun.done (entry_items rest));
   }
 
 -- what was begun on an empty stack, and then finished, is written whole

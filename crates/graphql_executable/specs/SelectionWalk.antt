@@ -1,5 +1,5 @@
 -- What is still to be written of selection sets, for a writer that goes through them by a stack, and how far it has come.
-use Rattle.std.specs.Prelude.{◌≡◌, ℕ, ◌+◌, ◌≤◌, ◌<◌, ◌^◌, max, List, [], ◌∷◌, ◌++◌, length, Option}
+use Rattle.std.specs.Prelude.{◌≡◌, ℕ, ◌+◌, ◌≤◌, ◌<◌, ◌^◌, max, List, [], ◌∷◌, ◌++◌, length, Option, Bool, false}
 use Rattle.graphql_text.specs.Groups.{curly_rest}
 use Rattle.graphql_text.specs.Layout.{Item, raises, lowers}
 use Rattle.graphql_text.specs.Levels.{Fits}
@@ -7,7 +7,7 @@ use Rattle.graphql_text.specs.Stack.{IsReady, stack_entries, stack_room}
 use Rattle.graphql_text.specs.Writing.{WritesBeginning, WritesItems}
 use Rattle.graphql_values.specs.Stacks.{AreKept}
 use Rattle.graphql_executable.specs.ExecutableTrees.{selection_trees}
-use Rattle.graphql_executable.specs.Selections.{SelectionTree, SelectionTrees, field_selection, spread_selection, inline_selection, no_selections, more_selections, selection_shape, selections_shapes, selection_nesting, selection_set_nesting}
+use Rattle.graphql_executable.specs.Selections.{SelectionTree, SelectionTrees, field_selection, spread_selection, inline_selection, no_selections, more_selections, has_selections, selection_shape, selections_shapes, selection_nesting, selection_set_nesting}
 use Rattle.graphql_executable.specs.declared.stacks.ExecutableStacks.{ExecutableStacks}
 use Rattle.graphql_executable.specs.declared.stacks.SelectionEntry.{SelectionEntry}
 
@@ -41,6 +41,12 @@ abbrev pub opened_level : SelectionTree → ℕ
 opened_level (field_selection head set) = set_level set
 opened_level (spread_selection fragment) = 0
 opened_level (inline_selection head set) = set_level set
+
+-- whether there are selections within a selection, which wait while it is written
+abbrev pub has_set : SelectionTree → Bool
+has_set (field_selection head set) = has_selections set
+has_set (spread_selection fragment) = false
+has_set (inline_selection head set) = has_selections set
 
 -- There is room: for values that nest so deep on their empty stack, and for so many entries on that of selections, where some wait.
 pub record HaveRoom (stacks : ExecutableStacks) (nesting entries : ℕ) : Type 0 where

@@ -13,6 +13,7 @@ pub mod fragment_spread;
 pub mod inline_fragment;
 pub mod laws;
 pub mod operation_definition;
+mod optional_parts;
 pub mod selection;
 mod stacks;
 pub mod variable_definition;

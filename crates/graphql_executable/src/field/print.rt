@@ -14,6 +14,7 @@ ghost use Rattle.graphql_executable.specs.SelectionHeads.{alias_shape, field_hea
 ghost use Rattle.graphql_executable.specs.lemmas.Selections.{field_laws};
 
 use crate::field::Field;
+use crate::optional_parts::{write_optional_arguments, write_optional_directives};
 use crate::selection::print::{
     are_selections_well_formed, find_selection_set_nesting, finish_sets, open_field,
 };
@@ -23,7 +24,7 @@ use graphql_text::engine::{Serialize, Syntax};
 use graphql_text::writers::{Place, Stack, Target, write_first_indent, write_name, write_words};
 use graphql_values::writers::{
     Constness, ValueEntry, are_arguments_well_formed, are_directives_well_formed,
-    find_arguments_nesting, find_directives_nesting, write_arguments, write_directives,
+    find_arguments_nesting, find_directives_nesting,
 };
 use std::alloc::AllocError;
 use std::fmt;
@@ -48,6 +49,7 @@ pub(crate) fn find_field_head_nesting(field: &Field) -> Option<usize>
 }
 
 /// Writes an alias and `:`; nothing where there is none.
+#[inline(always)]
 fn write_alias<O: Target>(out: &mut O, alias: Option<&Name>)
     ensures { WritesAnywhere O.wrote out.old out.new
         (optional_shape alias_shape (option_map name_tree (option_copied alias.entry))) }
@@ -59,6 +61,7 @@ fn write_alias<O: Target>(out: &mut O, alias: Option<&Name>)
 }
 
 /// Writes a field without its selection set.
+#[inline(always)]
 #[tactic(auto, using(crate::proofs::SelectionShapes::field_head_is))]
 pub(crate) fn write_field_head<'a, O: Target>(
     out: &mut O,
@@ -72,8 +75,8 @@ pub(crate) fn write_field_head<'a, O: Target>(
 {
     write_alias(out, field.alias.as_ref());
     write_name(out, &field.name);
-    write_arguments(out, place, stack, &field.arguments);
-    write_directives(out, place, stack, &field.directives.0);
+    write_optional_arguments(out, place, stack, &field.arguments);
+    write_optional_directives(out, place, stack, &field.directives.0);
 }
 
 /// Writes a field.

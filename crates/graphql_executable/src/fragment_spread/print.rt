@@ -10,10 +10,11 @@ ghost use Rattle.graphql_executable.specs.FragmentSpreads.{fragment_spread_kind,
 ghost use Rattle.graphql_executable.specs.lemmas.Heads.{fragment_spread_laws};
 
 use crate::fragment_spread::FragmentSpread;
+use crate::optional_parts::write_optional_directives;
 use graphql_text::engine::{Serialize, Syntax};
 use graphql_text::writers::{Place, Stack, Target, write_first_indent, write_name, write_words};
 use graphql_values::writers::{
-    Constness, ValueEntry, are_directives_well_formed, find_directives_nesting, write_directives,
+    Constness, ValueEntry, are_directives_well_formed, find_directives_nesting,
 };
 use std::alloc::AllocError;
 use std::fmt;
@@ -39,7 +40,7 @@ pub fn write_fragment_spread<'a, O: Target>(
 {
     write_words(out, "...");
     write_name(out, &spread.fragment_name);
-    write_directives(out, place, stack, &spread.directives.0);
+    write_optional_directives(out, place, stack, &spread.directives.0);
 }
 
 impl FragmentSpread {

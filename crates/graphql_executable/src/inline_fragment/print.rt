@@ -15,6 +15,7 @@ ghost use Rattle.graphql_executable.specs.SelectionHeads.{inline_fragment_head_n
 ghost use Rattle.graphql_executable.specs.lemmas.Selections.{inline_fragment_laws};
 
 use crate::inline_fragment::InlineFragment;
+use crate::optional_parts::write_optional_directives;
 use crate::selection::print::{
     find_selection_set_nesting, finish_sets, is_selection_set_well_formed, open_inline_fragment,
 };
@@ -23,7 +24,7 @@ use graphql_base::name::NamedType;
 use graphql_text::engine::{Serialize, Syntax};
 use graphql_text::writers::{Place, Stack, Target, write_first_indent, write_name, write_words};
 use graphql_values::writers::{
-    Constness, ValueEntry, are_directives_well_formed, find_directives_nesting, write_directives,
+    Constness, ValueEntry, are_directives_well_formed, find_directives_nesting,
 };
 use std::alloc::AllocError;
 use std::fmt;
@@ -72,7 +73,7 @@ pub(crate) fn write_inline_fragment_head<'a, O: Target>(
 {
     write_words(out, "...");
     write_type_condition(out, fragment.type_condition.as_ref());
-    write_directives(out, place, stack, &fragment.directives.0);
+    write_optional_directives(out, place, stack, &fragment.directives.0);
 }
 
 /// Writes an inline fragment.

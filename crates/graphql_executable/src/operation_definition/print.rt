@@ -15,6 +15,7 @@ ghost use Rattle.graphql_executable.specs.VariableDefinitions.{variables_list_de
 ghost use Rattle.graphql_executable.specs.lemmas.Definitions.{operation_definition_laws};
 
 use crate::operation_definition::OperationDefinition;
+use crate::optional_parts::write_optional_directives;
 use crate::selection::print::{
     find_selection_set_nesting, is_selection_set_well_formed, write_selection_set,
 };
@@ -29,9 +30,7 @@ use graphql_text::writers::{
     Place, Target, write_first_indent, write_leading_description, write_name, write_words,
 };
 use graphql_values::operation_type::OperationType;
-use graphql_values::writers::{
-    Constness, are_directives_well_formed, find_directives_nesting, write_directives,
-};
+use graphql_values::writers::{Constness, are_directives_well_formed, find_directives_nesting};
 use std::alloc::AllocError;
 use std::fmt;
 
@@ -93,7 +92,7 @@ pub fn write_operation_definition<'a, O: Target>(
     write_words(out, operation.operation_type.name());
     write_operation_name(out, operation.name.as_ref());
     write_variable_definitions(out, place, &mut stacks.definitions, &operation.variables);
-    write_directives(
+    write_optional_directives(
         out,
         place,
         &mut stacks.definitions.values,

@@ -1,17 +1,18 @@
 //! Selections are printed: the loop that writes selection sets, and the `Syntax` of a selection.
-ghost use Rattle.std.specs.Prelude.{◌≡◌, ◌≤◌, ◌∷◌, Some};
+ghost use Rattle.std.specs.Prelude.{◌≡◌, ◌+◌, ◌≤◌, ◌^◌, ◌∷◌, Some, false};
+ghost use Rattle.graphql_text.specs.Groups.{curly_rest};
 ghost use Rattle.graphql_text.specs.Layout.{Space};
 ghost use Rattle.graphql_text.specs.Levels.{Fits, IsCount};
 ghost use Rattle.graphql_text.specs.Place.{mode_of};
 ghost use Rattle.graphql_text.specs.Printing.{IsDefaultPrint, default_bytes};
-ghost use Rattle.graphql_text.specs.Stack.{stack_entries, stack_room};
-ghost use Rattle.graphql_text.specs.Writing.{Writes, WritesPart};
+ghost use Rattle.graphql_text.specs.Stack.{CanWrite, IsKept, IsReady, stack_entries, stack_room};
+ghost use Rattle.graphql_text.specs.Writing.{Writes, WritesBeginning, WritesPart};
 ghost use Rattle.graphql_executable.specs.ExecutableStacks.{AreAllKept, CanWriteExecutable};
 ghost use Rattle.graphql_executable.specs.ExecutableTrees.{field_tree, inline_fragment_tree, selection_tree, selection_trees};
 ghost use Rattle.graphql_executable.specs.Fields.{selection_of_field};
 ghost use Rattle.graphql_executable.specs.InlineFragments.{selection_of_inline_fragment};
-ghost use Rattle.graphql_executable.specs.SelectionWalk.{CanFinish, CanGoOn, CanOpen, Finishes, GoesOn, LoseNoRoom, Opens, OpensSelection, need_with, set_level, stack_items};
-ghost use Rattle.graphql_executable.specs.Selections.{optional_braced_shape, selection_kind, selection_nesting, selection_obeys, selection_set_nesting, selection_set_obeys, selection_set_shape, selections_obey, selections_shapes};
+ghost use Rattle.graphql_executable.specs.SelectionWalk.{CanFinish, CanGoOn, CanOpen, Finishes, GoesOn, LoseNoRoom, Opens, OpensSelection, has_set, need_with, set_level, stack_items};
+ghost use Rattle.graphql_executable.specs.Selections.{optional_braced_shape, selection_kind, selection_nesting, selection_obeys, selection_set_nesting, selection_set_obeys, selection_set_shape, selection_shape, selections_obey, selections_shapes};
 ghost use Rattle.graphql_executable.specs.lemmas.Selections.{selection_laws};
 
 use crate::field::Field;
@@ -26,7 +27,7 @@ use crate::selection::Selection;
 use crate::stacks::{ExecutableStacks, SelectionEntry};
 use graphql_text::engine::{Serialize, Syntax};
 use graphql_text::writers::{Place, Stack, Target, write_first_indent, write_soft, write_words};
-use graphql_values::writers::find_directives_nesting;
+use graphql_values::writers::{ValueEntry, find_directives_nesting};
 use std::alloc::{AllocError, Global};
 use std::fmt;
 
@@ -215,10 +216,76 @@ fn open_selection<'a, O: Target>(
     }
 }
 
+/// Whether there are selections within a selection. Any other is written whole at once.
+#[inline(always)]
+#[tactic(auto, using(crate::proofs::SelectionShapes::has_set_field, crate::proofs::SelectionShapes::has_set_spread, crate::proofs::SelectionShapes::has_set_inline))]
+fn has_set(selection: &Selection) -> bool
+    ensures { result ≡ has_set (selection_tree selection.now) }
+{
+    match selection {
+        Selection::Field(field) => !field.selection_set.is_empty(),
+        Selection::FragmentSpread(_) => false,
+        Selection::InlineFragment(fragment) => !fragment.selection_set.is_empty(),
+    }
+}
+
+/// Writes a selection without selections of its own.
+#[inline(always)]
+#[tactic(auto, using(crate::proofs::SelectionShapes::nesting_field, crate::proofs::SelectionShapes::nesting_spread, crate::proofs::SelectionShapes::nesting_inline))]
+fn write_leaf<'a, O: Target>(
+    out: &mut O,
+    place: &Place<'_>,
+    stack: &mut Stack<ValueEntry<'a>>,
+    selection: &'a Selection,
+)
+    requires leaf { has_set (selection_tree selection.now) ≡ false }
+    requires ready { CanWrite place.now stack.old (selection_nesting (selection_tree selection.now)) }
+    ensures kept { IsKept stack.old stack.new }
+    ensures written { Writes O.wrote out.old out.new place.now (selection_shape (selection_tree selection.now)) }
+{
+    match selection {
+        Selection::Field(field) => write_field_head(out, place, stack, field),
+        Selection::FragmentSpread(spread) => write_fragment_spread(out, place, stack, spread),
+        Selection::InlineFragment(fragment) => {
+            write_inline_fragment_head(out, place, stack, fragment);
+            write_words(out, " {}");
+        }
+    }
+}
+
+/// Writes the selections up to the next one that has selections of its own. It answers what is left then.
+#[inline(always)]
+fn write_leaves<'a, O: Target>(
+    out: &mut O,
+    place: &Place<'_>,
+    stack: &mut Stack<ValueEntry<'a>>,
+    selections: &'a [Selection],
+) -> &'a [Selection]
+    requires fits { place.now.level + selection_set_nesting (selection_trees selections.now) ≤ 2 ^ 64 }
+    requires ready { IsReady stack.old (selection_set_nesting (selection_trees selections.now)) }
+    ensures kept { IsKept stack.old stack.new }
+    ensures nesting { selection_set_nesting (selection_trees result.now)
+        ≤ selection_set_nesting (selection_trees selections.now) }
+    ensures written { WritesBeginning O.wrote out.old out.new (mode_of place.now.prefix) place.now.level
+        (curly_rest (selections_shapes (selection_trees selections.now)))
+        place.now.level (curly_rest (selections_shapes (selection_trees result.now))) }
+{
+    let mut rest = selections;
+    while let Some((selection, more)) = rest.split_first() {
+        if has_set(selection) || out.is_stopped() {
+            break;
+        }
+        write_soft(out, place);
+        write_leaf(out, place, stack, selection);
+        rest = more;
+    }
+    rest
+}
+
 /// Writes the next selection of an open set up to the selections of its own set, and puts these and the rest on the
 /// stack; or the end of the set.
 #[inline(always)]
-fn write_entry<'a, O: Target>(
+fn write_next<'a, O: Target>(
     out: &mut O,
     here: &mut Place<'_>,
     stacks: &mut ExecutableStacks<'a>,
@@ -242,6 +309,25 @@ fn write_entry<'a, O: Target>(
             write_words(out, "}");
         }
     }
+}
+
+/// Writes the selections of an open set up to the next one that has selections of its own, and puts these and the rest
+/// on the stack; or all of them, and the end of the set.
+#[inline(always)]
+fn write_entry<'a, O: Target>(
+    out: &mut O,
+    here: &mut Place<'_>,
+    stacks: &mut ExecutableStacks<'a>,
+    entry: SelectionEntry<'a>,
+)
+    requires { CanGoOn here.old.level stacks.old entry }
+    ensures prefix { here.new.prefix ≡ here.old.prefix }
+    ensures kept { LoseNoRoom stacks.old stacks.new }
+    ensures written { GoesOn O.wrote out.old out.new (mode_of here.old.prefix) here.old.level here.new.level
+        entry.entry (stack_entries stacks.old.selections) (stack_entries stacks.new.selections) }
+{
+    let rest = write_leaves(out, here, &mut stacks.definitions.values, entry.rest);
+    write_next(out, here, stacks, SelectionEntry { rest });
 }
 
 /// Writes all selections and ends of sets that wait on the stack. What was begun is whole then.

@@ -9,6 +9,7 @@ ghost use Rattle.graphql_executable.specs.ExecutableTrees.{variable_definition_t
 ghost use Rattle.graphql_executable.specs.VariableDefinitions.{variable_definition_kind};
 ghost use Rattle.graphql_executable.specs.lemmas.VariableDefinitions.{variable_definition_laws};
 
+use crate::optional_parts::write_optional_directives;
 use crate::variable_definition::VariableDefinition;
 use graphql_text::engine::{Serialize, Syntax};
 use graphql_text::writers::{
@@ -17,7 +18,7 @@ use graphql_text::writers::{
 use graphql_values::writers::{
     Constness, Stacks, are_directives_well_formed, find_default_value_nesting,
     find_directives_nesting, find_list_depth, is_default_value_well_formed, write_default_value,
-    write_directives, write_type,
+    write_type,
 };
 use std::alloc::AllocError;
 use std::fmt;
@@ -63,7 +64,7 @@ pub fn write_variable_definition<'a, O: Target>(
         &mut stacks.values,
         variable.default_value.as_ref(),
     );
-    write_directives(out, place, &mut stacks.values, &variable.directives.0);
+    write_optional_directives(out, place, &mut stacks.values, &variable.directives.0);
 }
 
 impl VariableDefinition {

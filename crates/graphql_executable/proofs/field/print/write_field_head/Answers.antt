@@ -12,7 +12,7 @@ unfolding field_head_shape
 returns-clause-written g c =
     let more = g.met.O.Target.more in
     let alias = rw c.as_ref.ensures.value at c.write_alias.ensures _ _ in
-    let arguments = rw c.deref.ensures.value at c.write_arguments.ensures.written in
-    let directives = rw c.deref-2.ensures.value at c.write_directives.ensures.written in
+    let arguments = rw c.deref.ensures.value at c.write_optional_arguments.ensures.written in
+    let directives = rw c.deref-2.ensures.value at c.write_optional_directives.ensures.written in
     rw (field_head_is c.args.field.now)
     (writes_then more alias (writes_then more {xs = Word (Name (name_text c.args.field.now.name)) ∷ []} (c.write_name.ensures _ _) (writes_then more arguments directives)))

@@ -10,5 +10,5 @@ pub returns-clause-written : goal.returns-clause-written
 unfolding fragment_spread_shape
 returns-clause-written g c =
     let more = g.met.O.Target.more in
-    let directives = rw c.deref.ensures.value at c.write_directives.ensures.written in
+    let directives = rw c.deref.ensures.value at c.write_optional_directives.ensures.written in
     writes_then more {xs = Word (Punctuation spread) ∷ []} (c.write_words.ensures.items _ _ _ refl) (writes_then more {xs = Word (Name (name_text c.args.spread.now.fragment_name)) ∷ []} (c.write_name.ensures _ _) directives)

@@ -11,6 +11,6 @@ unfolding inline_fragment_head_shape
 returns-clause-written g c =
     let more = g.met.O.Target.more in
     let condition = rw c.as_ref.ensures.value at c.write_type_condition.ensures _ _ in
-    let directives = rw c.deref.ensures.value at c.write_directives.ensures.written in
+    let directives = rw c.deref.ensures.value at c.write_optional_directives.ensures.written in
     rw (inline_fragment_head_is c.args.fragment.now)
     (writes_then more {xs = Word (Punctuation spread) ∷ []} (c.write_words.ensures.items _ _ _ refl) (writes_then more condition directives))

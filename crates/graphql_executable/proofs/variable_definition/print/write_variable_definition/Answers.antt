@@ -15,5 +15,5 @@ returns-clause-written g c =
     let dollar = writes_then more {xs = Word (Punctuation dollar) ∷ []} (c.write_words.ensures.items _ _ _ refl) name in
     let type = rw c.deref.ensures at c.write_type.ensures.written _ _ in
     let value = rw c.as_ref-2.ensures.value at c.write_default_value.ensures.written in
-    let directives = rw c.deref-2.ensures.value at c.write_directives.ensures.written in
+    let directives = rw c.deref-2.ensures.value at c.write_optional_directives.ensures.written in
     writes_then more description (writes_then more dollar (writes_then more type (writes_then more value directives)))

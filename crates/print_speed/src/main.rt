@@ -1,23 +1,27 @@
-//! `print_speed TREE COUNT ROUNDS LAYOUT TARGET NAMES LISTS` builds a tree of values and prints it again and again, so that the cost
+//! `print_speed TREE COUNT ROUNDS LAYOUT TARGET NAMES LISTS` builds trees and prints them again and again, so that the cost
 //! of a print, and of a tree, can be measured: the instructions of one print are those of a run with one round more, less those of
 //! the other.
 //!
-//! - TREE: `objects` (a list of COUNT objects with values of every kind), `texts` (a list of COUNT plain strings of 80 bytes) or
-//!   `nested` (COUNT lists in one another).
+//! - TREE: `objects` (a list of COUNT objects with values of every kind), `texts` (a list of COUNT plain strings of 80 bytes),
+//!   `nested` (COUNT lists in one another), `operations` (COUNT queries of three levels) or `types` (COUNT object types of ten
+//!   fields). Operations and types are printed one after another, each into a text of its own, or all into one sink.
 //! - LAYOUT: `default`, `one_line`, or `two_tabs`, which has the bytes of the default layout with two tabs for each prefix.
 //! - TARGET: `text`, `sink` (a `VecSink`) or `stream` (a `StreamSink` over a vector).
 //! - NAMES: `own` (each has memory of its own), `shared` (equal ones share it) or `static`.
 //! - LISTS: `grown` (by pushes) or `exact` (with room for what they hold, and no more).
 //!
-//! It prints the bytes of one print.
+//! It prints the bytes of one round.
 #![tactic(auto)]
 
+ghost use Rattle.graphql_text.specs.Sinks.{CanFault};
+
+mod operations;
 mod trees;
+mod types;
 
 use crate::trees::{Builder, Naming};
-use graphql_text::engine::{PrintError, Serialize};
-use graphql_text::sink::{StreamSink, VecSink};
-use graphql_values::value::Value;
+use graphql_text::engine::{PrintError, Serialize, Syntax};
+use graphql_text::sink::{StreamSink, TextSink, VecSink};
 use std::alloc::{AllocError, Global};
 use std::env::Env;
 use std::process::ExitCode;
@@ -26,12 +30,24 @@ use thiserror::Error;
 /// Why nothing was printed.
 #[derive(Debug, Drop, Error)]
 enum SpeedError {
-    #[error("usage: print_speed objects|texts|nested COUNT ROUNDS default|one_line|two_tabs text|sink|stream own|shared|static grown|exact")]
+    #[error("usage: print_speed objects|texts|nested|operations|types COUNT ROUNDS default|one_line|two_tabs text|sink|stream own|shared|static grown|exact")]
     Usage,
     #[error("out of memory")]
     Memory,
     #[error("{0}")]
     Print(PrintError),
+}
+
+impl From<AllocError> for SpeedError {
+    fn from(_: AllocError) -> SpeedError {
+        SpeedError::Memory
+    }
+}
+
+impl From<PrintError> for SpeedError {
+    fn from(error: PrintError) -> SpeedError {
+        SpeedError::Print(error)
+    }
 }
 
 /// What is printed.
@@ -40,6 +56,8 @@ enum Tree {
     Objects,
     Texts,
     Nested,
+    Operations,
+    Types,
 }
 
 /// How it is laid out.
@@ -94,10 +112,12 @@ fn number<R: Env>(env: &R, place: usize) -> Option<usize> {
     word(env, place, &mut buffer)?.parse().ok()
 }
 
-const TREES: [(&str, Tree); 3] = [
+const TREES: [(&str, Tree); 5] = [
     ("objects", Tree::Objects),
     ("texts", Tree::Texts),
     ("nested", Tree::Nested),
+    ("operations", Tree::Operations),
+    ("types", Tree::Types),
 ];
 
 const LAYOUTS: [(&str, Layout); 3] = [
@@ -132,55 +152,75 @@ fn read_task<R: Env>(env: &R) -> Option<Task> {
     })
 }
 
-fn build(alloc: Global, task: &Task) -> Result<Value, AllocError> {
-    let mut builder = Builder::new(alloc, task.naming, task.exact);
-    match task.tree {
-        Tree::Objects => builder.objects(task.count),
-        Tree::Texts => builder.texts(task.count),
-        Tree::Nested => builder.nested(task.count),
+/// A tree in a layout.
+fn print_in<T>(layout: Layout, tree: &T) -> Serialize<'_, T> {
+    let print = Serialize::new(tree);
+    match layout {
+        Layout::Default => print,
+        Layout::OneLine => print.no_indent(),
+        Layout::TwoTabs => print.indent_prefix("\t\t"),
     }
 }
 
-/// The tree in a layout.
-fn print_in(layout: Layout, tree: &Value) -> Serialize<'_, Value> {
-    match layout {
-        Layout::Default => tree.serialize(),
-        Layout::OneLine => tree.serialize().no_indent(),
-        Layout::TwoTabs => tree.serialize().indent_prefix("\t\t"),
+/// Prints each tree into a text of its own, and answers how many bytes these have together.
+fn print_texts<T: Syntax>(alloc: Global, layout: Layout, trees: &[T]) -> Result<usize, PrintError> {
+    let mut bytes: usize = 0;
+    for tree in trees {
+        let text = print_in(layout, tree).to_text(alloc)?;
+        bytes = bytes.wrapping_add(text.len());
     }
+    Ok(bytes)
+}
+
+/// Prints trees one after another into a sink.
+fn print_all<T: Syntax, S: TextSink>(
+    layout: Layout,
+    trees: &[T],
+    sink: &mut S,
+) -> Result<(), PrintError>
+    requires { CanFault (S.fault_count sink.old) }
+{
+    for tree in trees {
+        print_in(layout, tree).print_to(sink)?;
+    }
+    Ok(())
 }
 
 /// The length of one print in bytes.
-fn print_once(
-    alloc: Global,
-    print: &Serialize<'_, Value>,
-    target: Target,
-) -> Result<usize, PrintError> {
-    match target {
-        Target::Text => Ok(print.to_text(alloc)?.len()),
+fn print_once<T: Syntax>(alloc: Global, task: &Task, trees: &[T]) -> Result<usize, PrintError> {
+    match task.target {
+        Target::Text => print_texts(alloc, task.layout, trees),
         Target::Sink => {
             let mut sink = VecSink::new(alloc);
-            print.print_to(&mut sink)?;
+            print_all(task.layout, trees, &mut sink)?;
             Ok(sink.bytes().len())
         }
         Target::Stream => {
             let mut sink = StreamSink::new(Vec::new(alloc));
-            print.print_to(&mut sink)?;
+            print_all(task.layout, trees, &mut sink)?;
             Ok(sink.into_inner().len())
         }
     }
 }
 
-fn run(alloc: Global, task: &Task) -> Result<usize, SpeedError> {
-    let Ok(tree) = build(alloc, task) else {
-        return Err(SpeedError::Memory);
-    };
-    let print = print_in(task.layout, &tree);
+/// The same after as many prints as the task asks for.
+fn print_rounds<T: Syntax>(alloc: Global, task: &Task, trees: &[T]) -> Result<usize, SpeedError> {
     let mut bytes = 0;
     for _ in 0..task.rounds {
-        bytes = print_once(alloc, &print, task.target).map_err(SpeedError::Print)?;
+        bytes = print_once(alloc, task, trees)?;
     }
     Ok(bytes)
+}
+
+fn run(alloc: Global, task: &Task) -> Result<usize, SpeedError> {
+    let mut builder = Builder::new(alloc, task.naming, task.exact);
+    match task.tree {
+        Tree::Objects => print_rounds(alloc, task, &[builder.objects(task.count)?]),
+        Tree::Texts => print_rounds(alloc, task, &[builder.texts(task.count)?]),
+        Tree::Nested => print_rounds(alloc, task, &[builder.nested(task.count)?]),
+        Tree::Operations => print_rounds(alloc, task, &builder.operations(task.count)?),
+        Tree::Types => print_rounds(alloc, task, &builder.types(task.count)?),
+    }
 }
 
 fn main(rt: HostRuntime) -> ExitCode {

@@ -1,9 +1,12 @@
-//! The trees that are printed.
+//! The values that are printed, and what all trees are made of.
 ghost use Rattle.std.specs.Prelude.{IsTrue};
 ghost use Rattle.graphql_base.specs.Names.{is_name};
 
 use graphql_base::name::Name;
 use graphql_base::node::Node;
+use graphql_values::argument::Argument;
+use graphql_values::directive::Directive;
+use graphql_values::directive_list::DirectiveList;
 use graphql_values::literal::FloatValue;
 use graphql_values::value::Value;
 use std::alloc::{AllocError, Global};
@@ -26,9 +29,9 @@ pub enum Naming {
 /// What makes the trees.
 #[derive(Drop)]
 pub struct Builder {
-    alloc: Global,
+    pub(crate) alloc: Global,
     naming: Naming,
-    /// Whether lists and objects reserve room for all that they will hold, and no more.
+    /// Whether lists reserve room for all that they will hold, and no more.
     exact: bool,
     /// The names that are shared.
     names: Vec<Name>,
@@ -44,7 +47,7 @@ impl Builder {
         }
     }
 
-    fn name(&mut self, text: &'static str) -> Result<Name, AllocError>
+    pub(crate) fn name(&mut self, text: &'static str) -> Result<Name, AllocError>
         requires { IsTrue (is_name text.now) }
     {
         match self.naming {
@@ -67,7 +70,8 @@ impl Builder {
         Ok(name)
     }
 
-    fn items(&self, count: usize) -> Result<Items, AllocError> {
+    /// A list that will hold so many items.
+    pub(crate) fn list<T>(&self, count: usize) -> Result<Vec<T>, AllocError> {
         if self.exact {
             Vec::with_capacity(self.alloc, count)
         } else {
@@ -75,12 +79,35 @@ impl Builder {
         }
     }
 
-    fn fields(&self, count: usize) -> Result<Fields, AllocError> {
-        if self.exact {
-            Vec::with_capacity(self.alloc, count)
-        } else {
-            Ok(Vec::new(self.alloc))
-        }
+    /// Arguments: one, of that name.
+    pub(crate) fn argument(
+        &mut self,
+        name: &'static str,
+        value: Value,
+    ) -> Result<Vec<Node<Argument>>, AllocError>
+        requires { IsTrue (is_name name.now) }
+    {
+        let mut arguments = self.list(1)?;
+        let value = Node::new(self.alloc, value)?;
+        arguments.push(Argument::new_node(self.alloc, self.name(name)?, value)?)?;
+        Ok(arguments)
+    }
+
+    /// Directives: one, of that name, with one argument.
+    pub(crate) fn directive(
+        &mut self,
+        name: &'static str,
+        argument: &'static str,
+        value: Value,
+    ) -> Result<DirectiveList, AllocError>
+        requires name { IsTrue (is_name name.now) }
+        requires argument { IsTrue (is_name argument.now) }
+    {
+        let mut directive = Directive::new(self.alloc, self.name(name)?);
+        directive.arguments = self.argument(argument, value)?;
+        let mut directives = self.list(1)?;
+        directives.push(Node::new(self.alloc, directive)?)?;
+        Ok(DirectiveList(directives))
     }
 
     fn push(&self, items: &mut Items, value: Value) -> Result<(), AllocError> {
@@ -101,13 +128,13 @@ impl Builder {
     }
 
     /// The digits of a number.
-    fn int(&self, number: usize) -> Result<Value, AllocError> {
+    pub(crate) fn int(&self, number: usize) -> Result<Value, AllocError> {
         Value::from_i32(self.alloc, (number % 1_000_000) as i32)
     }
 
     /// Three numbers from one on.
     fn row(&self, from: usize) -> Result<Value, AllocError> {
-        let mut items = self.items(3)?;
+        let mut items = self.list(3)?;
         for number in from..from.saturating_add(3) {
             self.push(&mut items, self.int(number)?)?;
         }
@@ -116,7 +143,7 @@ impl Builder {
 
     /// A matrix of two rows.
     fn matrix(&self) -> Result<Value, AllocError> {
-        let mut rows = self.items(2)?;
+        let mut rows = self.list(2)?;
         self.push(&mut rows, self.row(1)?)?;
         self.push(&mut rows, self.row(4)?)?;
         Ok(Value::List(rows))
@@ -124,7 +151,7 @@ impl Builder {
 
     /// Two strings and an enum value.
     fn tags(&mut self) -> Result<Value, AllocError> {
-        let mut tags = self.items(3)?;
+        let mut tags = self.list(3)?;
         self.push(&mut tags, Value::from_text(self.alloc, "alpha")?)?;
         self.push(&mut tags, Value::from_text(self.alloc, "beta")?)?;
         let gamma = self.name("GAMMA")?;
@@ -134,7 +161,7 @@ impl Builder {
 
     /// An object with a float, an int, and a string with characters to escape.
     fn position(&mut self, number: usize) -> Result<Value, AllocError> {
-        let mut fields = self.fields(3)?;
+        let mut fields = self.list(3)?;
         let x = FloatValue::new_parsed(self.alloc, "1.5")?;
         self.push_field(&mut fields, "x", Value::Float(x))?;
         let y = self.int(number.wrapping_mul(7))?;
@@ -184,7 +211,7 @@ impl Builder {
 
     /// An object with ten fields.
     fn object(&mut self, number: usize) -> Result<Value, AllocError> {
-        let mut fields = self.fields(10)?;
+        let mut fields = self.list(10)?;
         self.push_first(&mut fields, number)?;
         self.push_groups(&mut fields, number)?;
         self.push_last(&mut fields)?;
@@ -193,7 +220,7 @@ impl Builder {
 
     /// A list of such objects.
     pub fn objects(&mut self, count: usize) -> Result<Value, AllocError> {
-        let mut items = self.items(count)?;
+        let mut items = self.list(count)?;
         for number in 0..count {
             let object = self.object(number)?;
             self.push(&mut items, object)?;
@@ -203,7 +230,7 @@ impl Builder {
 
     /// A list of plain strings.
     pub fn texts(&self, count: usize) -> Result<Value, AllocError> {
-        let mut items = self.items(count)?;
+        let mut items = self.list(count)?;
         for _ in 0..count {
             self.push(&mut items, self.plain_text()?)?;
         }
@@ -214,7 +241,7 @@ impl Builder {
     pub fn nested(&self, count: usize) -> Result<Value, AllocError> {
         let mut value = Value::Null;
         for _ in 0..count {
-            let mut items = self.items(1)?;
+            let mut items = self.list(1)?;
             self.push(&mut items, value)?;
             value = Value::List(items);
         }

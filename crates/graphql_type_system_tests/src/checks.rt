@@ -1,5 +1,5 @@
 //! What the examples compare.
-use graphql_text::engine::{Serialize, Syntax};
+use graphql_text::engine::{PrintError, Serialize, Syntax};
 use std::alloc::Global;
 use std::fmt::Display;
 use std::process::Abort;
@@ -24,4 +24,24 @@ pub(crate) fn check_line<T: Syntax>(
 pub(crate) fn check_displayed<T: Display>(rt: &impl Abort, alloc: Global, tree: &T, wanted: &str) {
     let text = format!(in alloc; "{tree}").expect(rt, "memory");
     assert_eq!(rt; text.as_str(), wanted);
+}
+
+/// The text on one line, where memory may be refused.
+pub(crate) fn check_text_or_refused<T: Syntax>(
+    rt: &impl Abort,
+    alloc: Global,
+    tree: &T,
+    wanted: &str,
+) {
+    match Serialize::new(tree).no_indent().to_text(alloc) {
+        Ok(text) => assert_eq!(rt; text.as_str(), wanted),
+        Err(error) => assert_eq!(rt; error, PrintError::Memory),
+    }
+}
+
+/// A clone, where memory may be refused.
+pub(crate) fn check_cloned_or_refused<T: Clone + PartialEq + Drop>(rt: &impl Abort, original: &T) {
+    if let Ok(copy) = original.clone() {
+        assert!(rt; copy == *original);
+    }
 }

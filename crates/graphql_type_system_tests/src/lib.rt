@@ -10,4 +10,6 @@ mod edges;
 #[cfg(test)]
 mod prints;
 #[cfg(test)]
+mod refusals;
+#[cfg(test)]
 mod samples;

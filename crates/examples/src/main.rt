@@ -2,22 +2,20 @@
 #![tactic(auto)]
 
 ghost use Rattle.std.specs.Prelude.{◌≡◌, ◌↔◌, IfOk, IsErrOf, IsTrue, None, OnErr, OnOk, string_bytes};
-ghost use Rattle.graphql_base.specs.Name.{name_text};
-ghost use Rattle.graphql_text.specs.Reading.{BytesReadAs};
-ghost use Rattle.graphql_values.specs.Loans.{with_value_of};
-ghost use Rattle.graphql_values.specs.Queries.{first_argument_named};
-ghost use Rattle.graphql_values.specs.Values.{NonConst, value_form, value_obeys};
-ghost use Rattle.graphql_values.specs.ValueTrees.{value_tree};
+ghost use Rattle.graphql_ast.specs.Name.{name_text};
+ghost use Rattle.graphql_ast.specs.Reading.{BytesReadAs};
+ghost use Rattle.graphql_ast.specs.Loans.{with_value_of};
+ghost use Rattle.graphql_ast.specs.Queries.{first_argument_named};
+ghost use Rattle.graphql_ast.specs.Values.{NonConst, value_form, value_obeys};
+ghost use Rattle.graphql_ast.specs.ValueTrees.{value_tree};
 
 use anyhow::{Context, Result};
-use graphql_base::name;
-use graphql_base::name::{Name, NameError};
-use graphql_base::node::Node;
-use graphql_text::engine::PrintError;
-use graphql_text::sink::StreamSink;
-use graphql_values::argument::Argument;
-use graphql_values::directive::{Directive, SpecifiedArgumentError};
-use graphql_values::value::Value;
+use graphql_ast::ast::{Argument, Directive, SpecifiedArgumentError, Value};
+use graphql_ast::name;
+use graphql_ast::name::{Name, NameError};
+use graphql_ast::node::Node;
+use graphql_ast::serialize::PrintError;
+use graphql_ast::sink::StreamSink;
 use std::alloc::{AllocError, Global};
 use std::io::Write;
 

@@ -1,0 +1,4 @@
+pub mod AstEquality
+pub mod DocumentShapes
+pub mod FirstDefinitions
+pub mod Readings

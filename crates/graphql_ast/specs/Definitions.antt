@@ -1,8 +1,5 @@
 -- Definitions: Definition, section 2.2. Each of the seventeen kinds of definitions and extensions is one.
-use Rattle.std.specs.Prelude.{ℕ, List, Bool}
-use Rattle.graphql_text.specs.Forms.{Form}
 use Rattle.graphql_text.specs.Kinds.{Kind}
-use Rattle.graphql_text.specs.Layout.{Item}
 use Rattle.graphql_executable.specs.OperationDefinitions.{operation_definition_kind}
 use Rattle.graphql_executable.specs.FragmentDefinitions.{fragment_definition_kind}
 use Rattle.graphql_values.specs.DirectiveDefinitions.{directive_definition_kind}

@@ -1,0 +1,69 @@
+//! Documents as they are made, compared, hashed and cloned.
+use crate::samples::{document, query, type_a, type_and_query};
+use graphql_ast::ast::{Definition, Document, SourceFile};
+use graphql_ast::node::Node;
+use graphql_ast::span::{FileId, SourceSpan};
+use std::alloc::{AllocError, Global};
+use std::collections::HashSet;
+
+/// A source file of these texts.
+fn source_file(alloc: Global, path: &str, text: &str) -> Result<SourceFile, AllocError> {
+    Ok(SourceFile {
+        path: String::from_str(alloc, path)?,
+        text: String::from_str(alloc, text)?,
+    })
+}
+
+/// `type A query { a }`, read from one file.
+fn from_a_file(alloc: Global) -> Result<Document, AllocError> {
+    let mut document = type_and_query(alloc)?;
+    let file = source_file(alloc, "a.graphql", "type A { a }")?;
+    document.sources.insert(FileId::new(3), file)?;
+    Ok(document)
+}
+
+#[test]
+fn a_new_document_is_empty(rt: HostRuntime) {
+    let alloc = rt.alloc();
+    let new = Document::new(alloc);
+    assert!(rt; new.sources.is_empty() && new.definitions.is_empty());
+    assert!(rt; new == document(alloc, Vec::new(alloc)));
+}
+
+#[test]
+fn sources_are_not_compared(rt: HostRuntime) {
+    let alloc = rt.alloc();
+    let made = type_and_query(alloc).expect(&rt, "memory");
+    let read = from_a_file(alloc).expect(&rt, "memory");
+    assert!(rt; made == read);
+    let mut seen = HashSet::new(alloc);
+    assert!(rt; seen.insert(made).is_ok());
+    assert!(rt; seen.contains(&read));
+    let shorter = vec![in alloc; type_a(alloc).expect(&rt, "memory")].expect(&rt, "memory");
+    assert!(rt; !seen.contains(&document(alloc, shorter)));
+}
+
+#[test]
+fn a_clone_keeps_sources_and_locations(rt: HostRuntime) {
+    let alloc = rt.alloc();
+    let mut read = from_a_file(alloc).expect(&rt, "memory");
+    let file = FileId::new(3);
+    let span = SourceSpan::new(file, 0, 6).expect(&rt, "a span");
+    let query = query(alloc).expect(&rt, "memory");
+    let node = Node::new_parsed(alloc, query, span).expect(&rt, "memory");
+    read.definitions = vec![in alloc; Definition::from(node)].expect(&rt, "memory");
+    let copy = read.clone().expect(&rt, "memory");
+    assert!(rt; copy == read && copy.sources.len() == 1);
+    assert!(rt; copy.sources.get(&file) == read.sources.get(&file));
+    let location = copy.definitions.first().and_then(|first| first.location());
+    assert!(rt; location == Some(span));
+}
+
+#[test]
+fn source_files_compare_by_both_texts(rt: HostRuntime) {
+    let alloc = rt.alloc();
+    let file = source_file(alloc, "a", "b").expect(&rt, "memory");
+    assert!(rt; file == file.clone().expect(&rt, "memory"));
+    assert!(rt; file != source_file(alloc, "a", "c").expect(&rt, "memory"));
+    assert!(rt; file != source_file(alloc, "c", "b").expect(&rt, "memory"));
+}

@@ -1,0 +1,17 @@
+//! Worked examples of definitions and documents, through public calls alone.
+#![tactic(auto)]
+
+#[cfg(test)]
+mod checks;
+#[cfg(test)]
+mod documents;
+#[cfg(test)]
+mod hostile;
+#[cfg(test)]
+mod prints;
+#[cfg(test)]
+mod queries;
+#[cfg(test)]
+mod refusals;
+#[cfg(test)]
+mod samples;

@@ -13,7 +13,7 @@ the number is great), `well_formed`, and `text`, or `refusal` where the level ov
 is deeper than JSON is read is told by its number: `{"built": "N lists, each the one item .."}` or
 `{"built": "anonymous query, N selection sets .."}`.
 
-The prints that stand there are of five sources, and the model laid out the first four:
+The prints that stand there are of seven sources, and the model laid out the first six:
 - rows that docs/LAYOUT.md follows from, and rows written where these try nothing;
 - random trees of these kinds, some of them ill formed, each in several layouts and at levels near the greatest;
 - pieces longer than the buffer of a print (1,024 bytes): strings and descriptions of 600 to 3,000 bytes, plain, with characters to escape,
@@ -22,6 +22,13 @@ The prints that stand there are of five sources, and the model laid out the firs
 - nested lists: 5,000 on one line and under an empty prefix, also at the greatest level that they fit and at the one above, and 200 under
   two spaces and under a tab, whose text grows with the square of the number. As `rt run` builds the program its stack carries 5,000; the
   checked build of `rt try` runs out of stack between 2,500 and 3,000;
+- executable trees at the edges of their side conditions: repeated arguments, object fields, directives, variables and selections, which are
+  kept and well formed; enum values `true`, `false` and `null` in arguments, defaults and directives, alone and in lists and objects, and
+  names that only look like these; variables in the default and in the directives of a variable, alone and up to four values deep, beside
+  the same values where they may stand;
+- descriptions of each kind of the type system that has one, or has a member that has one: of 70 and of 71 bytes, of 35 and of 36 characters
+  of two bytes, and empty, at each kind; of quotes, of backslashes, of carriage returns, of line feeds, of blank and of indented lines, at
+  two kinds each; and of 3,000 bytes, at eight kinds;
 - trees with locations, with `block`, and with optional members that are null or left out, written by hand.
 
 The refusals are written by hand: JSON that is of no tree, and the error that the words of crates/graphql_ast_json/src/error.rt say of it.
@@ -230,21 +237,36 @@ def fragment_definition(tree):
     return described(tree, body)
 
 
+DEFINITIONS = {
+    **{kind + end: type_system for kind in ("Schema", "ScalarType", "ObjectType", "InterfaceType", "UnionType", "EnumType",
+        "InputObjectType") for end in ("Definition", "Extension")},
+    "DirectiveDefinition": directive_definition,
+    "OperationDefinition": operation_definition,
+    "FragmentDefinition": fragment_definition,
+}
+
+
+def definition(tree):
+    return DEFINITIONS[tree["node"]](tree)
+
+
+def document(tree):
+    return {"kind": "Document", "definitions": [definition(item) for item in tree["definitions"]]}
+
+
 KINDS = {
     "Value": value,
     "Directive": directive,
     "DirectiveList": directive_list,
     "InputValueDefinition": input_value_definition,
-    "DirectiveDefinition": directive_definition,
     "FieldDefinition": field_definition,
     "EnumValueDefinition": enum_value_definition,
-    **{kind + end: type_system for kind in ("Schema", "ScalarType", "ObjectType", "InterfaceType", "UnionType", "EnumType",
-        "InputObjectType") for end in ("Definition", "Extension")},
     "VariableDefinition": variable_definition,
     "Selection": selection,
     **SELECTIONS,
-    "OperationDefinition": operation_definition,
-    "FragmentDefinition": fragment_definition,
+    **DEFINITIONS,
+    "Definition": definition,
+    "Document": document,
 }
 
 

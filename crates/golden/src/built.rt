@@ -1,12 +1,9 @@
 //! Trees that cases tell by a number, since they are deeper than JSON is read.
-use graphql_base::name;
-use graphql_base::node::Node;
-use graphql_executable::field::Field;
-use graphql_executable::operation_definition::OperationDefinition;
-use graphql_executable::selection::Selection;
-use graphql_values::directive_list::DirectiveList;
-use graphql_values::operation_type::OperationType;
-use graphql_values::value::Value;
+use graphql_ast::ast::{
+    DirectiveList, Field, OperationDefinition, OperationType, Selection, Value,
+};
+use graphql_ast::name;
+use graphql_ast::node::Node;
 use std::alloc::{AllocError, Global};
 
 /// As many lists, each the one item of the one around it; the innermost is empty. None is `null`.

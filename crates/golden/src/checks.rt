@@ -1,8 +1,8 @@
 //! What is compared with a case.
 use crate::case::PrintCase;
 use crate::sink::ByteSink;
-use graphql_text::engine::{PrintError, Serialize, Syntax};
-use graphql_text::sink::{StreamSink, TextSink, VecSink};
+use graphql_ast::serialize::{PrintError, Serialize, Syntax};
+use graphql_ast::sink::{StreamSink, TextSink, VecSink};
 use std::alloc::Global;
 use std::fmt;
 use std::fmt::{Display, Formatter, Write};

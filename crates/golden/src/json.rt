@@ -2,10 +2,9 @@
 use crate::case::{JsonCase, PrintCase};
 use crate::checks::{Check, first_failed};
 use anyhow::Result;
+use graphql_ast::serialize::Syntax;
+use graphql_ast::span::FileId;
 use graphql_ast_json::AstJson;
-use graphql_base::span::FileId;
-use graphql_executable::selection::Selection;
-use graphql_text::engine::Syntax;
 use std::alloc::Global;
 use std::fmt::Display;
 
@@ -23,13 +22,13 @@ pub fn failed_print<T: AstJson + Syntax + Display + PartialEq + Drop>(
     Ok(first_failed(alloc, case, &tree))
 }
 
-/// The same of a field, a fragment spread or an inline fragment, and then of the selection that it is.
-pub fn failed_selection<T: AstJson + Syntax + Display + PartialEq + Drop>(
-    alloc: Global,
-    case: &PrintCase,
-) -> Result<Option<Check>> {
+/// The same of a tree by itself, and then as a variant: of a field, and of the selection that it is.
+pub fn failed_variant<
+    T: AstJson + Syntax + Display + PartialEq + Drop,
+    Whole: AstJson + Syntax + Display + PartialEq + Drop,
+>(alloc: Global, case: &PrintCase) -> Result<Option<Check>> {
     match failed_print::<T>(alloc, case)? {
-        None => failed_print::<Selection>(alloc, case),
+        None => failed_print::<Whole>(alloc, case),
         failed => Ok(failed),
     }
 }

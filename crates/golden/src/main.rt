@@ -13,31 +13,17 @@ mod sink;
 use crate::built::{nested_fields, nested_lists};
 use crate::case::{Case, JsonCase, PrintCase, read_case};
 use crate::checks::{Check, first_failed};
-use crate::json::{failed_print, failed_selection, is_read};
+use crate::json::{failed_print, failed_variant, is_read};
 use anyhow::{Context, Result, bail};
-use graphql_executable::field::Field;
-use graphql_executable::fragment_definition::FragmentDefinition;
-use graphql_executable::fragment_spread::FragmentSpread;
-use graphql_executable::inline_fragment::InlineFragment;
-use graphql_executable::operation_definition::OperationDefinition;
-use graphql_executable::selection::Selection;
-use graphql_executable::variable_definition::VariableDefinition;
-use graphql_type_system::enum_type::{EnumTypeDefinition, EnumTypeExtension};
-use graphql_type_system::enum_value_definition::EnumValueDefinition;
-use graphql_type_system::field_definition::FieldDefinition;
-use graphql_type_system::input_object_type::{InputObjectTypeDefinition, InputObjectTypeExtension};
-use graphql_type_system::interface_type::{InterfaceTypeDefinition, InterfaceTypeExtension};
-use graphql_type_system::object_type::{ObjectTypeDefinition, ObjectTypeExtension};
-use graphql_type_system::scalar_type::{ScalarTypeDefinition, ScalarTypeExtension};
-use graphql_type_system::schema::{SchemaDefinition, SchemaExtension};
-use graphql_type_system::union_type::{UnionTypeDefinition, UnionTypeExtension};
-use graphql_values::argument::Argument;
-use graphql_values::directive::Directive;
-use graphql_values::directive_definition::DirectiveDefinition;
-use graphql_values::directive_list::DirectiveList;
-use graphql_values::input_value_definition::InputValueDefinition;
-use graphql_values::types::Type;
-use graphql_values::value::Value;
+use graphql_ast::ast::{
+    Argument, Definition, Directive, DirectiveDefinition, DirectiveList, Document,
+    EnumTypeDefinition, EnumTypeExtension, EnumValueDefinition, Field, FieldDefinition,
+    FragmentDefinition, FragmentSpread, InlineFragment, InputObjectTypeDefinition,
+    InputObjectTypeExtension, InputValueDefinition, InterfaceTypeDefinition,
+    InterfaceTypeExtension, ObjectTypeDefinition, ObjectTypeExtension, OperationDefinition,
+    ScalarTypeDefinition, ScalarTypeExtension, SchemaDefinition, SchemaExtension, Selection, Type,
+    UnionTypeDefinition, UnionTypeExtension, Value, VariableDefinition,
+};
 use std::alloc::Global;
 use std::io::{BufRead, BufReader};
 use std::process::ExitCode;
@@ -59,29 +45,38 @@ fn first_of_node(alloc: Global, case: &PrintCase) -> Result<Option<Check>> {
         "" => failed_print::<DirectiveList>(alloc, case),
         "Directive" => failed_print::<Directive>(alloc, case),
         "InputValueDefinition" => failed_print::<InputValueDefinition>(alloc, case),
-        "DirectiveDefinition" => failed_print::<DirectiveDefinition>(alloc, case),
-        "SchemaDefinition" => failed_print::<SchemaDefinition>(alloc, case),
-        "SchemaExtension" => failed_print::<SchemaExtension>(alloc, case),
-        "ScalarTypeDefinition" => failed_print::<ScalarTypeDefinition>(alloc, case),
-        "ScalarTypeExtension" => failed_print::<ScalarTypeExtension>(alloc, case),
-        "ObjectTypeDefinition" => failed_print::<ObjectTypeDefinition>(alloc, case),
-        "ObjectTypeExtension" => failed_print::<ObjectTypeExtension>(alloc, case),
-        "InterfaceTypeDefinition" => failed_print::<InterfaceTypeDefinition>(alloc, case),
-        "InterfaceTypeExtension" => failed_print::<InterfaceTypeExtension>(alloc, case),
-        "UnionTypeDefinition" => failed_print::<UnionTypeDefinition>(alloc, case),
-        "UnionTypeExtension" => failed_print::<UnionTypeExtension>(alloc, case),
-        "EnumTypeDefinition" => failed_print::<EnumTypeDefinition>(alloc, case),
-        "EnumTypeExtension" => failed_print::<EnumTypeExtension>(alloc, case),
-        "InputObjectTypeDefinition" => failed_print::<InputObjectTypeDefinition>(alloc, case),
-        "InputObjectTypeExtension" => failed_print::<InputObjectTypeExtension>(alloc, case),
+        "DirectiveDefinition" => failed_variant::<DirectiveDefinition, Definition>(alloc, case),
+        "SchemaDefinition" => failed_variant::<SchemaDefinition, Definition>(alloc, case),
+        "SchemaExtension" => failed_variant::<SchemaExtension, Definition>(alloc, case),
+        "ScalarTypeDefinition" => failed_variant::<ScalarTypeDefinition, Definition>(alloc, case),
+        "ScalarTypeExtension" => failed_variant::<ScalarTypeExtension, Definition>(alloc, case),
+        "ObjectTypeDefinition" => failed_variant::<ObjectTypeDefinition, Definition>(alloc, case),
+        "ObjectTypeExtension" => failed_variant::<ObjectTypeExtension, Definition>(alloc, case),
+        "InterfaceTypeDefinition" => failed_variant::<InterfaceTypeDefinition, Definition>(
+            alloc, case,
+        ),
+        "InterfaceTypeExtension" => failed_variant::<InterfaceTypeExtension, Definition>(
+            alloc, case,
+        ),
+        "UnionTypeDefinition" => failed_variant::<UnionTypeDefinition, Definition>(alloc, case),
+        "UnionTypeExtension" => failed_variant::<UnionTypeExtension, Definition>(alloc, case),
+        "EnumTypeDefinition" => failed_variant::<EnumTypeDefinition, Definition>(alloc, case),
+        "EnumTypeExtension" => failed_variant::<EnumTypeExtension, Definition>(alloc, case),
+        "InputObjectTypeDefinition" => failed_variant::<InputObjectTypeDefinition, Definition>(
+            alloc, case,
+        ),
+        "InputObjectTypeExtension" => failed_variant::<InputObjectTypeExtension, Definition>(
+            alloc, case,
+        ),
         "FieldDefinition" => failed_print::<FieldDefinition>(alloc, case),
         "EnumValueDefinition" => failed_print::<EnumValueDefinition>(alloc, case),
         "VariableDefinition" => failed_print::<VariableDefinition>(alloc, case),
-        "Field" => failed_selection::<Field>(alloc, case),
-        "FragmentSpread" => failed_selection::<FragmentSpread>(alloc, case),
-        "InlineFragment" => failed_selection::<InlineFragment>(alloc, case),
-        "OperationDefinition" => failed_print::<OperationDefinition>(alloc, case),
-        "FragmentDefinition" => failed_print::<FragmentDefinition>(alloc, case),
+        "Field" => failed_variant::<Field, Selection>(alloc, case),
+        "FragmentSpread" => failed_variant::<FragmentSpread, Selection>(alloc, case),
+        "InlineFragment" => failed_variant::<InlineFragment, Selection>(alloc, case),
+        "OperationDefinition" => failed_variant::<OperationDefinition, Definition>(alloc, case),
+        "FragmentDefinition" => failed_variant::<FragmentDefinition, Definition>(alloc, case),
+        "Document" => failed_print::<Document>(alloc, case),
         _ => failed_print::<Value>(alloc, case),
     }
 }
@@ -119,6 +114,8 @@ fn passes(alloc: Global, case: &JsonCase) -> Result<bool> {
         "inline_fragment" => is_read::<InlineFragment>(alloc, case),
         "operation_definition" => is_read::<OperationDefinition>(alloc, case),
         "fragment_definition" => is_read::<FragmentDefinition>(alloc, case),
+        "definition" => is_read::<Definition>(alloc, case),
+        "document" => is_read::<Document>(alloc, case),
         kind => bail!("no trees are of the kind {kind}"),
     }
 }

@@ -1,7 +1,7 @@
 //! A sink that takes little.
 ghost use Rattle.std.specs.Prelude.{◌≡◌, [], Some};
 
-use graphql_text::sink::{SinkFault, TextSink};
+use graphql_ast::sink::{SinkFault, TextSink};
 use std::alloc::Global;
 
 /// A sink that takes one byte a call. It faults where it is given none, or gets no memory.

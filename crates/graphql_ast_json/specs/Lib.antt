@@ -9,6 +9,7 @@ pub mod DirectiveJson
 pub mod DefinitionJson
 pub mod TypeSystemJson
 pub mod ExecutableJson
+pub mod DocumentJson
 -- nodes while they are written
 pub mod Drafts
 -- errors of reading

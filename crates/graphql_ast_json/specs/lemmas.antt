@@ -6,3 +6,4 @@ pub mod DirectiveNodes
 pub mod DefinitionNodes
 pub mod TypeSystemNodes
 pub mod ExecutableNodes
+pub mod DocumentNodes

@@ -8,10 +8,12 @@
 
 mod argument;
 mod ast_json;
+mod definition;
 mod directive;
 mod directive_definition;
 mod directive_list;
 mod directive_location;
+mod document;
 mod enum_type;
 mod enum_value_definition;
 pub mod error;

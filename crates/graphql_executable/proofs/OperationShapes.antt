@@ -1,15 +1,7 @@
--- The layout of operations, piece by piece.
-use Rattle.std.proofs.Common.{◌≡◌, ◌&&◌, Bool, Some, false, refl, true}
-use Rattle.graphql_text.specs.Writing.{fixed_text}
-use Rattle.graphql_values.specs.OperationTypes.{OperationTypeTree, Mutation, Query, Subscription, operation_type_name, operation_type_shape}
+-- The layout of an operation in shorthand, and of one that is not.
+use Rattle.std.proofs.Common.{◌≡◌, ◌&&◌, Bool, false, refl, true}
 use Rattle.graphql_executable.specs.OperationDefinitions.{full_operation_kind, is_bare_query, operation_shape}
 use Rattle.graphql_executable.specs.Selections.{selection_set_shape}
-
--- the words of the operation types are ASCII
-pub operation_type_fixed : (type : OperationTypeTree) → fixed_text (operation_type_shape type) ≡ Some (operation_type_name type)
-operation_type_fixed Query = refl
-operation_type_fixed Mutation = refl
-operation_type_fixed Subscription = refl
 
 -- an operation in shorthand, and one that isn't
 module _ (broken front : Bool) (operation : full_operation_kind.Tree) where

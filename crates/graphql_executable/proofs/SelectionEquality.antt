@@ -1,12 +1,11 @@
 -- What the derived `==` of selections, fields, fragment spreads and inline fragments decides: whether their trees are the same.
-use Rattle.std.proofs.Common.{◌≡◌, Bool, false, List, [], ◌∷◌, map, map-id, eqb, refl, sym, ap, ap₂, ◌∙◌, subst}
+use Rattle.std.proofs.Common.{◌≡◌, Bool, false, List, [], ◌∷◌, map, map-id, refl, sym, ap, ap₂, ◌∙◌, subst}
 use Rattle.std.specs.Bool.{Decides}
 use Rattle.std.specs.Cmp.Lexicographic.{pointwise}
 use denote.Enum.Compared.{Each, by}
-use Rattle.graphql_base.specs.declared.name.Name.{Name}
 use Rattle.graphql_text.specs.Leaves.{name_tree}
-use Rattle.graphql_values.proofs.DirectiveEquality.{arguments_decide, directive_lists_decide, lists_decide, options_decide}
-use Rattle.graphql_values.proofs.Equality.{both, through, never, always, names_decide}
+use Rattle.graphql_values.proofs.DirectiveEquality.{arguments_decide, directive_lists_decide, nodes_decide, options_decide}
+use Rattle.graphql_values.proofs.Equality.{both, through, never, always, names_decide, same_names}
 use Rattle.graphql_values.specs.DirectiveTrees.{argument_tree}
 use Rattle.graphql_values.specs.contracts.argument.ArgumentPartialEq.TheImpl as argument
 use Rattle.graphql_executable.specs.ExecutableTrees.{field_tree, field_tree_step, fragment_spread_tree, inline_fragment_tree, inline_fragment_tree_step, selection_tree, selection_tree_step, selection_trees}
@@ -36,13 +35,10 @@ use Rattle.graphql_executable.specs.declared.selection.Selection.TheOpen.{Select
 as_same : {a b : Bool} {P : Type 0} → a ≡ b → Decides b P → Decides a P
 as_same {P = P} e d = subst (λ c. Decides c P) (sym e) d
 
-abbrev same_names : Name → Name → Bool
-same_names x y = pointwise eqb x.text.bytes y.text.bytes
-
 module _ (a b : Field) where
   field_decides : Decides (pointwise selection.ghosts.eq a.selection_set.items b.selection_set.items) (selection_trees a.selection_set.items ≡ selection_trees b.selection_set.items) → Decides (field.ghosts.eq a b) (field_tree a ≡ field_tree b)
   field_decides selections = as_same (field_laws.is a b) (both _ _ (options_decide same_names name_tree names_decide a.alias b.alias) (both _ _ (names_decide a.name b.name) (both _ _
-      (lists_decide (λ n m. argument.ghosts.eq n.value m.value) (λ n. argument_tree n.value) (λ n m. arguments_decide n.value m.value) a.arguments.items b.arguments.items)
+      (nodes_decide argument.ghosts.eq argument_tree arguments_decide a.arguments.items b.arguments.items)
       (both _ _ (directive_lists_decide a.directives b.directives) selections (λ e. e) (λ p q. (p, q))) (λ e. e) (λ p q. (p, q))) (λ e. e) (λ p q. (p, q)))
       (λ e. let t = sym (field_is a) ∙ e ∙ field_is b in (ap (λ x. x.head.alias) t, (ap (λ x. x.head.name) t, (ap (λ x. x.head.arguments) t, (ap (λ x. x.head.directives) t, ap (λ x. x.selections) t)))))
       (λ p q. field_is a ∙ (λ i. record { head = record { alias = p i; name = q.0 i; arguments = q.1.0 i; directives = q.1.1.0 i }; selections = q.1.1.1 i }) ∙ sym (field_is b)))

@@ -3,7 +3,7 @@ use Rattle.std.specs.Prelude.{◌≡◌, List, [], ◌∷◌, map}
 use Rattle.std.specs.Option.{option_map}
 use Rattle.graphql_base.specs.declared.node.Node.{Node}
 use Rattle.graphql_base.specs.Node.{node_value}
-use Rattle.graphql_text.specs.Leaves.{description_tree, name_tree}
+use Rattle.graphql_text.specs.Leaves.{described_tree, name_tree}
 use Rattle.graphql_values.specs.DirectiveTrees.{argument_trees, directive_trees}
 use Rattle.graphql_values.specs.LocationTrees.{operation_type_tree}
 use Rattle.graphql_values.specs.TypeTrees.{type_tree}
@@ -89,38 +89,29 @@ pub record IsInlineFragmentCloneOf (fragment copy : InlineFragment) : Type 0 whe
 
 -- The tree of a variable definition, an operation and a fragment definition: all of it but the locations.
 abbrev pub variable_definition_tree : VariableDefinition → variable_definition_kind.Tree
-variable_definition_tree variable = record {
-  description = option_map description_tree variable.description;
-  body = record {
-    name = name_tree variable.name;
-    type = type_tree (node_value variable.ty);
-    default_value = option_map (λ node. value_tree (node_value node)) variable.default_value;
-    directives = directive_trees variable.directives;
-  };
-}
+variable_definition_tree variable = described_tree variable.description (record {
+  name = name_tree variable.name;
+  type = type_tree (node_value variable.ty);
+  default_value = option_map (λ node. value_tree (node_value node)) variable.default_value;
+  directives = directive_trees variable.directives;
+})
 
 abbrev pub variable_definition_trees : List (Node VariableDefinition) → List variable_definition_kind.Tree
 variable_definition_trees = map (λ node. variable_definition_tree (node_value node))
 
 abbrev pub operation_definition_tree : OperationDefinition → operation_definition_kind.Tree
-operation_definition_tree operation = record {
-  description = option_map description_tree operation.description;
-  body = record {
-    operation_type = operation_type_tree operation.operation_type;
-    name = option_map name_tree operation.name;
-    variables = variable_definition_trees operation.variables.items;
-    directives = directive_trees operation.directives;
-    selections = selection_trees operation.selection_set.items;
-  };
-}
+operation_definition_tree operation = described_tree operation.description (record {
+  operation_type = operation_type_tree operation.operation_type;
+  name = option_map name_tree operation.name;
+  variables = variable_definition_trees operation.variables.items;
+  directives = directive_trees operation.directives;
+  selections = selection_trees operation.selection_set.items;
+})
 
 abbrev pub fragment_definition_tree : FragmentDefinition → fragment_definition_kind.Tree
-fragment_definition_tree fragment = record {
-  description = option_map description_tree fragment.description;
-  body = record {
-    name = name_tree fragment.name;
-    type_condition = name_tree fragment.type_condition;
-    directives = directive_trees fragment.directives;
-    selections = selection_trees fragment.selection_set.items;
-  };
-}
+fragment_definition_tree fragment = described_tree fragment.description (record {
+  name = name_tree fragment.name;
+  type_condition = name_tree fragment.type_condition;
+  directives = directive_trees fragment.directives;
+  selections = selection_trees fragment.selection_set.items;
+})

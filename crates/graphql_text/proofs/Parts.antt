@@ -5,7 +5,7 @@ use Rattle.graphql_text.specs.Literals.{NameText}
 use Rattle.graphql_text.specs.Tokens.{Punctuator, Token, Punctuation, Name}
 use Rattle.graphql_text.specs.Forms.{Form, TokenClass, a_punctuator, a_keyword, a_name, token, keyword, ◌⨟◌, name_except, only_if, no_tokens, optional, begins, is_one_of}
 use Rattle.graphql_text.specs.Kinds.{Kind}
-use Rattle.graphql_text.specs.Layout.{Item, Word, Space, flat}
+use Rattle.graphql_text.specs.Layout.{Item, Word, Space, flat, lowers, raises}
 use Rattle.graphql_text.specs.OneReading.{IsReadOneWay}
 use Rattle.graphql_text.specs.PrintedParts.{PrintedTokensDerive, PrintedTokensDeriveBefore}
 use Rattle.graphql_text.specs.Optional.{optional_shape, optional_nesting, optional_obeys}
@@ -13,7 +13,7 @@ use Rattle.graphql_text.specs.Spelling.{punctuator_leaves_room}
 use Rattle.graphql_text.proofs.Bracketing.{Passes, punctuator_effect}
 use Rattle.graphql_text.proofs.Parsing.{Parser, Reads, Opening, ◌>>=◌, pure, seq, last, accept, mark_reads, word_reads, parse_name, name_reads, parse_maybe, maybe_reads, fits, joined, checked, checked_reads, only_if_reads, one_reading, before, within, within_refl, also}
 use Rattle.graphql_text.proofs.PrintedTokens.{Tail, optional_tokens}
-use Rattle.graphql_text.proofs.Telling.{Told, told_then, told_after, told_as, told_mark, told_name, told_word, told_space, told_flat, told_nothing, told_derives}
+use Rattle.graphql_text.proofs.Telling.{Told, told_then, told_after, told_as, told_mark, told_name, told_word, told_space, told_flat, told_nothing, told_balanced, told_derives}
 use Rattle.graphql_text.proofs.Tests.{first_holds, second_holds, both_hold, false_of, not_of}
 
 -- A part: its tokens and its reader, and that they fit its grammar, its layout, its nesting and its side conditions. It is printed where
@@ -30,6 +30,11 @@ pub record Part {A : Type 0} (form : A → Form) (shape : Bool → A → List It
 -- a tree of a kind as a part of others
 abbrev pub KindPart : (kind : Kind) → List TokenClass → List TokenClass → Bool → List TokenClass → Bool → Type 0
 KindPart kind = Part kind.form (λ broken tree. kind.shape broken false tree) kind.nesting kind.obeys
+
+-- a part raises the level as often as it lowers it
+pub part_balanced : {A : Type 0} {f : A → Form} {s : Bool → A → List Item} {n : A → ℕ} {o : A → Bool} {F L : List TokenClass} {b : Bool} {S : List TokenClass} {opens : Bool} → Part f s n o F L b S opens →
+    (broken : Bool) (a : A) → raises (s broken a) ≡ lowers (s broken a)
+part_balanced p broken a = told_balanced (p.told broken a)
 
 -- ONE AFTER ANOTHER
 

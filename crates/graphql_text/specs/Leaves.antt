@@ -1,10 +1,12 @@
 -- The leaves of trees that names and descriptions of the code stand for.
-use Rattle.std.specs.Prelude.{chars}
+use Rattle.std.specs.Prelude.{Option, chars}
+use Rattle.std.specs.Option.{option_map}
 use Rattle.std.proofs.lemmas.Str.{IsUtf8-had, scalars-chars}
 use Rattle.graphql_base.specs.declared.name.Name.{Name}
 use Rattle.graphql_base.specs.declared.node_str.NodeStr.{NodeStr}
 use Rattle.graphql_base.specs.Name.{name_text}
 use Rattle.graphql_base.specs.Node.{node_str_text}
+use Rattle.graphql_text.specs.Descriptions.{Described}
 use Rattle.graphql_text.specs.Literals.{NameText, StringText}
 
 abbrev pub name_tree : Name → NameText
@@ -15,3 +17,7 @@ abbrev pub description_tree : NodeStr → StringText
 description_tree description =
     let bytes = node_str_text description in
     record { text = chars bytes; valid = scalars-chars bytes (IsUtf8-had bytes description.valid) }
+
+-- a body and the description before it
+abbrev pub described_tree : {Body : Type 0} → Option NodeStr → Body → Described Body
+described_tree description body = record { description = option_map description_tree description; body = body }

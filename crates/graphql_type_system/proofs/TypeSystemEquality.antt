@@ -1,19 +1,16 @@
 -- What the derived `==` of definitions and extensions decides: whether their trees are the same. A definition and an extension are decided as
 -- what they share.
-use Rattle.std.proofs.Common.{◌≡◌, Bool, ◌&&◌, List, Option, ap, eqb, rules}
+use Rattle.std.proofs.Common.{◌≡◌, Bool, ◌&&◌, List, ap}
 use Rattle.std.specs.Bool.{Decides}
 use Rattle.std.specs.Cmp.Lexicographic.{pointwise}
-use Rattle.std.specs.Option.{option_eq}
 use Rattle.graphql_base.specs.declared.name.Name.{Name}
 use Rattle.graphql_base.specs.declared.node.Node.{Node}
-use Rattle.graphql_base.specs.declared.node_str.NodeStr.{NodeStr}
 use Rattle.graphql_text.specs.Leaves.{name_tree}
-use Rattle.graphql_values.proofs.DefinitionEquality.{descriptions_decide, input_value_definitions_decide}
-use Rattle.graphql_values.proofs.DirectiveEquality.{directive_lists_decide, lists_decide}
-use Rattle.graphql_values.proofs.Equality.{both, names_decide}
+use Rattle.graphql_values.proofs.DefinitionEquality.{described_decide, input_value_definitions_decide, operation_types_decide}
+use Rattle.graphql_values.proofs.DirectiveEquality.{directive_lists_decide, lists_decide, nodes_decide, same_nodes}
+use Rattle.graphql_values.proofs.Equality.{both, names_decide, same_names}
 use Rattle.graphql_values.proofs.TypeEquality.{types_decide}
 use Rattle.graphql_values.specs.DefinitionTrees.{input_value_definition_tree}
-use Rattle.graphql_values.specs.LocationTrees.{operation_type_tree}
 use Rattle.graphql_values.specs.contracts.directive_list.DirectiveListPartialEq.TheImpl as directive_list
 use Rattle.graphql_values.specs.contracts.input_value_definition.InputValueDefinitionPartialEq.TheImpl as input
 use Rattle.graphql_values.specs.contracts.operation_type.OperationTypePartialEq.TheImpl as operation_type
@@ -21,7 +18,7 @@ use Rattle.graphql_values.specs.declared.directive_list.DirectiveList.{Directive
 use Rattle.graphql_values.specs.declared.operation_type.OperationType.{OperationType}
 use Rattle.graphql_type_system.specs.MemberTrees.{member_trees, name_trees}
 use Rattle.graphql_type_system.specs.TypeSystemTrees as trees
-use Rattle.graphql_type_system.specs.TypeSystemTrees.{described_tree, braced_type_tree, enum_value_definition_tree, field_definition_tree, implementing_type_tree, root_operation_tree, scalar_type_tree, schema_tree, union_type_tree}
+use Rattle.graphql_type_system.specs.TypeSystemTrees.{braced_type_tree, enum_value_definition_tree, field_definition_tree, implementing_type_tree, root_operation_tree, scalar_type_tree, schema_tree, union_type_tree}
 use Rattle.graphql_type_system.specs.contracts.enum_type.EnumTypeDefinitionPartialEq.TheImpl as enum_type_definition
 use Rattle.graphql_type_system.specs.contracts.enum_type.EnumTypeExtensionPartialEq.TheImpl as enum_type_extension
 use Rattle.graphql_type_system.specs.contracts.enum_value_definition.EnumValueDefinitionPartialEq.TheImpl as enum_value_definition
@@ -57,31 +54,15 @@ use Rattle.graphql_type_system.specs.declared.union_type.UnionTypeExtension.{Uni
 
 -- PIECES
 
-abbrev same_name : Name → Name → Bool
-same_name x y = pointwise eqb x.text.bytes y.text.bytes
-
-name_lists_decide : (xs ys : List Name) → Decides (pointwise same_name xs ys) (name_trees xs ≡ name_trees ys)
-name_lists_decide = lists_decide same_name name_tree names_decide
-
-abbrev same_nodes : {M : Type 0} → (M → M → Bool) → List (Node M) → List (Node M) → Bool
-same_nodes same = pointwise (λ n m. same n.value m.value)
-
-members_decide : {M Tree : Type 0} (same : M → M → Bool) (tree : M → Tree) → ((a b : M) → Decides (same a b) (tree a ≡ tree b)) → (xs ys : List (Node M)) →
-    Decides (same_nodes same xs ys) (member_trees tree xs ≡ member_trees tree ys)
-members_decide same tree decides = lists_decide (λ n m. same n.value m.value) (λ n. tree n.value) (λ n m. decides n.value m.value)
-
--- a description, and what it describes
-described_decide : {Body : Type 0} {p : Bool} (d e : Option NodeStr) (b c : Body) → Decides p (b ≡ c) →
-    Decides (option_eq (λ x y. pointwise eqb x.text y.text) d e && p) (described_tree d b ≡ described_tree e c)
-described_decide d e b c same =
-    both _ _ (descriptions_decide d e) same (λ e. (ap (λ t. t.description) e, ap (λ t. t.body) e)) (λ p q. λ i. record { description = p i; body = q i })
+name_lists_decide : (xs ys : List Name) → Decides (pointwise same_names xs ys) (name_trees xs ≡ name_trees ys)
+name_lists_decide = lists_decide same_names name_tree names_decide
 
 -- MEMBERS
 
 pub field_definitions_decide : (a b : FieldDefinition) → Decides (field_definition.ghosts.eq a b) (field_definition_tree a ≡ field_definition_tree b)
 field_definitions_decide a b = described_decide a.description b.description (field_definition_tree a).body (field_definition_tree b).body (
     both _ _ (names_decide a.name b.name) (both _ _
-    (members_decide input.ghosts.eq input_value_definition_tree input_value_definitions_decide a.arguments.items b.arguments.items)
+    (nodes_decide input.ghosts.eq input_value_definition_tree input_value_definitions_decide a.arguments.items b.arguments.items)
     (both _ _ (types_decide a.ty b.ty) (directive_lists_decide a.directives b.directives) (λ e. e) (λ p q. (p, q))) (λ e. e) (λ p q. (p, q)))
     (λ e. (ap (λ t. t.name) e, (ap (λ t. t.arguments) e, (ap (λ t. t.type) e, ap (λ t. t.directives) e))))
     (λ p q. λ i. record { name = p i; arguments = q.0 i; type = q.1.0 i; directives = q.1.1 i }))
@@ -91,31 +72,28 @@ enum_value_definitions_decide a b = described_decide a.description b.description
     both _ _ (names_decide a.value b.value) (directive_lists_decide a.directives b.directives)
     (λ e. (ap (λ t. t.value) e, ap (λ t. t.directives) e)) (λ p q. λ i. record { value = p i; directives = q i }))
 
-operation_types_decide : (a b : OperationType) → Decides (operation_type.ghosts.eq a b) (operation_type_tree a ≡ operation_type_tree b)
-operation_types_decide a b = search rules
-
-root_operations_decide : (a b : OperationType × Name) → Decides (operation_type.ghosts.eq a.0 b.0 && same_name a.1 b.1) (root_operation_tree a ≡ root_operation_tree b)
+root_operations_decide : (a b : OperationType × Name) → Decides (operation_type.ghosts.eq a.0 b.0 && same_names a.1 b.1) (root_operation_tree a ≡ root_operation_tree b)
 root_operations_decide a b =
     both _ _ (operation_types_decide a.0 b.0) (names_decide a.1 b.1)
     (λ e. (ap (λ t. t.operation_type) e, ap (λ t. t.type) e)) (λ p q. λ i. record { operation_type = p i; type = q i })
 
 -- WHAT A DEFINITION AND AN EXTENSION SHARE
 
-scalar_types_decide : (n m : Name) (d e : DirectiveList) → Decides (same_name n m && directive_list.ghosts.eq d e) (scalar_type_tree n d ≡ scalar_type_tree m e)
+scalar_types_decide : (n m : Name) (d e : DirectiveList) → Decides (same_names n m && directive_list.ghosts.eq d e) (scalar_type_tree n d ≡ scalar_type_tree m e)
 scalar_types_decide n m d e =
     both _ _ (names_decide n m) (directive_lists_decide d e) (λ e. (ap (λ t. t.name) e, ap (λ t. t.directives) e)) (λ p q. λ i. record { name = p i; directives = q i })
 
 implementing_types_decide : (n m : Name) (is js : List Name) (d e : DirectiveList) (fs gs : List (Node FieldDefinition)) →
-    Decides (same_name n m && (pointwise same_name is js && (directive_list.ghosts.eq d e && same_nodes field_definition.ghosts.eq fs gs)))
+    Decides (same_names n m && (pointwise same_names is js && (directive_list.ghosts.eq d e && same_nodes field_definition.ghosts.eq fs gs)))
     (implementing_type_tree n is d fs ≡ implementing_type_tree m js e gs)
 implementing_types_decide n m is js d e fs gs =
     both _ _ (names_decide n m) (both _ _ (name_lists_decide is js) (both _ _ (directive_lists_decide d e)
-    (members_decide field_definition.ghosts.eq field_definition_tree field_definitions_decide fs gs) (λ e. e) (λ p q. (p, q))) (λ e. e) (λ p q. (p, q)))
+    (nodes_decide field_definition.ghosts.eq field_definition_tree field_definitions_decide fs gs) (λ e. e) (λ p q. (p, q))) (λ e. e) (λ p q. (p, q)))
     (λ e. (ap (λ t. t.name) e, (ap (λ t. t.interfaces) e, (ap (λ t. t.directives) e, ap (λ t. t.fields) e))))
     (λ p q. λ i. record { name = p i; interfaces = q.0 i; directives = q.1.0 i; fields = q.1.1 i })
 
 union_types_decide : (n m : Name) (d e : DirectiveList) (xs ys : List Name) →
-    Decides (same_name n m && (directive_list.ghosts.eq d e && pointwise same_name xs ys)) (union_type_tree n d xs ≡ union_type_tree m e ys)
+    Decides (same_names n m && (directive_list.ghosts.eq d e && pointwise same_names xs ys)) (union_type_tree n d xs ≡ union_type_tree m e ys)
 union_types_decide n m d e xs ys =
     both _ _ (names_decide n m) (both _ _ (directive_lists_decide d e) (name_lists_decide xs ys) (λ e. e) (λ p q. (p, q)))
     (λ e. (ap (λ t. t.name) e, (ap (λ t. t.directives) e, ap (λ t. t.members) e)))
@@ -123,17 +101,17 @@ union_types_decide n m d e xs ys =
 
 braced_types_decide : {M Tree : Type 0} (same : M → M → Bool) (tree : M → Tree) → ((a b : M) → Decides (same a b) (tree a ≡ tree b)) →
     (n m : Name) (d e : DirectiveList) (xs ys : List (Node M)) →
-    Decides (same_name n m && (directive_list.ghosts.eq d e && same_nodes same xs ys)) (braced_type_tree n d (member_trees tree xs) ≡ braced_type_tree m e (member_trees tree ys))
+    Decides (same_names n m && (directive_list.ghosts.eq d e && same_nodes same xs ys)) (braced_type_tree n d (member_trees tree xs) ≡ braced_type_tree m e (member_trees tree ys))
 braced_types_decide same tree decides n m d e xs ys =
-    both _ _ (names_decide n m) (both _ _ (directive_lists_decide d e) (members_decide same tree decides xs ys) (λ e. e) (λ p q. (p, q)))
+    both _ _ (names_decide n m) (both _ _ (directive_lists_decide d e) (nodes_decide same tree decides xs ys) (λ e. e) (λ p q. (p, q)))
     (λ e. (ap (λ t. t.name) e, (ap (λ t. t.directives) e, ap (λ t. t.members) e)))
     (λ p q. λ i. record { name = p i; directives = q.0 i; members = q.1 i })
 
 schemas_decide : (d e : DirectiveList) (xs ys : List (Node (OperationType × Name))) →
-    Decides (directive_list.ghosts.eq d e && same_nodes (λ a b. operation_type.ghosts.eq a.0 b.0 && same_name a.1 b.1) xs ys) (schema_tree d xs ≡ schema_tree e ys)
+    Decides (directive_list.ghosts.eq d e && same_nodes (λ a b. operation_type.ghosts.eq a.0 b.0 && same_names a.1 b.1) xs ys) (schema_tree d xs ≡ schema_tree e ys)
 schemas_decide d e xs ys =
     both _ _ (directive_lists_decide d e)
-    (members_decide (λ a b. operation_type.ghosts.eq a.0 b.0 && same_name a.1 b.1) root_operation_tree root_operations_decide xs ys)
+    (nodes_decide (λ a b. operation_type.ghosts.eq a.0 b.0 && same_names a.1 b.1) root_operation_tree root_operations_decide xs ys)
     (λ e. (ap (λ t. t.directives) e, ap (λ t. t.root_operations) e)) (λ p q. λ i. record { directives = p i; root_operations = q i })
 
 -- DEFINITIONS AND EXTENSIONS

@@ -1,11 +1,8 @@
 -- The trees that the definitions and extensions of the code stand for: all of them but the locations in a source text.
-use Rattle.std.specs.Prelude.{List, Option}
-use Rattle.std.specs.Option.{option_map}
+use Rattle.std.specs.Prelude.{List}
 use Rattle.graphql_base.specs.declared.name.Name.{Name}
 use Rattle.graphql_base.specs.declared.node.Node.{Node}
-use Rattle.graphql_base.specs.declared.node_str.NodeStr.{NodeStr}
-use Rattle.graphql_text.specs.Descriptions.{Described}
-use Rattle.graphql_text.specs.Leaves.{description_tree, name_tree}
+use Rattle.graphql_text.specs.Leaves.{described_tree, name_tree}
 use Rattle.graphql_values.specs.DefinitionTrees.{input_value_definition_trees}
 use Rattle.graphql_values.specs.DirectiveTrees.{directive_trees}
 use Rattle.graphql_values.specs.LocationTrees.{operation_type_tree}
@@ -40,10 +37,6 @@ use Rattle.graphql_type_system.specs.declared.schema.SchemaDefinition.{SchemaDef
 use Rattle.graphql_type_system.specs.declared.schema.SchemaExtension.{SchemaExtension}
 use Rattle.graphql_type_system.specs.declared.union_type.UnionTypeDefinition.{UnionTypeDefinition}
 use Rattle.graphql_type_system.specs.declared.union_type.UnionTypeExtension.{UnionTypeExtension}
-
--- a body and the description before it
-abbrev pub described_tree : {Body : Type 0} → Option NodeStr → Body → Described Body
-described_tree description body = record { description = option_map description_tree description; body = body }
 
 -- MEMBERS
 

@@ -3,6 +3,7 @@ use Rattle.std.proofs.Common.{◌≡◌, Bool, Option, Some, None, List, [], ◌
 use Rattle.std.specs.Bool.{Decides}
 use Rattle.std.specs.Cmp.Lexicographic.{pointwise}
 use Rattle.std.specs.Option.{option_eq, option_map}
+use Rattle.graphql_base.specs.declared.node.Node.{Node}
 use Rattle.graphql_values.proofs.Equality.{both, through, never, always, names_decide, values_decide}
 use Rattle.graphql_values.specs.DirectiveTrees.{argument_tree, directive_tree, directive_trees}
 use Rattle.graphql_values.specs.contracts.argument.ArgumentPartialEq.TheImpl as argument
@@ -34,6 +35,13 @@ module _ {A B : Type 0} (E : A → A → Bool) (f : A → B) (decides : (x y : A
   options_decide (Some x) None = never (λ e. cc)
   options_decide (Some x) (Some y) = through (decides x y) (λ e. cc) (ap Some)
 
+abbrev pub same_nodes : {M : Type 0} → (M → M → Bool) → List (Node M) → List (Node M) → Bool
+same_nodes same = pointwise (λ n m. same n.value m.value)
+
+pub nodes_decide : {M Tree : Type 0} (same : M → M → Bool) (tree : M → Tree) → ((a b : M) → Decides (same a b) (tree a ≡ tree b)) → (xs ys : List (Node M)) →
+    Decides (same_nodes same xs ys) (map (λ n. tree n.value) xs ≡ map (λ n. tree n.value) ys)
+nodes_decide same tree decides = lists_decide (λ n m. same n.value m.value) (λ n. tree n.value) (λ n m. decides n.value m.value)
+
 pub arguments_decide : (a b : Argument) → Decides (argument.ghosts.eq a b) (argument_tree a ≡ argument_tree b)
 arguments_decide a b =
     both _ _ (names_decide a.name b.name) (values_decide a.value.value b.value.value)
@@ -42,9 +50,9 @@ arguments_decide a b =
 pub directives_decide : (a b : Directive) → Decides (directive.ghosts.eq a b) (directive_tree a ≡ directive_tree b)
 directives_decide a b =
     both _ _ (names_decide a.name b.name)
-    (lists_decide (λ n m. argument.ghosts.eq n.value m.value) (λ n. argument_tree n.value) (λ n m. arguments_decide n.value m.value) a.arguments.items b.arguments.items)
+    (nodes_decide argument.ghosts.eq argument_tree arguments_decide a.arguments.items b.arguments.items)
     (λ e. (ap (λ t. t.name) e, ap (λ t. t.arguments) e)) (λ p q. λ i. record { name = p i; arguments = q i })
 
 pub directive_lists_decide : (a b : DirectiveList) → Decides (directive_list.ghosts.eq a b) (directive_trees a ≡ directive_trees b)
 directive_lists_decide a b =
-    lists_decide (λ n m. directive.ghosts.eq n.value m.value) (λ n. directive_tree n.value) (λ n m. directives_decide n.value m.value) a.0.items b.0.items
+    nodes_decide directive.ghosts.eq directive_tree directives_decide a.0.items b.0.items

@@ -45,7 +45,10 @@ always r = (λ e. r, λ _. refl)
 
 -- LEAVES
 
-pub names_decide : (x y : Name) → Decides (pointwise eqb x.text.bytes y.text.bytes) (name_tree x ≡ name_tree y)
+abbrev pub same_names : Name → Name → Bool
+same_names x y = pointwise eqb x.text.bytes y.text.bytes
+
+pub names_decide : (x y : Name) → Decides (same_names x y) (name_tree x ≡ name_tree y)
 names_decide x y = through (bytes_decides x.text.bytes y.text.bytes) (ap (λ t. t.text)) (same_text (name_tree x) (name_tree y))
 
 ints_decide : (x y : IntValue) → Decides (pointwise eqb x.numeral y.numeral) (int_tree x ≡ int_tree y)

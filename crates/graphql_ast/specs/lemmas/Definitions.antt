@@ -25,7 +25,7 @@ use Rattle.graphql_values.specs.lemmas.DirectiveDefinitions.{directive_definitio
 use Rattle.graphql_executable.specs.FragmentDefinitions.{fragment_definition_body}
 use Rattle.graphql_executable.specs.OperationDefinitions.{full_operation_kind, is_bare_query, operation_definition_form, operation_definition_kind, operation_form, operation_shape}
 use Rattle.graphql_executable.specs.Selections.{selection_set_nesting, selection_set_shape}
-use Rattle.graphql_executable.specs.lemmas.Definitions.{fragment_definition_body_part, full_operation_part, operation_definition_laws, operation_definition_part, operation_tokens}
+use Rattle.graphql_executable.specs.lemmas.Definitions.{at_front, fragment_definition_body_part, full_operation_part, operation_definition_part, operation_told, operation_tokens, operation_written}
 use Rattle.graphql_executable.specs.lemmas.Selections.{selection_set_part}
 use Rattle.graphql_type_system.specs.BracedTypes.{braced_type_adds}
 use Rattle.graphql_type_system.specs.EnumTypes.{enum_type_body}
@@ -204,26 +204,6 @@ unfolding operation_form operation_definition_form either only_if ◌⨟◌
 operation_chosen operation tokens rest (inl d) = brace_chosen tokens rest (let x = selection_set_part.read 0 operation.body.selections in x.opens tokens rest d.1)
 operation_chosen operation tokens rest (inr d) = operation_type_begins operation.body.operation_type tokens d.0 d.2.0 operation.description d.1 d.2.1
 
-module _ (operation : full_operation_kind.Tree) where
-  pub shorthand_nests : (broken front : Bool) → (front && is_bare_query operation) ≡ true → selection_set_nesting operation.body.selections ≡ full_operation_kind.nesting operation
-  unfolding operation_shape
-  shorthand_nests broken front is =
-      let set = selection_set_part.told broken operation.body.selections in
-      let bracketed = whole set.bracketed in
-      let nests = rw is at (operation_definition_laws.nests broken front operation) in
-      sym (nests ∙ bracketed.nested)
-
-  pub first_operation_told : (broken front b : Bool) → (front && is_bare_query operation) ≡ b →
-      Told 0 (if b then selection_set_shape operation.body.selections else full_operation_kind.shape broken front operation) (if b then selection_set_part.tokens operation.body.selections else full_operation_part.tokens operation) false (full_operation_kind.nesting operation)
-  first_operation_told broken front true is = told_as (shorthand_nests broken front is) (told_weaker (selection_set_part.told broken operation.body.selections))
-  first_operation_told broken front false is = full_operation_part.told broken operation
-
-  pub first_operation_written : (front b : Bool) → (front && is_bare_query operation) ≡ b → IsTrue (full_operation_kind.obeys operation) → (rest : List Token) →
-      operation_form operation ((if b then selection_set_part.tokens operation.body.selections else full_operation_part.tokens operation) rest) rest
-  unfolding operation_form either only_if
-  first_operation_written front true is holds rest = inl (second_holds front (is_bare_query operation) is, selection_set_part.written operation.body.selections (second_holds _ _ (second_holds _ _ holds)) rest (begins_none rest))
-  first_operation_written front false is holds rest = inr (full_operation_part.written operation holds rest (begins_none rest))
-
 unfoldable pub operation_as_definition : DefinitionPart operation_definition_kind OperationDefinition
 unfolding operation_shape operation_tokens as_definition operation_definition_part
 operation_as_definition = record {
@@ -231,8 +211,8 @@ operation_as_definition = record {
   chosen = operation_chosen;
   no_brace = λ operation holds rest stops. begins_apart full_operation_kind full_operation_part refl operation holds rest (begins_none rest);
   first_tokens = operation_tokens;
-  first_told = λ broken front operation. first_operation_told operation broken front (front && is_bare_query operation) refl;
-  first_written = λ front operation holds rest stops. first_operation_written operation front (front && is_bare_query operation) refl holds rest;
+  first_told = λ broken front operation. operation_told operation broken front (front && is_bare_query operation) (at_front front (is_bare_query operation));
+  first_written = λ front operation holds rest stops. operation_written operation (front && is_bare_query operation) (at_front front (is_bare_query operation)) holds rest;
 }
 
 -- ALL DEFINITIONS

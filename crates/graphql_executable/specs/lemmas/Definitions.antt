@@ -8,7 +8,7 @@ use Rattle.graphql_text.specs.Reading.{Laws}
 use Rattle.graphql_text.proofs.KindLaws.{laws_of}
 use Rattle.graphql_text.proofs.KindParts.{described_part, part_laws}
 use Rattle.graphql_text.proofs.Parsing.{Parser, Reads, ◌>>=◌, pure, alt, last, alt_0, alt_1, wider, either_reads, only_if_reads}
-use Rattle.graphql_text.proofs.Parts.{KindPart, name_part, name_then, word_then, space_then, plain_then, part_then, plain_optional_part, retold}
+use Rattle.graphql_text.proofs.Parts.{KindPart, begins_none, name_part, name_then, word_then, space_then, plain_then, part_then, plain_optional_part, retold}
 use Rattle.graphql_text.proofs.PrintedTokens.{Tail}
 use Rattle.graphql_text.proofs.Telling.{Told, told_as, told_weaker}
 use Rattle.graphql_text.proofs.Tests.{second_holds}
@@ -112,29 +112,29 @@ operation_definition_part = record {
 unfoldable pub operation_tokens : Bool → full_operation_kind.Tree → Tail
 operation_tokens front operation = if front && is_bare_query operation then selection_set_part.tokens operation.body.selections else full_operation_part.tokens operation
 
-at_front : (front b : Bool) → front && b ≡ true → IsTrue b
+pub at_front : (front b : Bool) → front && b ≡ true → IsTrue b
 at_front true b is = is
 at_front false b is = cc
 
 module _ (operation : full_operation_kind.Tree) where
-  operation_told : (broken front b : Bool) → (b ≡ true → IsTrue (is_bare_query operation)) →
+  pub operation_told : (broken front b : Bool) → (b ≡ true → IsTrue (is_bare_query operation)) →
       Told 0 (if b then selection_set_shape operation.body.selections else full_operation_kind.shape broken front operation) (if b then selection_set_part.tokens operation.body.selections else full_operation_part.tokens operation) false (full_operation_kind.nesting operation)
   unfolding bare_query
   operation_told broken front true is = subst (λ (other : full_operation_kind.Tree). Told 0 (selection_set_shape other.body.selections) (selection_set_part.tokens other.body.selections) false (full_operation_kind.nesting other)) (bare_query_is operation (is refl))
       (told_as (omega arith) (told_weaker (selection_set_part.told broken operation.body.selections)))
   operation_told broken front false is = full_operation_part.told broken operation
 
-  operation_written : (b : Bool) → (b ≡ true → IsTrue (is_bare_query operation)) → IsTrue (full_operation_kind.obeys operation) →
-      operation_form operation ((if b then selection_set_part.tokens operation.body.selections else full_operation_part.tokens operation) []) []
+  pub operation_written : (b : Bool) → (b ≡ true → IsTrue (is_bare_query operation)) → IsTrue (full_operation_kind.obeys operation) → (rest : List Token) →
+      operation_form operation ((if b then selection_set_part.tokens operation.body.selections else full_operation_part.tokens operation) rest) rest
   unfolding operation_form either only_if
-  operation_written true is holds =
-      inl (is refl, selection_set_part.written operation.body.selections (second_holds (directives_obey NonConst operation.body.directives) _ (second_holds (variable_definitions_obey operation.body.variables) _ holds)) [] refl)
-  operation_written false is holds = inr (full_operation_part.written operation holds [] refl)
+  operation_written true is holds rest =
+      inl (is refl, selection_set_part.written operation.body.selections (second_holds (directives_obey NonConst operation.body.directives) _ (second_holds (variable_definitions_obey operation.body.variables) _ holds)) rest (begins_none rest))
+  operation_written false is holds rest = inr (full_operation_part.written operation holds rest (begins_none rest))
 
 pub operation_definition_laws : Laws operation_definition_kind
 unfolding operation_shape operation_tokens
 operation_definition_laws = laws_of {tokens = operation_tokens}
     (λ broken front operation. operation_told operation broken front (front && is_bare_query operation) (at_front front (is_bare_query operation)))
     (λ k. operation_is_read)
-    (λ front operation holds. operation_written operation (front && is_bare_query operation) (at_front front (is_bare_query operation)) holds)
+    (λ front operation holds. operation_written operation (front && is_bare_query operation) (at_front front (is_bare_query operation)) holds [])
     operation_obeyed

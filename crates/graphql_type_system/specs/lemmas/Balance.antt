@@ -1,19 +1,13 @@
 -- Lemmas, no definitions of the product: what is written of a member raises the level as often as it lowers it.
-use Rattle.std.proofs.Common.{ℕ, ◌≡◌, Bool, false, List}
-use Rattle.graphql_text.specs.Forms.{Form, TokenClass}
-use Rattle.graphql_text.specs.Layout.{Item, lowers, raises}
-use Rattle.graphql_text.proofs.Parts.{Part}
-use Rattle.graphql_text.proofs.Telling.{told_balanced}
+use Rattle.std.proofs.Common.{◌≡◌, Bool, false}
+use Rattle.graphql_text.specs.Layout.{lowers, raises}
+use Rattle.graphql_text.proofs.Parts.{part_balanced}
 use Rattle.graphql_values.specs.InputValueDefinitions.{input_value_definition_kind}
 use Rattle.graphql_values.specs.lemmas.InputValueDefinitions.{input_value_definition_part}
 use Rattle.graphql_type_system.specs.EnumValueDefinitions.{enum_value_definition_kind}
 use Rattle.graphql_type_system.specs.FieldDefinitions.{field_definition_kind}
 use Rattle.graphql_type_system.specs.Schemas.{root_operation_kind}
 use Rattle.graphql_type_system.specs.lemmas.Bodies.{enum_value_definition_part, field_definition_part, root_operation_part}
-
-part_balanced : {A : Type 0} {f : A → Form} {s : Bool → A → List Item} {n : A → ℕ} {o : A → Bool} {F L : List TokenClass} {b : Bool} {S : List TokenClass} {opens : Bool} → Part f s n o F L b S opens →
-    (broken : Bool) (a : A) → raises (s broken a) ≡ lowers (s broken a)
-part_balanced p broken a = told_balanced (p.told broken a)
 
 pub field_definition_balanced : (broken : Bool) (field : field_definition_kind.Tree) → raises (field_definition_kind.shape broken false field) ≡ lowers (field_definition_kind.shape broken false field)
 field_definition_balanced = part_balanced field_definition_part

@@ -1,8 +1,9 @@
--- Lemmas, no definitions of the product: operation types as a part.
-use Rattle.std.proofs.Common.{◌≡◌, refl, ℕ, true, false, List, [], ◌∷◌, codes}
+-- Lemmas, no definitions of the product: operation types as a part, and their words.
+use Rattle.std.proofs.Common.{◌≡◌, refl, ℕ, Some, true, false, List, [], ◌∷◌, codes}
 use Rattle.graphql_base.specs.Names.{is_name}
 use Rattle.graphql_text.specs.Tokens.{Name}
 use Rattle.graphql_text.specs.Forms.{TokenClass, a_keyword, token}
+use Rattle.graphql_text.specs.Writing.{fixed_text}
 use Rattle.graphql_text.proofs.Parsing.{Parser, Reads, ◌>>=◌, pure, alt, alt_0, alt_1, wider, accept, word_reads, last}
 use Rattle.graphql_text.proofs.Parts.{Part}
 use Rattle.graphql_text.proofs.Telling.{told_nothing, told_word}
@@ -12,6 +13,12 @@ pub operation_type_is_name : (type : OperationTypeTree) → is_name (operation_t
 operation_type_is_name Query = refl
 operation_type_is_name Mutation = refl
 operation_type_is_name Subscription = refl
+
+-- the words of operation types are ASCII
+pub operation_type_fixed : (type : OperationTypeTree) → fixed_text (operation_type_shape type) ≡ Some (operation_type_name type)
+operation_type_fixed Query = refl
+operation_type_fixed Mutation = refl
+operation_type_fixed Subscription = refl
 
 unfoldable pub operation_word_reader : OperationTypeTree → Parser OperationTypeTree
 operation_word_reader type = accept (a_keyword (operation_type_name type)) >>= λ t. pure type

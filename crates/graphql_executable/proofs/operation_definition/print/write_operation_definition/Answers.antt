@@ -4,7 +4,7 @@ use Rattle.graphql_text.proofs.WritingLaws.{writes_then}
 use Rattle.graphql_values.specs.LocationTrees.{operation_type_tree}
 use Rattle.graphql_values.specs.OperationTypes.{operation_type_shape}
 use Rattle.graphql_executable.specs.OperationDefinitions.{operation_definition_shape, operation_shape}
-use Rattle.graphql_executable.proofs.OperationShapes.{operation_type_fixed}
+use Rattle.graphql_values.specs.lemmas.OperationTypes.{operation_type_fixed}
 use Rattle.graphql_executable.proofs.operation_definition.print.write_operation_definition.Goals as goal
 
 pub returns-clause-written : goal.returns-clause-written

@@ -4,7 +4,7 @@ use Rattle.graphql_text.specs.Tokens.{colon, Name, Punctuation}
 use Rattle.graphql_text.proofs.WritingLaws.{writes_then}
 use Rattle.graphql_values.specs.LocationTrees.{operation_type_tree}
 use Rattle.graphql_values.specs.OperationTypes.{operation_type_name}
-use Rattle.graphql_type_system.proofs.RootOperations.{operation_type_fixed}
+use Rattle.graphql_values.specs.lemmas.OperationTypes.{operation_type_fixed}
 use Rattle.graphql_type_system.specs.Schemas.{root_operation_shape}
 use Rattle.graphql_type_system.proofs.root_operation.Tuple2OperationTypeNamedTypeMember.write_member.Goals as goal
 

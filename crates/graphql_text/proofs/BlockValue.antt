@@ -226,7 +226,8 @@ many_value p v h cr f l b =
     ap (join_with_byte 10) (lines_kept ls l) ∙
     join_with_byte-slice_split 10 v
 
-lines_one : (v : List ℕ) → list_any (λ c. c == 10) v ≡ false → lines_of v ≡ v ∷ []
+-- a text without line feed is one line
+pub lines_one : (v : List ℕ) → list_any (λ c. c == 10) v ≡ false → lines_of v ≡ v ∷ []
 lines_one [] h = refl
 lines_one (c ∷ v) h =
     let e : (c == 10) ≡ false = grind arith in

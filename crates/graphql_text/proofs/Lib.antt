@@ -50,6 +50,7 @@ pub mod Runs
 pub mod Pieces
 pub mod SplitLines
 pub mod StringTexts
+pub mod PlainLines
 pub mod Headline
 pub mod Sending
 pub mod TwoSpaces

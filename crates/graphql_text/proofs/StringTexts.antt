@@ -1,7 +1,6 @@
 -- Which form the text of a string has.
-use Rattle.std.proofs.Common.{◌≡◌, ◌==◌, ℕ, Bool, true, false, ◌&&◌, ◌||◌, cond, length, nat_lt, List, [], ◌∷◌, Option, None, Some, refl, arith}
+use Rattle.std.proofs.Common.{◌≡◌, ◌==◌, ℕ, Bool, true, false, ◌&&◌, ◌||◌, cond, length, nat_lt, List, [], ◌∷◌, Option, None, Some, refl, ap, sym, ◌∙◌, eqb-true, true≢false}
 use Rattle.std.specs.List.{list_any}
-use Rattle.std.proofs.lemmas.Bool.Decides.{nat_tests}
 use Rattle.graphql_text.specs.BlockForm.{can_be_block, block_text}
 use Rattle.graphql_text.specs.QuotedForm.{quoted_character, quoted_form}
 use Rattle.graphql_text.specs.Layout.{StringRole, AsValue, wants_block, string_text}
@@ -28,16 +27,20 @@ any_less p q less (c ∷ text) none = go (q c) refl (any_less p q less text) non
     go true e rest h = cc
     go false e rest h = rw (less c e) (rest h)
 
-line_feeds_are_escaped : (c : ℕ) → nat_lt 1 (length (quoted_character c)) ≡ false → (c == 0xA) ≡ false
-line_feeds_are_escaped c = go (c == 0xA) refl
+-- a character that has an escape stands nowhere in a text of which nothing is escaped
+pub none_stands : (k : ℕ) → nat_lt 1 (length (quoted_character k)) ≡ true → (text : List ℕ) → list_any (λ c. nat_lt 1 (length (quoted_character c))) text ≡ false → list_any (λ c. c == k) text ≡ false
+none_stands k is text none = any_less (λ c. c == k) (λ c. nat_lt 1 (length (quoted_character c))) another text none
   where
-    go : (b : Bool) → (c == 0xA) ≡ b → nat_lt 1 (length (quoted_character c)) ≡ false → (c == 0xA) ≡ false
-    go false e h = e
-    go true e h = let ten : c ≡ 0xA = grind (arith, nat_tests) in let plain = rw ten at h in cc
+    another : (c : ℕ) → nat_lt 1 (length (quoted_character c)) ≡ false → (c == k) ≡ false
+    another c h = go (c == k) refl
+      where
+        go : (b : Bool) → (c == k) ≡ b → (c == k) ≡ false
+        go false e = e
+        go true e = absurd (true≢false (sym is ∙ ap (λ x. nat_lt 1 (length (quoted_character x))) (sym (eqb-true c k e)) ∙ h))
 
 -- a text of which nothing is escaped holds no line feed
 pub no_line_feed : (text : List ℕ) → list_any (λ c. nat_lt 1 (length (quoted_character c))) text ≡ false → list_any (λ c. c == 0xA) text ≡ false
-no_line_feed text none = any_less (λ c. c == 0xA) (λ c. nat_lt 1 (length (quoted_character c))) line_feeds_are_escaped text none
+no_line_feed text none = none_stands 0xA refl text none
 
 -- a value without line feed is quoted
 pub quoted_here : (mode : Option (List ℕ)) (level : ℕ) (value : List ℕ) → list_any (λ c. c == 0xA) value ≡ false → string_text mode level value AsValue ≡ quoted_form value

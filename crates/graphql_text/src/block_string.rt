@@ -1,9 +1,10 @@
 //! Block strings.
 
-ghost use Rattle.std.specs.Prelude.{◌≡◌, ◌==◌, ◌<◌, ℕ, true, nat_lt, Decides, length, drop, [], chars, encode_utf8_all};
+ghost use Rattle.std.specs.Prelude.{◌≡◌, ◌==◌, ◌<◌, ℕ, IsTrue, true, false, nat_lt, Decides, length, drop, [], chars, codes, encode_utf8_all};
 ghost use Rattle.std.specs.List.{list_any, repeat};
 ghost use Rattle.graphql_text.specs.Characters.{begins_with, is_space_or_tab, quotes};
 ghost use Rattle.graphql_text.specs.BlockStringValue.{is_blank as holds_only_blanks};
+ghost use Rattle.graphql_text.specs.QuotedForm.{quoted_character};
 ghost use Rattle.graphql_text.specs.BlockForm.{begins_unindented as has_no_indent, block_form, block_on_one_line, block_over_lines, block_text, broken_line, can_be_block as has_block_form, escape_quotes, would_join_closing_quotes};
 
 use crate::breaks::line_break;
@@ -32,7 +33,7 @@ fn is_blank(line: &str) -> bool
     line.bytes().all(|byte| is_space_or_tab_byte(byte))
 }
 
-fn begins_unindented(line: &str) -> bool
+pub(crate) fn begins_unindented(line: &str) -> bool
     ensures { result ≡ has_no_indent line.now }
 {
     match line.bytes().next() {
@@ -174,4 +175,53 @@ pub(crate) fn write_block<O: Target>(out: &mut O, prefix: &str, level: usize, va
     ensures { O.wrote out.old (encode_utf8_all (block_text (chars prefix.now) level (chars value.now))) out.new }
 {
     write_block_bytes(out, prefix, level, value);
+}
+
+/// Writes the block form of one line of which nothing is escaped, with breaks.
+fn write_plain_over_lines<O: Target>(
+    out: &mut O,
+    prefix: &str,
+    is_two_spaces: bool,
+    level: usize,
+    line: &str,
+)
+    requires two_spaces { IsTrue is_two_spaces → prefix.now ≡ codes "  " }
+    requires some { 0 < length line.now }
+    requires plain { list_any (λ byte. nat_lt 1 (length (quoted_character byte))) line.now ≡ false }
+    ensures { O.wrote out.old (block_over_lines (repeat level prefix.now) line.now) out.new }
+{
+    out.text("\"\"\"");
+    line_break(out, prefix, is_two_spaces, level);
+    write_piece(out, line);
+    line_break(out, prefix, is_two_spaces, level);
+    out.text("\"\"\"");
+}
+
+/// Writes the block form of one line of which nothing is escaped, without breaks.
+fn write_plain_on_one_line<O: Target>(out: &mut O, line: &str)
+    requires { list_any (λ byte. nat_lt 1 (length (quoted_character byte))) line.now ≡ false }
+    ensures { O.wrote out.old (block_on_one_line line.now) out.new }
+{
+    out.text("\"\"\"");
+    write_piece(out, line);
+    out.text("\"\"\"");
+}
+
+/// Writes the block form of a value of which nothing is escaped, and which so is one line.
+pub(crate) fn write_plain_block<O: Target>(
+    out: &mut O,
+    prefix: &str,
+    is_two_spaces: bool,
+    level: usize,
+    value: &str,
+)
+    requires two_spaces { IsTrue is_two_spaces → prefix.now ≡ codes "  " }
+    requires plain { list_any (λ byte. nat_lt 1 (length (quoted_character byte))) value.now ≡ false }
+    ensures { O.wrote out.old (encode_utf8_all (block_text (chars prefix.now) level (chars value.now))) out.new }
+{
+    if value.len() > 70 {
+        write_plain_over_lines(out, prefix, is_two_spaces, level, value);
+    } else {
+        write_plain_on_one_line(out, value);
+    }
 }

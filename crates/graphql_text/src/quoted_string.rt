@@ -138,14 +138,3 @@ pub(crate) fn write_quoted_runs<O: Target>(out: &mut O, value: &str)
     write_runs(out, value);
     out.text("\"");
 }
-
-/// Writes the quoted form of a value.
-pub(crate) fn write_quoted<O: Target>(out: &mut O, value: &str)
-    ensures { O.wrote out.old (encode_utf8_all (quoted_form (chars value.now))) out.new }
-{
-    if has_escaped(value) {
-        write_quoted_runs(out, value);
-    } else {
-        write_plain(out, value);
-    }
-}

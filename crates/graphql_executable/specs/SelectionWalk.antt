@@ -1,8 +1,9 @@
 -- What is still to be written of selection sets, for a writer that goes through them by a stack, and how far it has come.
-use Rattle.std.specs.Prelude.{◌≡◌, ℕ, ◌+◌, ◌≤◌, ◌<◌, ◌^◌, max, List, [], ◌∷◌, ◌++◌, length, Option, Bool, false}
+use Rattle.std.specs.Prelude.{◌≡◌, ℕ, ◌+◌, ◌≤◌, ◌<◌, ◌^◌, List, [], ◌∷◌, ◌++◌, length, Option, Bool, false}
 use Rattle.graphql_text.specs.Groups.{curly_rest}
 use Rattle.graphql_text.specs.Layout.{Item, raises, lowers}
 use Rattle.graphql_text.specs.Levels.{Fits}
+use Rattle.graphql_text.specs.PendingStack.{EntryGoesOn, OpensAbove, need_above, pending_items, pending_need}
 use Rattle.graphql_text.specs.Stack.{IsReady, stack_entries, stack_room}
 use Rattle.graphql_text.specs.Writing.{WritesBeginning, WritesItems}
 use Rattle.graphql_values.specs.Stacks.{AreKept}
@@ -20,17 +21,15 @@ entry_nesting entry = selection_set_nesting (selection_trees entry.rest.now)
 
 -- what is left of all that are open, the last one first
 abbrev pub stack_items : List SelectionEntry → List Item
-stack_items [] = []
-stack_items (entry ∷ entries) = stack_items entries ++ entry_items entry
+stack_items = pending_items entry_items
 
 -- how deep the groups in them stand, and so how many entries the stack may come to hold, these among them
 abbrev pub stack_need : List SelectionEntry → ℕ
-stack_need [] = 0
-stack_need (entry ∷ entries) = max (max 1 (entry_nesting entry)) (stack_need entries + 1)
+stack_need = pending_need entry_nesting
 
 -- the same while something that nests so deep is written above them
 abbrev pub need_with : ℕ → List SelectionEntry → ℕ
-need_with nesting entries = max (length entries + nesting) (stack_need entries)
+need_with = need_above entry_nesting
 
 -- by how much the beginning of a set, and of a selection, raises the level
 abbrev pub set_level : SelectionTrees → ℕ
@@ -65,11 +64,8 @@ pub record CanOpen (level : ℕ) (stacks : ExecutableStacks) (nesting : ℕ) : T
   pub room : HaveRoom stacks nesting (need_with nesting (stack_entries stacks.selections))
 
 -- It was begun, and so written up to what is within it, which waits now too. It raises the level by so much, and nests so deep.
-pub record Opens {O : Type 0} (wrote : O → List ℕ → O → Type 0) (a b : O) (mode : Option (List ℕ)) (level after : ℕ) (shape : List Item) (opened nesting : ℕ) (entries left : List SelectionEntry) : Type 0 where
-  pub written : WritesBeginning wrote a b mode level (shape ++ stack_items entries) after (stack_items left)
-  pub levels : after ≡ level + opened
-  pub count : length left ≡ length entries + opened
-  pub need : stack_need left ≤ need_with nesting entries
+abbrev pub Opens : {O : Type 0} → (O → List ℕ → O → Type 0) → O → O → Option (List ℕ) → ℕ → ℕ → List Item → ℕ → ℕ → List SelectionEntry → List SelectionEntry → Type 0
+Opens wrote = OpensAbove entry_items entry_nesting wrote
 
 -- The same of a selection.
 abbrev pub OpensSelection : {O : Type 0} → (O → List ℕ → O → Type 0) → O → O → Option (List ℕ) → ℕ → ℕ → SelectionTree → List SelectionEntry → List SelectionEntry → Type 0
@@ -81,12 +77,9 @@ pub record CanGoOn (level : ℕ) (stacks : ExecutableStacks) (entry : SelectionE
   pub fits : level + entry_nesting entry ≤ 2 ^ 64
   pub inside : 0 < level
 
--- Of an entry and those that wait, a beginning was written, from one level to another. Other entries wait then, and less is left to write.
-pub record GoesOn {O : Type 0} (wrote : O → List ℕ → O → Type 0) (a b : O) (mode : Option (List ℕ)) (level after : ℕ) (entry : SelectionEntry) (entries left : List SelectionEntry) : Type 0 where
-  pub written : WritesBeginning wrote a b mode level (entry_items entry ++ stack_items entries) after (stack_items left)
-  pub levels : after + length entries + 1 ≡ level + length left
-  pub need : stack_need left ≤ stack_need (entries ++ entry ∷ [])
-  pub less : length (stack_items left) < length (entry_items entry) + length (stack_items entries)
+-- Of an entry and those that wait, a beginning was written, from one level to another.
+abbrev pub GoesOn : {O : Type 0} → (O → List ℕ → O → Type 0) → O → O → Option (List ℕ) → ℕ → ℕ → SelectionEntry → List SelectionEntry → List SelectionEntry → Type 0
+GoesOn wrote = EntryGoesOn entry_items entry_nesting wrote
 
 -- All that waits may be written from a level on.
 pub record CanFinish (level : ℕ) (stacks : ExecutableStacks) : Type 0 where

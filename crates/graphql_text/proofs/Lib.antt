@@ -57,4 +57,5 @@ pub mod TwoSpaces
 pub mod Utf8
 pub mod FlatGroups
 pub mod StackLaws
+pub mod PendingLaws
 pub mod Slices

@@ -33,6 +33,7 @@ pub mod Stream
 pub mod Buffer
 pub mod Targets
 pub mod Stack
+pub mod PendingStack
 pub mod Comparisons
 pub mod lemmas
 pub mod Examples

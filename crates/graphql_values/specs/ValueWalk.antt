@@ -1,9 +1,9 @@
 -- What is still to be written of a value: the entries of its stack, the last one first.
-use Rattle.std.specs.Prelude.{ℕ, ◌≡◌, ◌+◌, ◌^◌, ◌<◌, ◌≤◌, max, Bool, List, [], ◌∷◌, ◌++◌, length, Option}
+use Rattle.std.specs.Prelude.{ℕ, ◌+◌, ◌^◌, ◌<◌, ◌≤◌, Bool, List, [], ◌∷◌, ◌++◌, Option}
 use Rattle.graphql_text.specs.Tokens.{lbracket, rbracket, lbrace, rbrace, Punctuation}
 use Rattle.graphql_text.specs.Layout.{Item, Word, Raise, is_broken}
 use Rattle.graphql_text.specs.Groups.{comma_rest}
-use Rattle.graphql_text.specs.Writing.{WritesBeginning}
+use Rattle.graphql_text.specs.PendingStack.{EntryGoesOn, OpensAbove, need_above, pending_items, pending_need}
 use Rattle.graphql_values.specs.Values.{ValueTree, more_values, more_fields, list_value, object_value, value_shape, values_shapes, object_fields_shapes, value_nesting, values_nesting, object_fields_nesting}
 use Rattle.graphql_values.specs.ValueTrees.{value_trees, object_field_trees}
 use Rattle.graphql_values.specs.declared.value.print.ValueEntry.{ValueEntry}
@@ -35,18 +35,23 @@ abbrev pub entry_nesting : ValueEntry → ℕ
 entry_nesting (Items rest is_first) = values_nesting (value_trees rest.now)
 entry_nesting (Fields rest is_first) = object_fields_nesting (object_field_trees rest.now)
 
+-- what is left of all that are open, the last one first
 abbrev pub stack_items : Bool → List ValueEntry → List Item
-stack_items broken [] = []
-stack_items broken (entry ∷ entries) = stack_items broken entries ++ entry_items broken entry
+stack_items broken = pending_items (entry_items broken)
 
 -- how many entries the stack may come to hold, these among them
 abbrev pub stack_need : List ValueEntry → ℕ
-stack_need [] = 0
-stack_need (entry ∷ entries) = max (max 1 (entry_nesting entry)) (stack_need entries + 1)
+stack_need = pending_need entry_nesting
 
 -- how many there may come to be while a value is written above them
 abbrev pub need_with : ValueTree → List ValueEntry → ℕ
-need_with value entries = max (length entries + value_nesting value) (stack_need entries)
+need_with value = need_above entry_nesting (value_nesting value)
+
+-- A value was begun, and so written up to what is in it, which waits now too.
+abbrev pub OpensValue : {O : Type 0} → (O → List ℕ → O → Type 0) → O → O → Option (List ℕ) → ℕ → ℕ → ValueTree → List ValueEntry → List ValueEntry → Type 0
+OpensValue wrote a b mode level after value =
+    let broken = is_broken mode in
+    OpensAbove (entry_items broken) entry_nesting wrote a b mode level after (value_shape broken value) (opened_level value) (value_nesting value)
 
 -- The next entry may be written from a place on: there is room for what will wait, the levels can be counted, and the entry is open.
 pub record CanGoOn (level capacity : ℕ) (entries : List ValueEntry) (entry : ValueEntry) : Type 0 where
@@ -54,9 +59,6 @@ pub record CanGoOn (level capacity : ℕ) (entries : List ValueEntry) (entry : V
   pub fits : level + entry_nesting entry ≤ 2 ^ 64
   pub inside : 0 < level
 
--- Of an entry and those that wait, a beginning was written, from one level to another. Other entries wait then, and less is left to write.
-pub record GoesOn {O : Type 0} (wrote : O → List ℕ → O → Type 0) (a b : O) (mode : Option (List ℕ)) (level after : ℕ) (entry : ValueEntry) (entries left : List ValueEntry) : Type 0 where
-  pub written : WritesBeginning wrote a b mode level (entry_items (is_broken mode) entry ++ stack_items (is_broken mode) entries) after (stack_items (is_broken mode) left)
-  pub levels : after + length entries + 1 ≡ level + length left
-  pub need : stack_need left ≤ stack_need (entries ++ entry ∷ [])
-  pub less : length (stack_items (is_broken mode) left) < length (entry_items (is_broken mode) entry) + length (stack_items (is_broken mode) entries)
+-- Of an entry and those that wait, a beginning was written, from one level to another.
+abbrev pub GoesOn : {O : Type 0} → (O → List ℕ → O → Type 0) → O → O → Option (List ℕ) → ℕ → ℕ → ValueEntry → List ValueEntry → List ValueEntry → Type 0
+GoesOn wrote a b mode = EntryGoesOn (entry_items (is_broken mode)) entry_nesting wrote a b mode

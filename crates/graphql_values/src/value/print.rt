@@ -5,10 +5,10 @@ ghost use Rattle.graphql_text.specs.Levels.{Fits, IsCount};
 ghost use Rattle.graphql_text.specs.Place.{breaks, mode_of};
 ghost use Rattle.graphql_text.specs.Printing.{IsDefaultPrint, default_bytes};
 ghost use Rattle.graphql_text.specs.Stack.{CanWrite, IsKept, stack_entries, stack_room};
-ghost use Rattle.graphql_text.specs.Writing.{IsCommaLead, Writes, WritesBeginning, WritesToLevel, fixed_text};
+ghost use Rattle.graphql_text.specs.Writing.{IsCommaLead, Writes, WritesToLevel, fixed_text};
 ghost use Rattle.graphql_values.specs.Values.{boolean_value, is_enum_name, object_fields_nesting, object_fields_obey, value_kind, value_nesting, value_obeys, value_shape, values_nesting, values_obey};
 ghost use Rattle.graphql_values.specs.ValueTrees.{constness_of, object_field_trees, value_tree, value_trees};
-ghost use Rattle.graphql_values.specs.ValueWalk.{CanGoOn, GoesOn, need_with, opened_level, opening, opening_word, stack_items, stack_need};
+ghost use Rattle.graphql_values.specs.ValueWalk.{CanGoOn, GoesOn, OpensValue, need_with, opened_level, opening, opening_word, stack_items, stack_need};
 ghost use Rattle.graphql_values.specs.lemmas.Values.{value_laws};
 
 use crate::constness::Constness;
@@ -187,7 +187,7 @@ fn boolean_word(boolean: bool) -> &'static str
 
 /// Puts on the stack what is in a value: the items or fields of a list or an object that has some.
 #[inline(always)]
-#[tactic(auto, using(crate::proofs::ValueShapes::nesting_some, crate::proofs::ValueShapes::fields_some, crate::proofs::ValueShapes::value_nesting_list, crate::proofs::ValueShapes::value_nesting_object, crate::proofs::ValueShapes::list_opened, crate::proofs::ValueShapes::object_opened, crate::proofs::ValueStack::stack_items_push, crate::proofs::ValueStack::stack_need_push, std::proofs::lemmas::Grind::common_steps))]
+#[tactic(auto, using(crate::proofs::ValueShapes::nesting_some, crate::proofs::ValueShapes::fields_some, crate::proofs::ValueShapes::value_nesting_list, crate::proofs::ValueShapes::value_nesting_object, crate::proofs::ValueShapes::list_opened, crate::proofs::ValueShapes::object_opened, graphql_text::proofs::PendingLaws::pending_items_push, graphql_text::proofs::PendingLaws::pending_need_push, std::proofs::lemmas::Grind::common_steps))]
 fn put_inner<'a>(stack: &mut Stack<ValueEntry<'a>>, value: &'a Value)
     requires room { need_with (value_tree value.now) (stack_entries stack.old) ≤ stack_room stack.old }
     ensures room { stack_room stack.old ≤ stack_room stack.new }
@@ -231,15 +231,9 @@ fn write_opening<'a, O: Target>(
     requires fits { Fits here.old.level (opened_level (value_tree value.now)) }
     requires room { need_with (value_tree value.now) (stack_entries stack.old) ≤ stack_room stack.old }
     ensures prefix { here.new.prefix ≡ here.old.prefix }
-    ensures level { here.new.level ≡ here.old.level + opened_level (value_tree value.now) }
     ensures room { stack_room stack.old ≤ stack_room stack.new }
-    ensures need { stack_need (stack_entries stack.new) ≤ need_with (value_tree value.now) (stack_entries stack.old) }
-    ensures count { length (stack_entries stack.new) ≡
-        length (stack_entries stack.old) + opened_level (value_tree value.now) }
-    ensures written { WritesBeginning O.wrote out.old out.new (mode_of here.old.prefix) here.old.level
-        (value_shape (breaks here.old) (value_tree value.now)
-        ++ stack_items (breaks here.old) (stack_entries stack.old))
-        here.new.level (stack_items (breaks here.old) (stack_entries stack.new)) }
+    ensures opened { OpensValue O.wrote out.old out.new (mode_of here.old.prefix) here.old.level here.new.level
+        (value_tree value.now) (stack_entries stack.old) (stack_entries stack.new) }
 {
     match opening_bracket(value) {
         Some(bracket) => {

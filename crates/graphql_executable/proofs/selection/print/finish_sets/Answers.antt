@@ -1,10 +1,11 @@
 use Rattle.std.proofs.Common.{[], ◌∷◌, ◌∙◌, ap, arith, le_refl, length, length-append, refl}
 use Rattle.graphql_text.specs.Stack.{stack_entries}
+use Rattle.graphql_text.proofs.PendingLaws.{pending_items_push, pending_need_push}
 use Rattle.graphql_text.proofs.StackLaws.{kept_unused}
 use Rattle.graphql_text.proofs.WritingLaws.{beginning_none, beginning_stopped, beginning_then}
 use Rattle.graphql_values.proofs.StacksKept.{stacks_twice}
-use Rattle.graphql_executable.specs.SelectionWalk.{stack_items, stack_need}
-use Rattle.graphql_executable.proofs.SelectionStack.{finished, stack_items_push, stack_need_push}
+use Rattle.graphql_executable.specs.SelectionWalk.{entry_items, entry_nesting, stack_items, stack_need}
+use Rattle.graphql_executable.proofs.SelectionStack.{finished}
 use Rattle.graphql_executable.proofs.selection.print.finish_sets.Goals as goal
 
 pub loop-entry-init : goal.loop-entry-init
@@ -21,7 +22,7 @@ write_entry-requires g c =
     let i = c.loop-entry.invariant in
     let entries = stack_entries c.pop.new.self in
     let need = ap stack_need c.in-Some.ensures.entries in
-    let pushed = stack_need_push entries c.in-Some.entry in
+    let pushed = pending_need_push entry_nesting entries c.in-Some.entry in
     let count = ap length c.in-Some.ensures.entries ∙ length-append entries (c.in-Some.entry ∷ []) in
     let room = c.requires.room in
     record {
@@ -41,7 +42,7 @@ loop-entry-preserved g c =
     let goes = rw i.prefix at c.write_entry.ensures.written in
     let need = ap stack_need c.in-Some.ensures.entries in
     let count = ap length c.in-Some.ensures.entries ∙ length-append entries (c.in-Some.entry ∷ []) in
-    let parted = ap stack_items c.in-Some.ensures.entries ∙ stack_items_push entries c.in-Some.entry in
+    let parted = ap stack_items c.in-Some.ensures.entries ∙ pending_items_push entry_items entries c.in-Some.entry in
     let kept = c.write_entry.ensures.kept in
     record {
       prefix = c.write_entry.ensures.prefix ∙ i.prefix;
@@ -55,7 +56,7 @@ pub loop-entry-smaller : goal.loop-entry-smaller
 loop-entry-smaller g c =
     let i = c.loop-entry.invariant in
     let goes = rw i.prefix at c.write_entry.ensures.written in
-    let parted = ap stack_items c.in-Some.ensures.entries ∙ stack_items_push (stack_entries c.pop.new.self) c.in-Some.entry in
+    let parted = ap stack_items c.in-Some.ensures.entries ∙ pending_items_push entry_items (stack_entries c.pop.new.self) c.in-Some.entry in
     omega (arith, goes.less, simp length-append at (ap length parted))
 
 pub returns-then-is_stopped-clause-finished : goal.returns-then-is_stopped-clause-finished

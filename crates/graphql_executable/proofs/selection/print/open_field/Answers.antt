@@ -1,9 +1,9 @@
 use Rattle.std.proofs.Common.{arith}
+use Rattle.graphql_text.proofs.PendingLaws.{opens_after}
 use Rattle.graphql_executable.specs.ExecutableTrees.{field_tree}
 use Rattle.graphql_executable.specs.Fields.{selection_of_field}
 use Rattle.graphql_executable.specs.Selections.{selection_nesting, selection_set_nesting, selection_shape}
 use Rattle.graphql_executable.proofs.SelectionShapes.{field_selections_are}
-use Rattle.graphql_executable.proofs.SelectionStack.{opens_after}
 use Rattle.graphql_executable.proofs.selection.print.open_field.Goals as goal
 
 pub returns-clause-opened : goal.returns-clause-opened

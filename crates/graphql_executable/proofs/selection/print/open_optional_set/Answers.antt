@@ -2,9 +2,10 @@ use Rattle.std.proofs.Common.{◌≢◌, [], ◌∷◌, ◌∙◌, arith, length
 use Rattle.std.proofs.lemmas.Bool.{eq-eqb, eqb-true, false≢true}
 use Rattle.graphql_text.specs.Layout.{Space}
 use Rattle.graphql_text.specs.Stack.{stack_entries}
+use Rattle.graphql_text.proofs.PendingLaws.{opens_after, opens_leaf}
 use Rattle.graphql_text.proofs.WritingLaws.{writes_nothing}
 use Rattle.graphql_executable.specs.Selections.{selection_shape}
-use Rattle.graphql_executable.proofs.SelectionStack.{empty_set, opens_after, opens_leaf, set_is_there}
+use Rattle.graphql_executable.proofs.SelectionStack.{empty_set, set_is_there}
 use Rattle.graphql_executable.proofs.selection.print.open_optional_set.Goals as goal
 
 pub returns-then-is_empty-clause-opened : goal.returns-then-is_empty-clause-opened

@@ -1,9 +1,9 @@
 use Rattle.graphql_executable.specs.ExecutableTrees.{fragment_spread_tree}
 use Rattle.graphql_executable.specs.FragmentSpreads.{fragment_spread_nesting}
 use Rattle.graphql_text.specs.Stack.{stack_entries}
+use Rattle.graphql_text.proofs.PendingLaws.{opens_leaf}
 use Rattle.graphql_executable.specs.Selections.{selection_shape}
 use Rattle.graphql_executable.proofs.SelectionShapes.{selection_is_spread}
-use Rattle.graphql_executable.proofs.SelectionStack.{opens_leaf}
 use Rattle.graphql_executable.proofs.selection.print.open_selection.Goals as goal
 
 pub returns-in-FragmentSpread-clause-opened : goal.returns-in-FragmentSpread-clause-opened

@@ -3,8 +3,9 @@ use Rattle.std.proofs.lemmas.Bool.{eq-eqb, eqb-true, false≢true}
 use Rattle.graphql_text.specs.Layout.{Word}
 use Rattle.graphql_text.specs.Stack.{stack_entries}
 use Rattle.graphql_text.specs.Tokens.{lbrace, rbrace, Punctuation}
+use Rattle.graphql_text.proofs.PendingLaws.{opens_leaf}
 use Rattle.graphql_executable.specs.Selections.{selection_shape}
-use Rattle.graphql_executable.proofs.SelectionStack.{empty_set, opens_leaf, opens_set, set_nests}
+use Rattle.graphql_executable.proofs.SelectionStack.{empty_set, opens_set, set_nests}
 use Rattle.graphql_executable.proofs.selection.print.open_set.Goals as goal
 
 pub returns-then-is_empty-clause-opened : goal.returns-then-is_empty-clause-opened

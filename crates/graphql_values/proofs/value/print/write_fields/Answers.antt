@@ -5,11 +5,12 @@ use Rattle.graphql_text.specs.Layout.{Space, Word, is_broken}
 use Rattle.graphql_text.specs.Place.{mode_of}
 use Rattle.graphql_text.specs.Stack.{stack_entries}
 use Rattle.graphql_text.specs.Tokens.{colon, rbrace, Punctuation, Name}
+use Rattle.graphql_text.proofs.PendingLaws.{goes_on_after}
 use Rattle.graphql_text.proofs.WritingLaws.{beginning_none, beginning_next, writes_levels, writes_then}
 use Rattle.graphql_values.specs.Values.{object_fields_nesting, object_fields_shapes}
 use Rattle.graphql_values.specs.ValueTrees.{object_field_trees}
 use Rattle.graphql_values.specs.declared.value.print.ValueEntry.TheVariants.{Fields}
-use Rattle.graphql_values.proofs.ValueStack.{can_go_on_less, goes_on_after}
+use Rattle.graphql_values.proofs.ValueStack.{can_go_on_less}
 use Rattle.graphql_values.proofs.value.print.write_fields.Goals as goal
 
 pub loop-field-init : goal.loop-field-init
@@ -35,5 +36,5 @@ write_next_field-requires-clause-goes_on g c =
 
 pub returns-clause-written : goal.returns-clause-written
 returns-clause-written g c =
-    goes_on_after g.met.O.Target.more (Fields c.args.fields c.args.is_first) (Fields c.loop-field.rest c.loop-field.first) (stack_entries c.args.stack.now) (stack_entries c.write_next_field.new.stack) c.loop-field.invariant.nesting c.loop-field.invariant.written
+    goes_on_after g.met.O.Target.nothing g.met.O.Target.more (Fields c.args.fields c.args.is_first) (Fields c.loop-field.rest c.loop-field.first) (stack_entries c.args.stack.now) (stack_entries c.write_next_field.new.stack) c.loop-field.invariant.nesting c.loop-field.invariant.written
     c.write_next_field.ensures.written

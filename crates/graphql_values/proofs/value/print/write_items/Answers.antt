@@ -4,11 +4,12 @@ use Rattle.graphql_text.specs.Layout.{is_broken}
 use Rattle.graphql_text.specs.Place.{mode_of}
 use Rattle.graphql_text.specs.Stack.{stack_entries}
 use Rattle.graphql_text.specs.Tokens.{rbracket}
+use Rattle.graphql_text.proofs.PendingLaws.{goes_on_after}
 use Rattle.graphql_text.proofs.WritingLaws.{beginning_none, beginning_next, writes_levels}
 use Rattle.graphql_values.specs.Values.{values_nesting, values_shapes}
 use Rattle.graphql_values.specs.ValueTrees.{value_trees}
 use Rattle.graphql_values.specs.declared.value.print.ValueEntry.TheVariants.{Items}
-use Rattle.graphql_values.proofs.ValueStack.{can_go_on_less, goes_on_after}
+use Rattle.graphql_values.proofs.ValueStack.{can_go_on_less}
 use Rattle.graphql_values.proofs.value.print.write_items.Goals as goal
 
 pub loop-item-init : goal.loop-item-init
@@ -33,5 +34,5 @@ write_next_item-requires-clause-goes_on g c =
 
 pub returns-clause-written : goal.returns-clause-written
 returns-clause-written g c =
-    goes_on_after g.met.O.Target.more (Items c.args.items c.args.is_first) (Items c.loop-item.rest c.loop-item.first) (stack_entries c.args.stack.now) (stack_entries c.write_next_item.new.stack) c.loop-item.invariant.nesting c.loop-item.invariant.written
+    goes_on_after g.met.O.Target.nothing g.met.O.Target.more (Items c.args.items c.args.is_first) (Items c.loop-item.rest c.loop-item.first) (stack_entries c.args.stack.now) (stack_entries c.write_next_item.new.stack) c.loop-item.invariant.nesting c.loop-item.invariant.written
     c.write_next_item.ensures.written

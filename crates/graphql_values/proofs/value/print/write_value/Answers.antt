@@ -2,12 +2,12 @@ use Rattle.std.proofs.Common.{[], ◌∷◌, ◌++◌, ◌∙◌, append-nil, ar
 use Rattle.graphql_text.specs.Layout.{is_broken}
 use Rattle.graphql_text.specs.Place.{mode_of}
 use Rattle.graphql_text.specs.Stack.{stack_entries}
+use Rattle.graphql_text.proofs.PendingLaws.{pending_items_push, pending_need_push}
 use Rattle.graphql_text.proofs.WritingLaws.{beginning_none, beginning_stopped, beginning_then}
 use Rattle.graphql_values.specs.Values.{value_shape}
 use Rattle.graphql_values.specs.ValueTrees.{value_tree}
-use Rattle.graphql_values.specs.ValueWalk.{stack_items, stack_need}
+use Rattle.graphql_values.specs.ValueWalk.{entry_items, entry_nesting, stack_items, stack_need}
 use Rattle.graphql_values.proofs.ValueShapes.{value_balanced}
-use Rattle.graphql_values.proofs.ValueStack.{stack_items_push, stack_need_push}
 use Rattle.graphql_values.proofs.value.print.write_value.Goals as goal
 
 pub loop-entry-init : goal.loop-entry-init
@@ -15,20 +15,21 @@ loop-entry-init g c =
     let b = is_broken (mode_of c.args.place.now.prefix) in
     let empty = c.requires.ready.entries in
     let shape = value_shape b (value_tree c.args.value.now) in
+    let opened = c.write_opening.ensures.opened in
     let alone = sym (append-nil shape) ∙ ap (λ entries. shape ++ stack_items b entries) (sym empty) in
     record {
       prefix = c.write_opening.ensures.prefix;
-      level = omega (arith, c.write_opening.ensures.level, c.write_opening.ensures.count, ap length empty);
-      need = omega (arith, c.write_opening.ensures.need, ap length empty, ap stack_need empty);
+      level = omega (arith, opened.levels, opened.count, ap length empty);
+      need = omega (arith, opened.need, ap length empty, ap stack_need empty);
       room = c.write_opening.ensures.room;
-      written = beginning_then g.met.O.Target.more (beginning_none g.met.O.Target.nothing) alone c.write_opening.ensures.written;
+      written = beginning_then g.met.O.Target.more (beginning_none g.met.O.Target.nothing) alone opened.written;
     }
 
 pub write_entry-requires : goal.write_entry-requires
 write_entry-requires g c =
     let i = c.loop-entry.invariant in
     let need = ap stack_need c.in-Some.ensures.entries in
-    let pushed = stack_need_push (stack_entries c.pop.new.self) c.in-Some.entry in
+    let pushed = pending_need_push entry_nesting (stack_entries c.pop.new.self) c.in-Some.entry in
     let count = ap length c.in-Some.ensures.entries ∙ length-append (stack_entries c.pop.new.self) (c.in-Some.entry ∷ []) in
     record {
       room = omega (arith, need, i.need, i.room, c.in-Some.ensures.room, c.requires.ready.room);
@@ -43,7 +44,7 @@ loop-entry-preserved g c =
     let goes = rw i.prefix at c.write_entry.ensures.written in
     let need = ap stack_need c.in-Some.ensures.entries in
     let count = ap length c.in-Some.ensures.entries ∙ length-append (stack_entries c.pop.new.self) (c.in-Some.entry ∷ []) in
-    let parted = ap (stack_items b) c.in-Some.ensures.entries ∙ stack_items_push b (stack_entries c.pop.new.self) c.in-Some.entry in
+    let parted = ap (stack_items b) c.in-Some.ensures.entries ∙ pending_items_push (entry_items b) (stack_entries c.pop.new.self) c.in-Some.entry in
     record {
       prefix = c.write_entry.ensures.prefix ∙ i.prefix;
       level = omega (arith, count, goes.levels, i.level);
@@ -57,7 +58,7 @@ loop-entry-smaller g c =
     let b = is_broken (mode_of c.args.place.now.prefix) in
     let i = c.loop-entry.invariant in
     let goes = rw i.prefix at c.write_entry.ensures.written in
-    let parted = ap (stack_items b) c.in-Some.ensures.entries ∙ stack_items_push b (stack_entries c.pop.new.self) c.in-Some.entry in
+    let parted = ap (stack_items b) c.in-Some.ensures.entries ∙ pending_items_push (entry_items b) (stack_entries c.pop.new.self) c.in-Some.entry in
     omega (arith, goes.less, simp length-append at (ap length parted))
 
 pub returns-then-is_stopped-clause-written : goal.returns-then-is_stopped-clause-written

@@ -4,5 +4,4 @@ pub mod SelectionEquality
 pub mod SelectionShapes
 pub mod SelectionStack
 pub mod StacksKept
-pub mod VariableShapes
 pub mod OperationShapes

@@ -1,13 +1,13 @@
 -- Variable definitions: VariableDefinition and VariableDefinitions, section 2.10; they may have a description.
-use Rattle.std.specs.Prelude.{ℕ, max, List, [], ◌∷◌, ◌++◌, map, Bool, false, ◌&&◌, Option, is_some}
+use Rattle.std.specs.Prelude.{ℕ, max, List, [], ◌∷◌, ◌++◌, Bool, false, ◌&&◌, Option, is_some}
 use Rattle.std.specs.List.{list_all}
 use Rattle.graphql_text.specs.Literals.{NameText}
-use Rattle.graphql_text.specs.Tokens.{dollar, lparen, rparen, colon, Punctuation, Name}
+use Rattle.graphql_text.specs.Tokens.{dollar, colon, Punctuation, Name}
 use Rattle.graphql_text.specs.Descriptions.{described}
 use Rattle.graphql_text.specs.Forms.{Form, token, ◌⨟◌, name_except}
 use Rattle.graphql_text.specs.Greatest.{greatest}
 use Rattle.graphql_text.specs.Kinds.{Kind}
-use Rattle.graphql_text.specs.Layout.{Item, Word, Space, comma_group}
+use Rattle.graphql_text.specs.Layout.{Item, Word, Space}
 use Rattle.graphql_text.specs.Parentheses.{parentheses_form, parentheses_shape, parentheses_nesting}
 use Rattle.graphql_values.specs.DefaultValues.{default_value_form, default_value_shape, default_value_nesting, default_value_obeys}
 use Rattle.graphql_values.specs.Directives.{DirectiveTree, directives_form, directives_shape, directives_nesting, directives_obey}
@@ -62,10 +62,6 @@ variable_definitions_form = parentheses_form variable_definition_kind.form
 -- a variable with a description wants a line of its own; a directive alone doesn't ask for one
 abbrev pub wants_lines : variable_definition_kind.Tree → Bool
 wants_lines variable = is_some variable.description
-
--- the variables in parentheses, of which there is one at least
-abbrev pub variable_group : Bool → List variable_definition_kind.Tree → List Item
-variable_group broken variables = comma_group lparen rparen broken (map (variable_definition_kind.shape broken false) variables)
 
 -- The layout of variable definitions. They stand on one line in every layout, unless one of them wants a line of its own; then they have the
 -- mode around them.

@@ -17,5 +17,4 @@ mod optional_parts;
 pub mod selection;
 mod stacks;
 pub mod variable_definition;
-mod variable_definitions;
 pub mod writers;

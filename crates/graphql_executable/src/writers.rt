@@ -13,9 +13,6 @@ pub use crate::selection::print::{
 };
 pub use crate::stacks::{ExecutableStacks, SelectionEntry};
 pub use crate::variable_definition::print::{
-    find_variable_definition_nesting, is_variable_definition_well_formed, write_variable_definition,
-};
-pub use crate::variable_definitions::{
-    are_variable_definitions_well_formed, find_variable_definitions_nesting,
-    find_variables_list_depth, write_variable_definitions,
+    find_variable_definition_nesting, find_variables_list_depth,
+    is_variable_definition_well_formed, write_variable_definition,
 };

@@ -1,8 +1,8 @@
 //! The fields of input object types, which are definitions of input values.
-ghost use Rattle.graphql_type_system.specs.lemmas.Balance.{input_value_definition_balanced};
 ghost use Rattle.graphql_values.specs.DefinitionTrees.{input_value_definition_tree};
 ghost use Rattle.graphql_values.specs.InputValueDefinitions.{input_value_definition_kind};
 ghost use Rattle.graphql_values.specs.TypeReferences.{list_depth};
+ghost use Rattle.graphql_values.specs.lemmas.InputValueDefinitions.{input_value_definition_balanced};
 
 use crate::member::Member;
 use graphql_text::writers::{Place, Target};

@@ -2,6 +2,7 @@
 use Rattle.std.proofs.Common.{◌≡◌, List, false, map, refl}
 use Rattle.graphql_text.specs.Layout.{comma_group, lowers, raises}
 use Rattle.graphql_text.specs.Tokens.{lparen, rparen}
+use Rattle.graphql_text.proofs.Parts.{part_balanced}
 use Rattle.graphql_text.proofs.Telling.{row_of, told_balanced, told_comma_group}
 use Rattle.graphql_values.specs.Arguments.{ArgumentTree, argument_items}
 use Rattle.graphql_values.specs.Directives.{DirectiveTree, directives_shape}
@@ -13,4 +14,4 @@ pub group_balanced : (arguments : List ArgumentTree) → raises (comma_group lpa
 group_balanced arguments = let p = argument_items_part NonConst in told_balanced (told_comma_group lparen rparen false refl refl refl (row_of (p.told false) arguments))
 
 pub directives_balanced : (directives : List DirectiveTree) → raises (directives_shape directives) ≡ lowers (directives_shape directives)
-directives_balanced directives = let p = directives_part NonConst in told_balanced (p.told false directives)
+directives_balanced = part_balanced (directives_part NonConst) false

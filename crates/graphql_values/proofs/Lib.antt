@@ -1,13 +1,14 @@
 pub mod Clones
 pub mod DefinitionEquality
-pub mod DefinitionShapes
 pub mod DirectiveEquality
 pub mod DirectiveShapes
 pub mod Equality
 pub mod FirstPlaces
+pub mod LocationShapes
 pub mod Nullability
 pub mod Numerals
 pub mod Outcomes
+pub mod ParameterGroups
 pub mod Places
 pub mod Readings
 pub mod Searches

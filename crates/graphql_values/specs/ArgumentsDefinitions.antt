@@ -1,10 +1,9 @@
 -- Arguments definitions of fields and directives: ArgumentsDefinition, section 3.6.1.
-use Rattle.std.specs.Prelude.{ℕ, List, map, Bool, false, ◌||◌, is_some}
+use Rattle.std.specs.Prelude.{ℕ, List, Bool, false, ◌||◌, is_some}
 use Rattle.std.specs.List.{list_all}
-use Rattle.graphql_text.specs.Tokens.{lparen, rparen}
 use Rattle.graphql_text.specs.Forms.{Form}
 use Rattle.graphql_text.specs.Greatest.{greatest}
-use Rattle.graphql_text.specs.Layout.{Item, comma_group}
+use Rattle.graphql_text.specs.Layout.{Item}
 use Rattle.graphql_text.specs.Members.{has_some}
 use Rattle.graphql_text.specs.Parentheses.{parentheses_form, parentheses_shape, parentheses_nesting}
 use Rattle.graphql_values.specs.InputValueDefinitions.{input_value_definition_kind}
@@ -17,10 +16,6 @@ arguments_definition_form = parentheses_form input_value_definition_kind.form
 -- an argument with a description or a directive wants a line of its own
 abbrev pub wants_lines : input_value_definition_kind.Tree → Bool
 wants_lines argument = is_some argument.description || has_some argument.body.directives
-
--- the arguments in parentheses, of which there is one at least
-abbrev pub argument_group : Bool → List input_value_definition_kind.Tree → List Item
-argument_group broken arguments = comma_group lparen rparen broken (map (input_value_definition_kind.shape broken false) arguments)
 
 -- The layout of an arguments definition. It stands on one line in every layout, unless one of its arguments wants a line of its own; then it
 -- has the mode around it.

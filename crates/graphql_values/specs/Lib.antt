@@ -18,6 +18,7 @@ pub mod TypeTrees
 pub mod DirectiveTrees
 pub mod LocationTrees
 pub mod DefinitionTrees
+pub mod ParameterTrees
 -- how a number's text is kept
 pub mod Numerals
 -- what calls answer and lend

@@ -11,7 +11,6 @@
 #![tactic(auto)]
 
 pub mod argument;
-mod arguments_definition;
 mod constness;
 mod default_value;
 pub mod directive;
@@ -24,6 +23,7 @@ pub mod literal;
 mod number_syntax;
 mod numeral;
 pub mod operation_type;
+mod parameters;
 mod stacks;
 pub mod types;
 pub mod value;

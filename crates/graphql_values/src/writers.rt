@@ -3,10 +3,6 @@
 pub use crate::argument::print::{
     are_arguments_well_formed, find_arguments_nesting, write_arguments,
 };
-pub use crate::arguments_definition::{
-    find_arguments_definition_nesting, find_arguments_list_depth,
-    is_arguments_definition_well_formed, write_arguments_definition,
-};
 pub use crate::constness::Constness;
 pub use crate::default_value::{
     find_default_value_nesting, is_default_value_well_formed, write_default_value,
@@ -17,8 +13,12 @@ pub use crate::directive_list::print::{
     are_directives_well_formed, find_directives_nesting, write_directives,
 };
 pub use crate::input_value_definition::print::{
-    find_input_value_definition_nesting, is_input_value_definition_well_formed,
-    write_input_value_definition,
+    find_arguments_list_depth, find_input_value_definition_nesting,
+    is_input_value_definition_well_formed, write_input_value_definition,
+};
+pub use crate::parameters::{
+    Parameter, are_parameters_well_formed, find_parameters_list_depth, find_parameters_nesting,
+    write_parameters,
 };
 pub use crate::stacks::Stacks;
 pub use crate::types::print::{TypeEntry, find_list_depth, type_allocator, write_type};

@@ -1,10 +1,11 @@
 -- Lemmas, no definitions of the product: variable definitions as parts, and their laws.
-use Rattle.std.proofs.Common.{refl, [], ◌∷◌, true, false}
+use Rattle.std.proofs.Common.{◌≡◌, Bool, true, false, [], ◌∷◌, refl}
 use Rattle.graphql_text.specs.Tokens.{dollar, colon, lparen}
 use Rattle.graphql_text.specs.Forms.{a_punctuator, a_string_value}
+use Rattle.graphql_text.specs.Layout.{lowers, raises}
 use Rattle.graphql_text.specs.Reading.{Laws}
 use Rattle.graphql_text.proofs.KindParts.{described_part, part_laws}
-use Rattle.graphql_text.proofs.Parts.{Part, KindPart, name_then, mark_then, space_then, part_then, plain_then, retold}
+use Rattle.graphql_text.proofs.Parts.{Part, KindPart, name_then, mark_then, space_then, part_then, part_balanced, plain_then, retold}
 use Rattle.graphql_text.proofs.RowParts.{parentheses_part}
 use Rattle.graphql_values.specs.Values.{Const}
 use Rattle.graphql_values.specs.lemmas.Directives.{directives_part}
@@ -25,6 +26,10 @@ variable_definition_part = described_part variable_definition_body variable_defi
 
 pub variable_definition_laws : Laws variable_definition_kind
 variable_definition_laws = part_laws variable_definition_part (λ broken front variable. refl)
+
+-- what is written of a variable definition raises the level as often as it lowers it
+pub variable_definition_balanced : (broken : Bool) (variable : variable_definition_kind.Tree) → raises (variable_definition_kind.shape broken false variable) ≡ lowers (variable_definition_kind.shape broken false variable)
+variable_definition_balanced = part_balanced variable_definition_part
 
 -- VariableDefinitions, section 2.10
 unfoldable pub variable_definitions_part : Part variable_definitions_form variable_definitions_shape variable_definitions_nesting variable_definitions_obey (a_punctuator lparen ∷ []) (a_punctuator lparen ∷ []) true [] true

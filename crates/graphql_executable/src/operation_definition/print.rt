@@ -20,17 +20,17 @@ use crate::selection::print::{
     find_selection_set_nesting, is_selection_set_well_formed, write_selection_set,
 };
 use crate::stacks::ExecutableStacks;
-use crate::variable_definitions::{
-    are_variable_definitions_well_formed, find_variable_definitions_nesting,
-    find_variables_list_depth, write_variable_definitions,
-};
+use crate::variable_definition::print::find_variables_list_depth;
 use graphql_base::name::Name;
 use graphql_text::engine::{Serialize, Syntax};
 use graphql_text::writers::{
     Place, Target, write_first_indent, write_leading_description, write_name, write_words,
 };
 use graphql_values::operation_type::OperationType;
-use graphql_values::writers::{Constness, are_directives_well_formed, find_directives_nesting};
+use graphql_values::writers::{
+    Constness, are_directives_well_formed, are_parameters_well_formed, find_directives_nesting,
+    find_parameters_nesting, write_parameters,
+};
 use std::alloc::AllocError;
 use std::fmt;
 
@@ -91,7 +91,7 @@ pub fn write_operation_definition<'a, O: Target>(
     write_leading_description(out, place, operation.description.as_ref());
     write_words(out, operation.operation_type.name());
     write_operation_name(out, operation.name.as_ref());
-    write_variable_definitions(out, place, &mut stacks.definitions, &operation.variables);
+    write_parameters(out, place, &mut stacks.definitions, &operation.variables);
     write_optional_directives(
         out,
         place,
@@ -138,7 +138,7 @@ impl OperationDefinition {
     pub fn is_well_formed(&self) -> bool
         ensures { result ≡ operation_definition_kind.obeys (operation_definition_tree self.now) }
     {
-        are_variable_definitions_well_formed(&self.variables)
+        are_parameters_well_formed(&self.variables)
             && are_directives_well_formed(&self.directives.0, Constness::NonConst)
             && is_selection_set_well_formed(&self.selection_set)
     }
@@ -156,7 +156,7 @@ impl Syntax for OperationDefinition {
     }
 
     fn find_nesting(&self) -> Option<usize> {
-        let variables = find_variable_definitions_nesting(&self.variables)?;
+        let variables = find_parameters_nesting(&self.variables)?;
         let directives = find_directives_nesting(&self.directives.0)?;
         let selections = find_selection_set_nesting(&self.selection_set)?;
         Some(variables.max(directives.max(selections)))

@@ -5,20 +5,21 @@ ghost use Rattle.graphql_text.specs.Printing.{IsDefaultPrint, default_bytes};
 ghost use Rattle.graphql_text.specs.Writing.{WritesPart};
 ghost use Rattle.graphql_values.specs.Stacks.{AreKept, CanWriteDefinition};
 ghost use Rattle.graphql_values.specs.TypeReferences.{list_depth};
-ghost use Rattle.graphql_executable.specs.ExecutableTrees.{variable_definition_tree};
-ghost use Rattle.graphql_executable.specs.VariableDefinitions.{variable_definition_kind};
-ghost use Rattle.graphql_executable.specs.lemmas.VariableDefinitions.{variable_definition_laws};
+ghost use Rattle.graphql_executable.specs.ExecutableTrees.{variable_definition_tree, variable_definition_trees};
+ghost use Rattle.graphql_executable.specs.VariableDefinitions.{variable_definition_kind, variables_list_depth, wants_lines};
+ghost use Rattle.graphql_executable.specs.lemmas.VariableDefinitions.{variable_definition_balanced, variable_definition_laws};
 
 use crate::optional_parts::write_optional_directives;
 use crate::variable_definition::VariableDefinition;
+use graphql_base::node::Node;
 use graphql_text::engine::{Serialize, Syntax};
 use graphql_text::writers::{
     Place, Target, write_first_indent, write_leading_description, write_name, write_words,
 };
 use graphql_values::writers::{
-    Constness, Stacks, are_directives_well_formed, find_default_value_nesting,
-    find_directives_nesting, find_list_depth, is_default_value_well_formed, write_default_value,
-    write_type,
+    Constness, Parameter, Stacks, are_directives_well_formed, find_default_value_nesting,
+    find_directives_nesting, find_list_depth, find_parameters_list_depth,
+    is_default_value_well_formed, write_default_value, write_type,
 };
 use std::alloc::AllocError;
 use std::fmt;
@@ -120,4 +121,48 @@ impl fmt::Display for VariableDefinition {
     fn fmt<W: fmt::Write>(&self, f: &mut fmt::Formatter<W>) -> fmt::Result {
         self.serialize().fmt(f)
     }
+}
+
+impl Parameter for VariableDefinition {
+    ghost kind = { variable_definition_kind };
+
+    ghost tree = { variable_definition_tree };
+
+    ghost list_depth = { λ variable. list_depth variable.body.type };
+
+    ghost wants_line = { wants_lines };
+
+    fn is_parameter_well_formed(variable: &VariableDefinition) -> bool {
+        is_variable_definition_well_formed(variable)
+    }
+
+    fn find_parameter_nesting(variable: &VariableDefinition) -> Option<usize> {
+        find_variable_definition_nesting(variable)
+    }
+
+    fn find_parameter_list_depth(variable: &VariableDefinition) -> Option<usize> {
+        find_list_depth(&variable.ty)
+    }
+
+    fn wants_line(variable: &VariableDefinition) -> bool {
+        variable.description.is_some()
+    }
+
+    fn write_parameter<'a, O: Target>(
+        out: &mut O,
+        place: &Place<'_>,
+        stacks: &mut Stacks<'a>,
+        variable: &'a VariableDefinition,
+    ) {
+        write_variable_definition(out, place, stacks, variable);
+    }
+
+    ghost balanced = { variable_definition_balanced };
+}
+
+/// How many lists stand around the name in the type of a variable that has most. `None` if it is above `usize::MAX`.
+pub fn find_variables_list_depth(variables: &[Node<VariableDefinition>]) -> Option<usize>
+    ensures { IsCount result (variables_list_depth (variable_definition_trees variables.now)) }
+{
+    find_parameters_list_depth(variables)
 }

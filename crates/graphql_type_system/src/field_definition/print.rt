@@ -16,9 +16,9 @@ use graphql_text::writers::{
     Place, Target, write_first_indent, write_leading_description, write_name, write_words,
 };
 use graphql_values::writers::{
-    Constness, Stacks, are_directives_well_formed, find_arguments_definition_nesting,
-    find_arguments_list_depth, find_directives_nesting, find_list_depth,
-    is_arguments_definition_well_formed, write_arguments_definition, write_directives, write_type,
+    Constness, Stacks, are_directives_well_formed, are_parameters_well_formed,
+    find_arguments_list_depth, find_directives_nesting, find_list_depth, find_parameters_nesting,
+    write_directives, write_parameters, write_type,
 };
 use std::alloc::AllocError;
 use std::fmt;
@@ -27,7 +27,7 @@ use std::fmt;
 pub fn is_field_definition_well_formed(field: &FieldDefinition) -> bool
     ensures { result ≡ field_definition_kind.obeys (field_definition_tree field.now) }
 {
-    is_arguments_definition_well_formed(&field.arguments)
+    are_parameters_well_formed(&field.arguments)
         && are_directives_well_formed(&field.directives.0, Constness::Const)
 }
 
@@ -35,7 +35,7 @@ pub fn is_field_definition_well_formed(field: &FieldDefinition) -> bool
 pub fn find_field_definition_nesting(field: &FieldDefinition) -> Option<usize>
     ensures { IsCount result (field_definition_kind.nesting (field_definition_tree field.now)) }
 {
-    let arguments = find_arguments_definition_nesting(&field.arguments)?;
+    let arguments = find_parameters_nesting(&field.arguments)?;
     Some(arguments.max(find_directives_nesting(&field.directives.0)?))
 }
 
@@ -64,7 +64,7 @@ pub fn write_field_definition<'a, O: Target>(
 {
     write_leading_description(out, place, field.description.as_ref());
     write_name(out, &field.name);
-    write_arguments_definition(out, place, stacks, &field.arguments);
+    write_parameters(out, place, stacks, &field.arguments);
     write_words(out, ": ");
     write_type(out, &mut stacks.types, &field.ty);
     write_directives(out, place, &mut stacks.values, &field.directives.0);

@@ -1,10 +1,11 @@
 -- Lemmas, no definitions of the product: default values, definitions of input values and arguments definitions as parts, and their laws.
-use Rattle.std.proofs.Common.{refl, List, [], ◌∷◌, true, false}
+use Rattle.std.proofs.Common.{◌≡◌, Bool, true, false, List, [], ◌∷◌, refl}
 use Rattle.graphql_text.specs.Tokens.{bang, colon, equals, lparen}
 use Rattle.graphql_text.specs.Forms.{TokenClass, a_punctuator, a_name, a_string_value}
+use Rattle.graphql_text.specs.Layout.{lowers, raises}
 use Rattle.graphql_text.specs.Reading.{Laws}
 use Rattle.graphql_text.proofs.KindParts.{described_part, part_laws}
-use Rattle.graphql_text.proofs.Parts.{Part, KindPart, name_then, mark_then, space_then, part_then, plain_then, optional_part, retold}
+use Rattle.graphql_text.proofs.Parts.{Part, KindPart, name_then, mark_then, space_then, part_then, part_balanced, plain_then, optional_part, retold}
 use Rattle.graphql_text.proofs.RowParts.{parentheses_part}
 use Rattle.graphql_values.specs.ArgumentsDefinitions.{arguments_definition_form, arguments_definition_shape, arguments_definition_nesting, arguments_definition_obeys, wants_lines}
 use Rattle.graphql_values.specs.DefaultValues.{default_value_form, default_value_shape, default_value_nesting, default_value_obeys}
@@ -34,6 +35,10 @@ input_value_definition_part = described_part input_value_definition_body input_v
 
 pub input_value_definition_laws : Laws input_value_definition_kind
 input_value_definition_laws = part_laws input_value_definition_part (λ broken front input. refl)
+
+-- what is written of a definition raises the level as often as it lowers it
+pub input_value_definition_balanced : (broken : Bool) (input : input_value_definition_kind.Tree) → raises (input_value_definition_kind.shape broken false input) ≡ lowers (input_value_definition_kind.shape broken false input)
+input_value_definition_balanced = part_balanced input_value_definition_part
 
 -- ArgumentsDefinition, section 3.6.1
 unfoldable pub arguments_definition_part : Part arguments_definition_form arguments_definition_shape arguments_definition_nesting arguments_definition_obeys (a_punctuator lparen ∷ []) (a_punctuator lparen ∷ []) true [] true

@@ -9,12 +9,10 @@ ghost use Rattle.graphql_values.specs.LocationTrees.{location_tree};
 ghost use Rattle.graphql_values.specs.Stacks.{AreKept, CanWriteDefinition};
 ghost use Rattle.graphql_values.specs.lemmas.DirectiveDefinitions.{directive_definition_laws};
 
-use crate::arguments_definition::{
-    find_arguments_definition_nesting, find_arguments_list_depth,
-    is_arguments_definition_well_formed, write_arguments_definition,
-};
 use crate::directive_definition::DirectiveDefinition;
 use crate::directive_location::DirectiveLocation;
+use crate::input_value_definition::print::find_arguments_list_depth;
+use crate::parameters::{are_parameters_well_formed, find_parameters_nesting, write_parameters};
 use crate::stacks::Stacks;
 use graphql_text::engine::{Serialize, Syntax};
 use graphql_text::writers::{
@@ -67,7 +65,7 @@ pub fn write_directive_definition<'a, O: Target>(
     write_leading_description(out, place, definition.description.as_ref());
     write_words(out, "directive @");
     write_name(out, &definition.name);
-    write_arguments_definition(out, place, stacks, &definition.arguments);
+    write_parameters(out, place, stacks, &definition.arguments);
     write_repeatable(out, definition.repeatable);
     write_locations(out, &definition.locations);
 }
@@ -84,7 +82,7 @@ impl DirectiveDefinition {
     pub fn is_well_formed(&self) -> bool
         ensures { result ≡ directive_definition_kind.obeys (directive_definition_tree self.now) }
     {
-        !self.locations.is_empty() && is_arguments_definition_well_formed(&self.arguments)
+        !self.locations.is_empty() && are_parameters_well_formed(&self.arguments)
     }
 }
 
@@ -100,7 +98,7 @@ impl Syntax for DirectiveDefinition {
     }
 
     fn find_nesting(&self) -> Option<usize> {
-        find_arguments_definition_nesting(&self.arguments)
+        find_parameters_nesting(&self.arguments)
     }
 
     fn write<O: Target>(

@@ -3,11 +3,12 @@ ghost use Rattle.std.specs.Prelude.{◌≡◌, Some};
 ghost use Rattle.graphql_text.specs.Levels.{IsCount};
 ghost use Rattle.graphql_text.specs.Printing.{IsDefaultPrint, default_bytes};
 ghost use Rattle.graphql_text.specs.Writing.{WritesPart};
-ghost use Rattle.graphql_values.specs.DefinitionTrees.{input_value_definition_tree};
+ghost use Rattle.graphql_values.specs.ArgumentsDefinitions.{arguments_list_depth, wants_lines};
+ghost use Rattle.graphql_values.specs.DefinitionTrees.{input_value_definition_tree, input_value_definition_trees};
 ghost use Rattle.graphql_values.specs.InputValueDefinitions.{input_value_definition_kind};
 ghost use Rattle.graphql_values.specs.Stacks.{AreKept, CanWriteDefinition};
 ghost use Rattle.graphql_values.specs.TypeReferences.{list_depth};
-ghost use Rattle.graphql_values.specs.lemmas.InputValueDefinitions.{input_value_definition_laws};
+ghost use Rattle.graphql_values.specs.lemmas.InputValueDefinitions.{input_value_definition_balanced, input_value_definition_laws};
 
 use crate::constness::Constness;
 use crate::default_value::{
@@ -17,8 +18,10 @@ use crate::directive_list::print::{
     are_directives_well_formed, find_directives_nesting, write_directives,
 };
 use crate::input_value_definition::InputValueDefinition;
+use crate::parameters::{Parameter, find_parameters_list_depth};
 use crate::stacks::Stacks;
 use crate::types::print::{find_list_depth, write_type};
+use graphql_base::node::Node;
 use graphql_text::engine::{Serialize, Syntax};
 use graphql_text::writers::{
     Place, Target, write_first_indent, write_leading_description, write_name, write_words,
@@ -117,4 +120,48 @@ impl fmt::Display for InputValueDefinition {
     fn fmt<W: fmt::Write>(&self, f: &mut fmt::Formatter<W>) -> fmt::Result {
         self.serialize().fmt(f)
     }
+}
+
+impl Parameter for InputValueDefinition {
+    ghost kind = { input_value_definition_kind };
+
+    ghost tree = { input_value_definition_tree };
+
+    ghost list_depth = { λ input. list_depth input.body.type };
+
+    ghost wants_line = { wants_lines };
+
+    fn is_parameter_well_formed(input: &InputValueDefinition) -> bool {
+        is_input_value_definition_well_formed(input)
+    }
+
+    fn find_parameter_nesting(input: &InputValueDefinition) -> Option<usize> {
+        find_input_value_definition_nesting(input)
+    }
+
+    fn find_parameter_list_depth(input: &InputValueDefinition) -> Option<usize> {
+        find_list_depth(&input.ty)
+    }
+
+    fn wants_line(input: &InputValueDefinition) -> bool {
+        input.description.is_some() || !input.directives.0.is_empty()
+    }
+
+    fn write_parameter<'a, O: Target>(
+        out: &mut O,
+        place: &Place<'_>,
+        stacks: &mut Stacks<'a>,
+        input: &'a InputValueDefinition,
+    ) {
+        write_input_value_definition(out, place, stacks, input);
+    }
+
+    ghost balanced = { input_value_definition_balanced };
+}
+
+/// How many lists stand around the name in the type of an argument that has most. `None` if it is above `usize::MAX`.
+pub fn find_arguments_list_depth(arguments: &[Node<InputValueDefinition>]) -> Option<usize>
+    ensures { IsCount result (arguments_list_depth (input_value_definition_trees arguments.now)) }
+{
+    find_parameters_list_depth(arguments)
 }

@@ -15,7 +15,7 @@ returns-clause-written g c =
     let description = rw c.as_ref.ensures.value at c.write_leading_description.ensures in
     let type = c.write_words.ensures.items _ _ (operation_type_shape tree) (operation_type_fixed tree ∙ ap Some (sym c.name.ensures)) in
     let name = rw c.as_ref-2.ensures.value at c.write_operation_name.ensures _ _ in
-    let variables = rw c.deref.ensures.value at c.write_variable_definitions.ensures.written in
+    let variables = rw c.deref.ensures.value at c.write_parameters.ensures.written in
     let directives = rw c.deref-2.ensures.value at c.write_optional_directives.ensures.written in
     let set = rw c.deref-3.ensures.value at c.write_selection_set.ensures.written in
     let spaced = writes_then more {xs = Space ∷ []} (c.write_words-2.ensures.items _ _ _ refl) set in

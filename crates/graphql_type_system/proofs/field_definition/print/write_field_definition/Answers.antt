@@ -10,7 +10,7 @@ unfolding field_definition_shape
 returns-clause-written g c =
     let more = g.met.O.Target.more in
     let description = rw c.as_ref.ensures.value at c.write_leading_description.ensures in
-    let arguments = rw c.deref.ensures.value at c.write_arguments_definition.ensures.written in
+    let arguments = rw c.deref.ensures.value at c.write_parameters.ensures.written in
     let colon_and_space = c.write_words.ensures.items _ _ (Word (Punctuation colon) ∷ Space ∷ []) refl in
     let type = c.write_type.ensures.written _ _ in
     let directives = rw c.deref-2.ensures.value at c.write_directives.ensures.written in

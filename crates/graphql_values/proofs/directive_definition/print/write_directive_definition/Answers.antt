@@ -11,6 +11,6 @@ returns-clause-written g c =
     let more = g.met.O.Target.more in
     let description = rw c.as_ref.ensures.value at c.write_leading_description.ensures in
     let name = writes_then more {xs = Word (Name (codes "directive")) ∷ Space ∷ Word (Punctuation at) ∷ []} (c.write_words.ensures.items _ _ _ refl) (c.write_name.ensures _ _) in
-    let arguments = rw c.deref.ensures.value at c.write_arguments_definition.ensures.written in
+    let arguments = rw c.deref.ensures.value at c.write_parameters.ensures.written in
     let locations = rw c.deref-2.ensures.value at c.write_locations.ensures _ _ in
     writes_then more description (writes_then more name (writes_then more arguments (writes_then more (c.write_repeatable.ensures _ _) locations)))

@@ -7,7 +7,7 @@ use Rattle.graphql_values.specs.DirectiveDefinitions.{directive_locations_shape}
 use Rattle.graphql_values.specs.DirectiveLocations.{location_name}
 use Rattle.graphql_values.specs.LocationTrees.{location_tree}
 use Rattle.graphql_values.specs.declared.directive_location.DirectiveLocation.TheVariants.{Query}
-use Rattle.graphql_values.proofs.DefinitionShapes.{further_locations, location_fixed, locations_balanced, locations_next, locations_opened}
+use Rattle.graphql_values.proofs.LocationShapes.{further_locations, location_fixed, locations_balanced, locations_next, locations_opened}
 use Rattle.graphql_values.proofs.directive_definition.print.write_locations.Goals as goal
 
 pub returns-in_default : goal.returns-in_default

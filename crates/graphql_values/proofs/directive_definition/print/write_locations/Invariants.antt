@@ -2,7 +2,7 @@ use Rattle.std.proofs.Common.{ℕ, List, Option, map, drop}
 use Rattle.graphql_text.specs.Writing.{WritesBeginning}
 use Rattle.graphql_values.specs.DirectiveDefinitions.{directive_locations_shape}
 use Rattle.graphql_values.specs.LocationTrees.{location_tree}
-use Rattle.graphql_values.proofs.DefinitionShapes.{further_locations}
+use Rattle.graphql_values.proofs.LocationShapes.{further_locations}
 use Rattle.graphql_values.proofs.directive_definition.print.write_locations.Given as goal
 
 abbrev pub invariant-loop-location : goal.invariant-loop-location

@@ -3,6 +3,8 @@ pub mod Definitions
 pub mod Documents
 -- the trees that the types of the code stand for
 pub mod AstTrees
+-- what holds of all that is printed
+pub mod ReadBack
 -- what calls answer, and the sources of a document
 pub mod DefinitionQueries
 pub mod Sources

@@ -4,29 +4,20 @@
 ghost use Rattle.std.specs.Prelude.{[], ◌∷◌, codes};
 ghost use Rattle.graphql_text.specs.Forms.{a_keyword, a_punctuator};
 ghost use Rattle.graphql_text.specs.OneReading.{IsReadOneWay};
-ghost use Rattle.graphql_text.specs.Reading.{Laws};
 ghost use Rattle.graphql_text.specs.Tokens.{amp, at, bar, equals, lparen};
 ghost use Rattle.graphql_ast.specs.Definitions.{definition_kind};
-ghost use Rattle.graphql_ast.specs.Documents.{document_kind};
 
 mod comparisons;
 mod kinds;
 mod readings;
+mod thirty_kinds;
 
 pub use crate::laws::comparisons::{clones_are_the_same, compared_by_tree, equal_trees_hash_alike};
-pub use crate::laws::kinds::{
-    displayed_trees_are_read, kind_of_each_type, printed_tokens_derive_the_tree,
-};
+pub use crate::laws::kinds::{displayed_trees_are_read, printed_tokens_derive_the_tree};
 pub use crate::laws::readings::{
     definitions_are_read, refused_definitions, refused_documents, worked_layouts, worked_readings,
 };
-
-/// What obeys the side conditions, printed under a prefix of spaces and tabs or on one line, is read as that tree and
-/// as no other; and all else that `Laws` says.
-pub fn trees_are_read_back()
-    ensures definitions { Laws definition_kind }
-    ensures documents { Laws document_kind }
-{}
+pub use crate::laws::thirty_kinds::thirty_kinds_are_read_back;
 
 /// A definition is read in one way before anything but what may go on with one of the seventeen: `implements`, `&`,
 /// `@`, `(`, `=` and `|`. Where braces are left out, the form itself says that no `{` follows.

@@ -8,11 +8,13 @@ ghost use Rattle.graphql_text.specs.Tokens.{amp, at, bar, equals, lparen};
 ghost use Rattle.graphql_ast.specs.Definitions.{definition_kind};
 
 mod comparisons;
+mod edges;
 mod kinds;
 mod readings;
 mod thirty_kinds;
 
 pub use crate::laws::comparisons::{clones_are_the_same, compared_by_tree, equal_trees_hash_alike};
+pub use crate::laws::edges::{edge_readings, edge_refusals};
 pub use crate::laws::kinds::{displayed_trees_are_read, printed_tokens_derive_the_tree};
 pub use crate::laws::readings::{
     definitions_are_read, refused_definitions, refused_documents, worked_layouts, worked_readings,

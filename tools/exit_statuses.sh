@@ -1,7 +1,8 @@
 #!/usr/bin/env bash
 # Runs the program ast_vectors on words that its tests cannot hand over, those of a command line, and compares each run's exit status,
 # standard output and standard error with what is wanted: a vector's number alone is printed, with status 0; anything else is an unknown
-# vector, with status 2; and what cannot be written ends with status 1. The program is proved and built first (`rt run`).
+# vector, with status 2; and what cannot be written, or has a level that doesn't fit, ends with status 1. The program is proved and
+# built first (`rt run`).
 #
 #   tools/exit_statuses.sh
 set -u
@@ -46,12 +47,15 @@ unknown=$'unknown vector\n'
 refused=$'the writer failed\n'
 
 check 0 $'[1, EXAMPLE, true, null]\n' '' 1
+check 0 $'type A\n\nquery {\n  a\n}\n\n' '' 9
 check 0 $'null\n' '' 15
+check 1 '' $'indentation level overflow\n' 16
 check 0 $'>[\n>>1,\n>]\n' '' 20
+check 0 $'type A "D" query { a }\n' '' 22
 
 check 2 '' "$unknown"
 check 2 '' "$unknown" ''
-for word in 0 01 21 +1 ' 1' '1 ' $'1\n' one $'\xff' $'1\xff' $'\xd9\xa1'; do
+for word in 0 01 23 +1 ' 1' '1 ' $'1\n' one $'\xff' $'1\xff' $'\xd9\xa1'; do
     check 2 '' "$unknown" "$word"
 done
 long=$(printf '1%.0s' {1..10000})

@@ -1,24 +1,21 @@
 //! The stored vectors: trees, each with the layout that it is printed in.
 ghost use Rattle.std.specs.Prelude.{◌≡◌, ◌≤◌, ◌≢◌, ◌↔◌, false, IfOk, IsErrOf, IsSome, IsTrue, OnErr, OnOk};
 ghost use Rattle.std.specs.Io.KnownBytes.{Appends};
-ghost use Rattle.graphql_text.specs.Place.{mode_of};
-ghost use Rattle.graphql_text.specs.Sinks.{CanFault};
-ghost use Rattle.ast_vectors.specs.Runs.{GrowsByLine, is_vector_number, line_of, name_a_vector, vector_line};
+ghost use Rattle.graphql_ast.specs.Sinks.{CanFault};
+ghost use Rattle.ast_vectors.specs.Runs.{GrowsByLine, is_vector_number, line_of, mode_of, name_a_vector, vector_line};
 ghost use Rattle.ast_vectors.specs.VectorTrees.{vector_tree};
 
-use graphql_base::name;
-use graphql_base::name::Name;
-use graphql_base::node::Node;
-use graphql_text::engine::{PrintError, Serialize, Syntax};
-use graphql_text::sink::{SinkFault, StreamSink, TextSink};
-use graphql_values::directive::Directive;
-use graphql_values::directive_definition::DirectiveDefinition;
-use graphql_values::directive_list::DirectiveList;
-use graphql_values::directive_location::DirectiveLocation;
-use graphql_values::input_value_definition::InputValueDefinition;
-use graphql_values::literal::FloatValue;
-use graphql_values::ty;
-use graphql_values::value::Value;
+mod documents;
+mod executable;
+mod type_system;
+mod values;
+
+use graphql_ast::ast::{
+    DirectiveDefinition, Document, FieldDefinition, ObjectTypeDefinition, OperationDefinition,
+    ScalarTypeDefinition, Value,
+};
+use graphql_ast::serialize::{PrintError, Serialize, Syntax};
+use graphql_ast::sink::{SinkFault, StreamSink, TextSink};
 use std::alloc::{AllocError, Global};
 use std::io::Write;
 use thiserror::Error;
@@ -53,147 +50,21 @@ impl VectorError {
     }
 }
 
-fn int(alloc: Global, number: i32) -> Result<Value, AllocError> {
-    Value::from_i32(alloc, number)
-}
-
-fn string(alloc: Global, text: &str) -> Result<Value, AllocError> {
-    Value::from_text(alloc, text)
-}
-
-fn push(items: &mut Vec<Node<Value>>, alloc: Global, value: Value) -> Result<(), AllocError> {
-    items.push(Node::new(alloc, value)?)?;
-    Ok(())
-}
-
-/// The list of an int, an enum value, a boolean and null.
-fn four_values(alloc: Global) -> Result<Value, AllocError> {
-    let mut items = Vec::new(alloc);
-    push(&mut items, alloc, int(alloc, 1)?)?;
-    push(&mut items, alloc, Value::Enum(name!(EXAMPLE)))?;
-    push(&mut items, alloc, Value::Boolean(true))?;
-    push(&mut items, alloc, Value::Null)?;
-    Ok(Value::List(items))
-}
-
-/// The list of one value.
-fn list_of_one(alloc: Global, value: Value) -> Result<Value, AllocError> {
-    let mut items = Vec::new(alloc);
-    push(&mut items, alloc, value)?;
-    Ok(Value::List(items))
-}
-
-/// The list of the numbers from 1 to a last one.
-fn numbers(alloc: Global, last: i32) -> Result<Value, AllocError> {
-    let mut items = Vec::new(alloc);
-    for number in 1..=last {
-        push(&mut items, alloc, int(alloc, number)?)?;
-    }
-    Ok(Value::List(items))
-}
-
-fn push_field(
-    fields: &mut Vec<(Name, Node<Value>)>,
-    alloc: Global,
-    name: Name,
-    value: Value,
-) -> Result<(), AllocError> {
-    fields.push((name, Node::new(alloc, value)?))?;
-    Ok(())
-}
-
-/// Fields of the values that hold no others and take no memory.
-fn push_small_fields(
-    fields: &mut Vec<(Name, Node<Value>)>,
-    alloc: Global,
-) -> Result<(), AllocError> {
-    push_field(fields, alloc, name!(null_field), Value::Null)?;
-    push_field(
-        fields,
-        alloc,
-        name!(enum_field),
-        Value::Enum(name!(EXAMPLE)),
-    )?;
-    push_field(fields, alloc, name!(var_field), Value::Variable(name!(var)))
-}
-
-/// Fields of a string and of numbers.
-fn push_text_fields(
-    fields: &mut Vec<(Name, Node<Value>)>,
-    alloc: Global,
-) -> Result<(), AllocError> {
-    let float = FloatValue::new_parsed(alloc, "1.5")?;
-    push_field(
-        fields,
-        alloc,
-        name!(string_field),
-        string(alloc, "example")?,
-    )?;
-    push_field(fields, alloc, name!(float_field), Value::Float(float))?;
-    push_field(fields, alloc, name!(int_field), int(alloc, 47)?)
-}
-
-/// An object with a field of each kind of value.
-fn object_of_all_kinds(alloc: Global) -> Result<Value, AllocError> {
-    let mut fields = Vec::new(alloc);
-    push_small_fields(&mut fields, alloc)?;
-    push_text_fields(&mut fields, alloc)?;
-    push_field(&mut fields, alloc, name!(list_field), numbers(alloc, 3)?)?;
-    Ok(Value::Object(fields))
-}
-
-/// An argument of type `Int`.
-fn argument(
-    alloc: Global,
-    name: Name,
-    directives: DirectiveList,
-) -> Result<Node<InputValueDefinition>, AllocError> {
-    let input = InputValueDefinition {
-        description: None,
-        name,
-        ty: Node::new(alloc, ty!(Int))?,
-        default_value: None,
-        directives,
-    };
-    Node::new(alloc, input)
-}
-
-/// `@x`.
-fn one_directive(alloc: Global) -> Result<DirectiveList, AllocError> {
-    let mut list = DirectiveList::new(alloc);
-    match list.push(Node::new(alloc, Directive::new(alloc, name!(x)))?) {
-        Ok(()) => Ok(list),
-        Err(_) => Err(AllocError),
-    }
-}
-
-/// A directive definition with two arguments, the first of which has a directive.
-fn definition_with_directive(alloc: Global) -> Result<DirectiveDefinition, AllocError> {
-    let mut arguments = Vec::new(alloc);
-    arguments.push(argument(alloc, name!(a), one_directive(alloc)?)?)?;
-    arguments.push(argument(alloc, name!(b), DirectiveList::new(alloc))?)?;
-    let mut locations = Vec::new(alloc);
-    locations.push(DirectiveLocation::Field)?;
-    Ok(DirectiveDefinition {
-        description: None,
-        name: name!(d),
-        arguments,
-        repeatable: false,
-        locations,
-    })
-}
-
 /// The tree of a vector.
 #[derive(Drop)]
 enum Tree {
     Value(Value),
     DirectiveDefinition(DirectiveDefinition),
+    ScalarType(ScalarTypeDefinition),
+    ObjectType(ObjectTypeDefinition),
+    FieldDefinition(FieldDefinition),
+    Operation(OperationDefinition),
+    Document(Document),
 }
 
-/// A tree, and the layout that it is printed in: the prefix, or none on one line, and the starting level.
-#[derive(Drop)]
-struct Vector {
-    tree: Tree,
+/// The layout that a tree is printed in: the prefix of its lines, or none on one line, and the starting level.
+#[derive(Clone, Copy)]
+struct Layout {
     prefix: Option<&'static str>,
     level: usize,
 }
@@ -201,19 +72,20 @@ struct Vector {
 /// Prints a tree of any kind, and a line feed.
 fn print_line<T: Syntax, W: Write>(
     tree: &T,
-    prefix: Option<&str>,
-    level: usize,
+    layout: Layout,
     sink: &mut StreamSink<W>,
 ) -> Result<(), VectorError>
     requires { CanFault (⟦<StreamSink<W> as TextSink>⟧.fault_count sink.old) }
     ensures printed { OnOk result (Appends
         (⟦<StreamSink<W> as TextSink>⟧.taken sink.old)
         (⟦<StreamSink<W> as TextSink>⟧.taken sink.new)
-        (line_of T.kind (mode_of prefix.entry) level (T.tree tree.now))) }
+        (line_of T.kind (mode_of layout.prefix) layout.level (T.tree tree.now))) }
     ensures known { ¬ IsErrOf result VectorError.Unknown }
 {
-    let flat = Serialize::new(tree).no_indent().initial_indent_level(level);
-    let print = match prefix {
+    let flat = Serialize::new(tree)
+        .no_indent()
+        .initial_indent_level(layout.level);
+    let print = match layout.prefix {
         Some(prefix) => flat.indent_prefix(prefix),
         None => flat,
     };
@@ -222,66 +94,67 @@ fn print_line<T: Syntax, W: Write>(
     Ok(())
 }
 
-impl Vector {
-    fn of_value(value: Value, prefix: Option<&'static str>) -> Vector {
-        Vector {
-            tree: Tree::Value(value),
-            prefix,
-            level: 0,
-        }
-    }
-
-    fn of_definition(definition: DirectiveDefinition, prefix: Option<&'static str>) -> Vector {
-        Vector {
-            tree: Tree::DirectiveDefinition(definition),
-            prefix,
-            level: 0,
-        }
-    }
-
-    fn at_level(self, level: usize) -> Vector {
-        Vector {
-            tree: self.tree,
-            prefix: self.prefix,
-            level,
-        }
-    }
-
+impl Tree {
     /// Prints the tree, and a line feed.
-    fn print<W: Write>(&self, sink: &mut StreamSink<W>) -> Result<(), VectorError>
+    fn print<W: Write>(&self, layout: Layout, sink: &mut StreamSink<W>) -> Result<(), VectorError>
         requires { CanFault (⟦<StreamSink<W> as TextSink>⟧.fault_count sink.old) }
         ensures printed { OnOk result (Appends
             (⟦<StreamSink<W> as TextSink>⟧.taken sink.old)
             (⟦<StreamSink<W> as TextSink>⟧.taken sink.new)
-            (vector_line (mode_of self.now.prefix) self.now.level (vector_tree self.now.tree))) }
+            (vector_line (mode_of layout.prefix) layout.level (vector_tree self.now))) }
         ensures known { ¬ IsErrOf result VectorError.Unknown }
     {
-        match &self.tree {
-            Tree::Value(value) => print_line(value, self.prefix, self.level, sink),
-            Tree::DirectiveDefinition(definition) => {
-                print_line(definition, self.prefix, self.level, sink)
-            }
+        match self {
+            Tree::Value(value) => print_line(value, layout, sink),
+            Tree::DirectiveDefinition(definition) => print_line(definition, layout, sink),
+            Tree::ScalarType(definition) => print_line(definition, layout, sink),
+            Tree::ObjectType(definition) => print_line(definition, layout, sink),
+            Tree::FieldDefinition(definition) => print_line(definition, layout, sink),
+            Tree::Operation(definition) => print_line(definition, layout, sink),
+            Tree::Document(document) => print_line(document, layout, sink),
         }
     }
 }
 
-/// The vector of a number, if there is one.
-fn find_vector(alloc: Global, number: &str) -> Result<Option<Vector>, AllocError>
-    ensures ok { IfOk result (λ vector. IsSome vector ↔ IsTrue (is_vector_number number.now)) }
+/// The tree of the vector of a number, if there is one.
+fn find_tree(alloc: Global, number: &str) -> Result<Option<Tree>, AllocError>
+    ensures ok { IfOk result (λ tree. IsSome tree ↔ IsTrue (is_vector_number number.now)) }
     ensures err { OnErr result (IsTrue (is_vector_number number.now)) }
 {
     Ok(Some(match number {
-        "1" => Vector::of_value(four_values(alloc)?, None),
-        "2" => Vector::of_value(object_of_all_kinds(alloc)?, Some("  ")),
-        "3" => Vector::of_value(string(alloc, "\u{1}\t\u{7F}")?, Some("  ")),
-        "4" => Vector::of_value(string(alloc, "a\nb")?, Some("  ")),
-        "5" => Vector::of_value(string(alloc, "a\nb")?, None),
-        "6" => Vector::of_value(list_of_one(alloc, string(alloc, "a\n\n b")?)?, Some("  ")),
-        "14" => Vector::of_definition(definition_with_directive(alloc)?, Some("  ")),
-        "15" => Vector::of_value(Value::Null, None).at_level(usize::MAX),
-        "20" => Vector::of_value(numbers(alloc, 1)?, Some(">")).at_level(1),
+        "1" => Tree::Value(values::four_values(alloc)?),
+        "2" => Tree::Value(values::object_of_fields(alloc)?),
+        "3" => Tree::Value(values::string(alloc, "\u{1}\t\u{7F}")?),
+        "4" | "5" => Tree::Value(values::string(alloc, "a\nb")?),
+        "6" => Tree::Value(values::list_of_string(alloc, "a\n\n b")?),
+        "7" => Tree::ScalarType(type_system::scalar(alloc, "say \"hi\"")?),
+        "8" => Tree::ScalarType(type_system::scalar(alloc, "x\\\"\"\"y")?),
+        "9" | "10" => Tree::Document(documents::type_and_query(alloc)?),
+        "11" | "12" | "16" => Tree::Operation(executable::anonymous_query(alloc)?),
+        "13" => Tree::Document(documents::document_with_directive(alloc)?),
+        "14" => Tree::DirectiveDefinition(type_system::directive_definition(alloc)?),
+        "15" => Tree::Value(Value::Null),
+        "17" => Tree::ObjectType(type_system::object_with_field(alloc)?),
+        "18" => Tree::Operation(executable::query_of_all_selections(alloc)?),
+        "19" => Tree::FieldDefinition(type_system::field_with_argument(alloc)?),
+        "20" => Tree::Value(values::numbers(alloc, 1)?),
+        "21" => Tree::Operation(executable::query_with_described_variable(alloc)?),
+        "22" => Tree::Document(documents::type_and_described_query(alloc)?),
         _ => return Ok(None),
     }))
+}
+
+/// The layout of the vector of a number: the default one, unless it has one of its own.
+fn layout_of(number: &str) -> Layout {
+    let (prefix, level) = match number {
+        "1" | "5" | "10" | "13" | "22" => (None, 0),
+        "11" => (Some("  "), 1),
+        "12" => (Some(""), 1),
+        "15" | "16" => (None, usize::MAX),
+        "20" => (Some(">"), 1),
+        _ => (Some("  "), 0),
+    };
+    Layout { prefix, level }
 }
 
 /// Prints the vector of a number.
@@ -297,8 +170,8 @@ fn print_vector<W: Write>(
     ensures unknown { IsErrOf result VectorError.Unknown ↔ (is_vector_number number.now ≡ false) }
     ensures untouched { IsErrOf result VectorError.Unknown → sink.new ≡ sink.old }
 {
-    match find_vector(alloc, number) {
-        Ok(Some(vector)) => vector.print(sink),
+    match find_tree(alloc, number) {
+        Ok(Some(tree)) => tree.print(layout_of(number), sink),
         Ok(None) => Err(VectorError::Unknown),
         Err(_) => Err(VectorError::Memory),
     }

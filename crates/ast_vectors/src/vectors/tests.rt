@@ -2,8 +2,8 @@
 ghost use Rattle.std.specs.Prelude.{◌≤◌, IfSome, length};
 
 use super::{VectorError, report, run_vectors};
-use graphql_text::engine::PrintError;
-use graphql_text::sink::SinkFault;
+use graphql_ast::serialize::PrintError;
+use graphql_ast::sink::SinkFault;
 use std::alloc::{AllocError, Global};
 use std::io;
 use std::io::{ErrorKind, Write};
@@ -109,8 +109,12 @@ fn check_run(
     Ok(())
 }
 
-const KNOWN: [(&str, &str); 9] = [
-    ("1", "[1, EXAMPLE, true, null]\n"),
+/// The document's own line feed, and the program's.
+const TYPE_AND_QUERY: &str = "type A\n\nquery {\n  a\n}\n\n";
+
+/// The vectors of values that are printed, each with its text.
+const VALUES: [(&str, &str); 8] = [
+    ("1", FOUR_VALUES),
     (
         "2",
         "{\n  null_field: null,\n  enum_field: EXAMPLE,\n  var_field: $var,\n  string_field: \"example\",\n  float_field: 1.5,\n  int_field: 47,\n  list_field: [\n    1,\n    2,\n    3,\n  ],\n}\n",
@@ -119,17 +123,66 @@ const KNOWN: [(&str, &str); 9] = [
     ("4", "\"\"\"\na\nb\n\"\"\"\n"),
     ("5", "\"a\\nb\"\n"),
     ("6", "[\n  \"\"\"\n  a\n\n   b\n  \"\"\",\n]\n"),
-    ("14", "directive @d(\n  a: Int @x,\n  b: Int,\n) on FIELD\n"),
     ("15", "null\n"),
     ("20", ">[\n>>1,\n>]\n"),
 ];
 
-#[test]
-fn known_vectors_are_printed(rt: HostRuntime) -> Result<(), Fail> {
-    for (number, text) in KNOWN {
-        check_run(&rt, rt.alloc(), &[number], (0, text, ""))?;
+/// Those of definitions of the type system.
+const DEFINITIONS: [(&str, &str); 5] = [
+    ("7", "\"\"\"\nsay \"hi\"\n\"\"\"\nscalar A\n"),
+    ("8", "\"\"\"x\\\\\"\"\"y\"\"\"\nscalar A\n"),
+    ("14", "directive @d(\n  a: Int @x,\n  b: Int,\n) on FIELD\n"),
+    (
+        "17",
+        "type T implements A & B @d {\n  \"\"\"F\"\"\"\n  f(x: Int = 1): [String!]! @e\n}\n",
+    ),
+    ("19", "f(\n  a: [Int] = [\n    1,\n  ] @x,\n): Int\n"),
+];
+
+/// Those of operations.
+const OPERATIONS: [(&str, &str); 4] = [
+    ("11", "  query {\n    a\n  }\n"),
+    ("12", "query {\na\n}\n"),
+    (
+        "18",
+        "query N($v: Int = 1 @d) {\n  r: s(a: $v) @include(if: true) {\n    ...F\n    ... on T {\n      id\n    }\n  }\n}\n",
+    ),
+    (
+        "21",
+        "query N(\n  \"\"\"A\"\"\"\n  $a: Int,\n  $b: Int = 1,\n) {\n  a\n}\n",
+    ),
+];
+
+/// Those of documents.
+const DOCUMENTS: [(&str, &str); 4] = [
+    ("9", TYPE_AND_QUERY),
+    ("10", "type A query { a }\n"),
+    ("13", "query @dir { field }\n"),
+    ("22", "type A \"D\" query { a }\n"),
+];
+
+/// Asserts that each of these vectors is printed.
+fn check_printed(rt: &impl Abort, alloc: Global, vectors: &[(&str, &str)]) -> Result<(), Fail> {
+    for (number, text) in vectors {
+        check_run(rt, alloc, &[*number], (0, text, ""))?;
     }
     Ok(())
+}
+
+#[test]
+fn known_vectors_are_printed(rt: HostRuntime) -> Result<(), Fail> {
+    check_printed(&rt, rt.alloc(), &VALUES)?;
+    check_printed(&rt, rt.alloc(), &DEFINITIONS)?;
+    check_printed(&rt, rt.alloc(), &OPERATIONS)?;
+    check_printed(&rt, rt.alloc(), &DOCUMENTS)
+}
+
+/// A level that doesn't fit is found before the first byte.
+const OVERFLOW: (u8, &str, &str) = (1, "", "indentation level overflow\n");
+
+#[test]
+fn a_level_that_does_not_fit_is_reported(rt: HostRuntime) -> Result<(), Fail> {
+    check_run(&rt, rt.alloc(), &["16"], OVERFLOW)
 }
 
 const UNKNOWN: (u8, &str, &str) = (2, "", "unknown vector\n");
@@ -137,7 +190,7 @@ const UNKNOWN: (u8, &str, &str) = (2, "", "unknown vector\n");
 #[test]
 fn other_words_are_unknown(rt: HostRuntime) -> Result<(), Fail> {
     for word in [
-        "", "01", "+1", "-1", " 1", "1 ", "1\n", "0", "7", "21", "١", "one",
+        "", "01", "+1", "-1", " 1", "1 ", "1\n", "0", "23", "011", "100", "١", "one",
     ] {
         check_run(&rt, rt.alloc(), &[word], UNKNOWN)?;
     }
@@ -156,20 +209,20 @@ fn no_word_and_two_words_are_unknown(rt: HostRuntime) -> Result<(), Fail> {
     check_run(&rt, rt.alloc(), &["1", "1"], UNKNOWN)
 }
 
-const PRINTED: &str = "[1, EXAMPLE, true, null]\n";
+const FOUR_VALUES: &str = "[1, EXAMPLE, true, null]\n";
 
-/// Runs the program on a writer that refuses one call, and asserts that nothing is written after it.
+/// Prints a vector on a writer that refuses one call, and asserts that nothing is written after it.
 fn check_refusal(
     rt: &impl Abort,
     alloc: Global,
-    refusal: Refusal,
-    place: usize,
+    (number, text): (&str, &str),
+    (refusal, place): (Refusal, usize),
 ) -> Result<(), Fail> {
-    let words = words_of(alloc, &["1"])?;
+    let words = words_of(alloc, &[number])?;
     let out = Page::refusing_at(place, refusal);
     let (status, out, err) = run_vectors(alloc, &words, out, Page::new());
     assert_eq!(rt; status, 1, "{refusal:?} at {place}");
-    assert_eq!(rt; out.text(), PRINTED.get(..place), "{refusal:?} at {place}");
+    assert_eq!(rt; out.text(), text.get(..place), "{refusal:?} at {place}");
     assert_eq!(rt; err.text(), Some("the writer failed\n"));
     Ok(())
 }
@@ -177,9 +230,22 @@ fn check_refusal(
 #[test]
 fn nothing_follows_a_refused_write(rt: HostRuntime) -> Result<(), Fail> {
     for refusal in REFUSALS {
-        for place in 0..PRINTED.len() {
-            check_refusal(&rt, rt.alloc(), refusal, place)?;
+        for place in 0..FOUR_VALUES.len() {
+            check_refusal(&rt, rt.alloc(), ("1", FOUR_VALUES), (refusal, place))?;
         }
+    }
+    Ok(())
+}
+
+#[test]
+fn nothing_follows_a_refused_write_of_a_document(rt: HostRuntime) -> Result<(), Fail> {
+    for place in 0..TYPE_AND_QUERY.len() {
+        check_refusal(
+            &rt,
+            rt.alloc(),
+            ("9", TYPE_AND_QUERY),
+            (Refusal::Fails, place),
+        )?;
     }
     Ok(())
 }
@@ -211,19 +277,51 @@ fn both_writers_refuse(rt: HostRuntime) -> Result<(), Fail> {
     Ok(())
 }
 
-/// Where memory is refused, nothing is printed; else all is. `rt try --test --fail-alloc N` refuses the Nth growth.
-#[test]
-fn refused_memory_is_reported(rt: HostRuntime) {
-    let alloc = rt.alloc();
-    for (number, text) in KNOWN {
-        let Ok(words) = words_of(alloc, &[number]) else {
-            return;
-        };
-        let (status, out, err) = run_vectors(alloc, &words, Page::new(), Page::new());
-        let whole = status == 0 && out.text() == Some(text) && err.len == 0;
-        let refused = status == 1 && out.len == 0 && err.text() == Some("out of memory\n");
-        assert!(rt; whole || refused, "{number}");
+/// Runs the program on the number of a vector, and asserts that the run ends as is wanted, or reports refused memory
+/// with nothing printed.
+fn check_run_or_refused(
+    rt: &impl Abort,
+    alloc: Global,
+    number: &str,
+    (status, out, err): (u8, &str, &str),
+) {
+    let Ok(words) = words_of(alloc, &[number]) else {
+        return;
+    };
+    let found = run_vectors(alloc, &words, Page::new(), Page::new());
+    let found = (found.0, found.1.text(), found.2.text());
+    let is_whole = found == (status, Some(out), Some(err));
+    let is_refused = found == (1, Some(""), Some("out of memory\n"));
+    assert!(rt; is_whole || is_refused, "{number}");
+}
+
+/// Asserts that each of these vectors is printed, or refused memory reported. `rt try --test --fail-alloc N` refuses
+/// the Nth growth.
+fn check_printed_or_refused(rt: &impl Abort, alloc: Global, vectors: &[(&str, &str)]) {
+    for (number, text) in vectors {
+        check_run_or_refused(rt, alloc, number, (0, text, ""));
     }
+}
+
+#[test]
+fn refused_memory_of_values_is_reported(rt: HostRuntime) {
+    check_printed_or_refused(&rt, rt.alloc(), &VALUES);
+}
+
+#[test]
+fn refused_memory_of_definitions_is_reported(rt: HostRuntime) {
+    check_printed_or_refused(&rt, rt.alloc(), &DEFINITIONS);
+}
+
+#[test]
+fn refused_memory_of_operations_is_reported(rt: HostRuntime) {
+    check_run_or_refused(&rt, rt.alloc(), "16", OVERFLOW);
+    check_printed_or_refused(&rt, rt.alloc(), &OPERATIONS);
+}
+
+#[test]
+fn refused_memory_of_documents_is_reported(rt: HostRuntime) {
+    check_printed_or_refused(&rt, rt.alloc(), &DOCUMENTS);
 }
 
 /// Asserts the status and the line of an error.

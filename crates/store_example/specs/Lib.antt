@@ -1,0 +1,2 @@
+-- A store of documents.
+pub mod Stores

@@ -3,14 +3,16 @@
 
     tools/read_back.py [FILE]
 
-The program `golden` prints the tree of each print of FILE (crates/golden/stdin, if none is named), and says that the text is that of the case.
-graphql-core reads the text, and its tree, written as AST JSON, has to be that of the case. Locations and `block` are left out of the comparison, and so are cases that no
-reader can read: of trees that are not well formed, under a prefix of other characters than spaces and tabs, of trees that are deeper than
-JSON is read, and of operations, fragments and variables with descriptions, which graphql-core 3.2 doesn't know. What is no document of its own
-is read inside one: a directive behind a field, an input value definition as a field of an input object, a selection in a query.
+The program `golden` prints the tree of each print of FILE (crates/golden/stdin, if none is named), and says that the
+text is that of the case. graphql-core reads the text, and its tree, written as AST JSON, has to be that of the case.
+Locations and `block` are left out of the comparison, and so are cases that no reader can read: of trees that are not
+well formed, under a prefix of other characters than spaces and tabs, of trees that are deeper than JSON is read, and of
+operations, fragments and variables with descriptions, which graphql-core 3.2 doesn't know. What is neither a document,
+nor a definition, nor a value is read inside one: a directive behind a field, an input value definition as a field of an
+input object, a selection in a query.
 
-It needs Python 3.8, `pip install graphql-core==3.2.*`, and the program, which `rt run` builds in crates/golden; it asks for no memory of the
-gate. It says how many texts were read, and how many of the trees differ; the exit status is 0 if none does.
+It needs Python 3.8, `pip install graphql-core==3.2.*`, and the program, which `rt run` builds in crates/golden. It says
+how many texts were read, and how many of the trees differ; the exit status is 0 if none does.
 """
 import json
 import os
@@ -27,6 +29,7 @@ LISTS = {
     "InputValueDefinition": ["directives"],
     "DirectiveDefinition": ["arguments"],
 }
+EXECUTABLE = ("OperationDefinition", "FragmentDefinition", "VariableDefinition")
 # what is no definition is read inside of one: the text around it, and the way from the definition to it
 INSIDE = {
     "InputValueDefinition": ("input Input { %s }", lambda definition: definition.fields[0]),
@@ -46,7 +49,8 @@ def normal(tree):
         return [normal(item) for item in tree]
     if not isinstance(tree, dict):
         return tree
-    members = {name: normal(member) for name, member in tree.items() if name not in ("loc", "block") and member is not None}
+    kept = {name: member for name, member in tree.items() if name not in ("loc", "block") and member is not None}
+    members = {name: normal(member) for name, member in kept.items()}
     for name in LISTS.get(tree["kind"], []):
         members.setdefault(name, [])
     return members
@@ -78,8 +82,9 @@ def has_new_description(tree):
         return any(has_new_description(item) for item in tree)
     if not isinstance(tree, dict):
         return False
-    is_executable = tree.get("kind") in ("OperationDefinition", "FragmentDefinition", "VariableDefinition")
-    return (is_executable and tree.get("description") is not None) or any(has_new_description(member) for member in tree.values())
+    if tree.get("kind") in EXECUTABLE and tree.get("description") is not None:
+        return True
+    return any(has_new_description(member) for member in tree.values())
 
 
 def is_told(tree):
@@ -103,6 +108,8 @@ def read(tree, text):
     if tree["kind"] in INSIDE:
         around, way = INSIDE[tree["kind"]]
         return told(way(parse(around % text).definitions[0]))
+    if tree["kind"] == "Document":
+        return told(parse(text))
     if tree["kind"].endswith(("Definition", "Extension")):
         return told(parse(text).definitions[0])
     return told(parse_value(text))

@@ -3,8 +3,9 @@
 //! the other.
 //!
 //! - TREE: `objects` (a list of COUNT objects with values of every kind), `texts` (a list of COUNT plain strings of 80 bytes),
-//!   `nested` (COUNT lists in one another), `operations` (COUNT queries of three levels) or `types` (COUNT object types of ten
-//!   fields). Operations and types are printed one after another, each into a text of its own, or all into one sink.
+//!   `nested` (COUNT lists in one another), `operations` (COUNT queries of three levels), `types` (COUNT object types of ten
+//!   fields) or `document` (one document of COUNT such types and as many such queries). Operations and types are printed one
+//!   after another, each into a text of its own, or all into one sink.
 //! - LAYOUT: `default`, `one_line`, or `two_tabs`, which has the bytes of the default layout with two tabs for each prefix.
 //! - TARGET: `text`, `sink` (a `VecSink`) or `stream` (a `StreamSink` over a vector).
 //! - NAMES: `own` (each has memory of its own), `shared` (equal ones share it) or `static`.
@@ -15,6 +16,7 @@
 
 ghost use Rattle.graphql_text.specs.Sinks.{CanFault};
 
+mod documents;
 mod operations;
 mod trees;
 mod types;
@@ -30,7 +32,7 @@ use thiserror::Error;
 /// Why nothing was printed.
 #[derive(Debug, Drop, Error)]
 enum SpeedError {
-    #[error("usage: print_speed objects|texts|nested|operations|types COUNT ROUNDS default|one_line|two_tabs text|sink|stream own|shared|static grown|exact")]
+    #[error("usage: print_speed objects|texts|nested|operations|types|document COUNT ROUNDS default|one_line|two_tabs text|sink|stream own|shared|static grown|exact")]
     Usage,
     #[error("out of memory")]
     Memory,
@@ -58,6 +60,7 @@ enum Tree {
     Nested,
     Operations,
     Types,
+    Document,
 }
 
 /// How it is laid out.
@@ -112,12 +115,13 @@ fn number<R: Env>(env: &R, place: usize) -> Option<usize> {
     word(env, place, &mut buffer)?.parse().ok()
 }
 
-const TREES: [(&str, Tree); 5] = [
+const TREES: [(&str, Tree); 6] = [
     ("objects", Tree::Objects),
     ("texts", Tree::Texts),
     ("nested", Tree::Nested),
     ("operations", Tree::Operations),
     ("types", Tree::Types),
+    ("document", Tree::Document),
 ];
 
 const LAYOUTS: [(&str, Layout); 3] = [
@@ -220,6 +224,7 @@ fn run(alloc: Global, task: &Task) -> Result<usize, SpeedError> {
         Tree::Nested => print_rounds(alloc, task, &[builder.nested(task.count)?]),
         Tree::Operations => print_rounds(alloc, task, &builder.operations(task.count)?),
         Tree::Types => print_rounds(alloc, task, &builder.types(task.count)?),
+        Tree::Document => print_rounds(alloc, task, &[builder.document(task.count)?]),
     }
 }
 

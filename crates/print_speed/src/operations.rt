@@ -152,7 +152,7 @@ impl Builder {
     }
 
     /// A query of three levels: two variables, and two fields of five selections.
-    fn operation(&mut self, number: usize) -> Result<OperationDefinition, AllocError> {
+    pub(crate) fn operation(&mut self, number: usize) -> Result<OperationDefinition, AllocError> {
         let mut selections = self.list(2)?;
         self.select_viewer(&mut selections, number)?;
         self.select_viewer(&mut selections, number.wrapping_mul(7))?;

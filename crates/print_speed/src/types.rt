@@ -79,7 +79,10 @@ impl Builder {
     }
 
     /// A type with a description, two interfaces, a directive and ten fields.
-    fn object_type(&mut self, number: usize) -> Result<ObjectTypeDefinition, AllocError> {
+    pub(crate) fn object_type(
+        &mut self,
+        number: usize,
+    ) -> Result<ObjectTypeDefinition, AllocError> {
         let description = "A collection of items, with all that was said of them.";
         let mut interfaces = self.list(2)?;
         interfaces.push(self.name("Node")?)?;

@@ -4,8 +4,8 @@
 //!
 //! - TREE: `objects` (a list of COUNT objects with values of every kind), `texts` (a list of COUNT plain strings of 80 bytes),
 //!   `nested` (COUNT lists in one another), `operations` (COUNT queries of three levels), `types` (COUNT object types of ten
-//!   fields) or `document` (one document of COUNT such types and as many such queries). Operations and types are printed one
-//!   after another, each into a text of its own, or all into one sink.
+//!   fields), `queries`, `schema` (one document of COUNT such queries or types) or `document` (one of COUNT such types and as
+//!   many such queries). Operations and types are printed one after another, each into a text of its own, or all into one sink.
 //! - LAYOUT: `default`, `one_line`, or `two_tabs`, which has the bytes of the default layout with two tabs for each prefix.
 //! - TARGET: `text`, `sink` (a `VecSink`) or `stream` (a `StreamSink` over a vector).
 //! - NAMES: `own` (each has memory of its own), `shared` (equal ones share it) or `static`.
@@ -21,6 +21,7 @@ mod operations;
 mod trees;
 mod types;
 
+use crate::documents::Contents;
 use crate::trees::{Builder, Naming};
 use graphql_text::engine::{PrintError, Serialize, Syntax};
 use graphql_text::sink::{StreamSink, TextSink, VecSink};
@@ -32,7 +33,7 @@ use thiserror::Error;
 /// Why nothing was printed.
 #[derive(Debug, Drop, Error)]
 enum SpeedError {
-    #[error("usage: print_speed objects|texts|nested|operations|types|document COUNT ROUNDS default|one_line|two_tabs text|sink|stream own|shared|static grown|exact")]
+    #[error("usage: print_speed objects|texts|nested|operations|types|queries|schema|document COUNT ROUNDS default|one_line|two_tabs text|sink|stream own|shared|static grown|exact")]
     Usage,
     #[error("out of memory")]
     Memory,
@@ -60,6 +61,8 @@ enum Tree {
     Nested,
     Operations,
     Types,
+    Queries,
+    Schema,
     Document,
 }
 
@@ -115,12 +118,14 @@ fn number<R: Env>(env: &R, place: usize) -> Option<usize> {
     word(env, place, &mut buffer)?.parse().ok()
 }
 
-const TREES: [(&str, Tree); 6] = [
+const TREES: [(&str, Tree); 8] = [
     ("objects", Tree::Objects),
     ("texts", Tree::Texts),
     ("nested", Tree::Nested),
     ("operations", Tree::Operations),
     ("types", Tree::Types),
+    ("queries", Tree::Queries),
+    ("schema", Tree::Schema),
     ("document", Tree::Document),
 ];
 
@@ -216,6 +221,20 @@ fn print_rounds<T: Syntax>(alloc: Global, task: &Task, trees: &[T]) -> Result<us
     Ok(bytes)
 }
 
+/// The length of one print of a document of so many definitions.
+fn print_document(
+    builder: &mut Builder,
+    task: &Task,
+    contents: Contents,
+    definitions: usize,
+) -> Result<usize, SpeedError> {
+    print_rounds(
+        builder.alloc,
+        task,
+        &[builder.document(contents, definitions)?],
+    )
+}
+
 fn run(alloc: Global, task: &Task) -> Result<usize, SpeedError> {
     let mut builder = Builder::new(alloc, task.naming, task.exact);
     match task.tree {
@@ -224,7 +243,16 @@ fn run(alloc: Global, task: &Task) -> Result<usize, SpeedError> {
         Tree::Nested => print_rounds(alloc, task, &[builder.nested(task.count)?]),
         Tree::Operations => print_rounds(alloc, task, &builder.operations(task.count)?),
         Tree::Types => print_rounds(alloc, task, &builder.types(task.count)?),
-        Tree::Document => print_rounds(alloc, task, &[builder.document(task.count)?]),
+        Tree::Queries => print_document(&mut builder, task, Contents::Queries, task.count),
+        Tree::Schema => print_document(&mut builder, task, Contents::Types, task.count),
+        Tree::Document => {
+            print_document(
+                &mut builder,
+                task,
+                Contents::Both,
+                task.count.saturating_mul(2),
+            )
+        }
     }
 }
 

@@ -10,13 +10,12 @@ use Rattle.graphql_text.specs.Kinds.{Kind}
 use Rattle.graphql_text.specs.Literals.{StringText}
 use Rattle.graphql_text.specs.Reading.{Laws}
 use Rattle.graphql_text.specs.Tokens.{amp, at, bar, equals, lbrace, lparen, Token, Punctuation, Name, StringValue}
-use Rattle.graphql_text.proofs.Bracketing.{whole}
 use Rattle.graphql_text.proofs.KindLaws.{laws_of}
 use Rattle.graphql_text.proofs.KindParts.{described_part, extension_part}
 use Rattle.graphql_text.proofs.Parsing.{Parser, Reads, Opening, ◌>>=◌, pure, fail, last, wider, within}
 use Rattle.graphql_text.proofs.Parts.{KindPart, begins_none}
 use Rattle.graphql_text.proofs.PrintedTokens.{Tail}
-use Rattle.graphql_text.proofs.Telling.{Told, told_as, told_weaker}
+use Rattle.graphql_text.proofs.Telling.{Told, told_weaker}
 use Rattle.graphql_text.proofs.Tests.{first_holds, second_holds}
 use Rattle.graphql_text.proofs.TokenClasses.{all_apart, apart-begins, within-none}
 use Rattle.graphql_values.specs.DirectiveDefinitions.{directive_definition_body}
@@ -24,7 +23,6 @@ use Rattle.graphql_values.specs.OperationTypes.{OperationTypeTree, Query, Mutati
 use Rattle.graphql_values.specs.lemmas.DirectiveDefinitions.{directive_definition_body_part}
 use Rattle.graphql_executable.specs.FragmentDefinitions.{fragment_definition_body}
 use Rattle.graphql_executable.specs.OperationDefinitions.{full_operation_kind, is_bare_query, operation_definition_form, operation_definition_kind, operation_form, operation_shape}
-use Rattle.graphql_executable.specs.Selections.{selection_set_nesting, selection_set_shape}
 use Rattle.graphql_executable.specs.lemmas.Definitions.{at_front, fragment_definition_body_part, full_operation_part, operation_definition_part, operation_told, operation_tokens, operation_written}
 use Rattle.graphql_executable.specs.lemmas.Selections.{selection_set_part}
 use Rattle.graphql_type_system.specs.BracedTypes.{braced_type_adds}

@@ -5,7 +5,7 @@ ghost use Rattle.graphql_text.specs.Levels.{IsCount};
 ghost use Rattle.graphql_text.specs.Place.{breaks, mode_of};
 ghost use Rattle.graphql_text.specs.Writing.{Writes, WritesPart};
 ghost use Rattle.graphql_executable.specs.ExecutableStacks.{AreAllKept};
-ghost use Rattle.graphql_ast.specs.AstStacks.{CanWriteAst, definition_list_depth, selection_depth};
+ghost use Rattle.graphql_ast.specs.AstStacks.{CanWriteAst, definition_list_depth, has_selections, selection_depth};
 ghost use Rattle.graphql_ast.specs.AstTrees.{definition_tree};
 ghost use Rattle.graphql_ast.specs.Definitions.{definition_kind};
 
@@ -14,7 +14,6 @@ use graphql_executable::writers::{
     ExecutableStacks, find_variables_list_depth, write_first_operation_definition,
     write_fragment_definition, write_operation_definition,
 };
-use graphql_text::engine::Syntax;
 use graphql_text::writers::{Place, Target};
 use graphql_type_system::writers::{
     find_fields_list_depth, write_enum_type_definition, write_enum_type_extension,
@@ -56,30 +55,14 @@ pub(crate) fn find_list_depth(definition: &Definition) -> Option<usize>
     }
 }
 
-/// How deep the selection sets of a definition may stand in one another: as deep as it nests, and 0 where it has no
-/// selections. `None` if it is above `usize::MAX`.
-pub(crate) fn find_selection_depth(definition: &Definition) -> Option<usize>
-    ensures { IsCount result (selection_depth (definition_tree definition.now)) }
+/// Whether a definition has selections.
+pub(crate) fn has_selections(definition: &Definition) -> bool
+    ensures { result ≡ has_selections (definition_tree definition.now).name }
 {
-    match definition {
-        Definition::OperationDefinition(operation) => operation.find_nesting(),
-        Definition::FragmentDefinition(fragment) => fragment.find_nesting(),
-        Definition::DirectiveDefinition(_)
-        | Definition::SchemaDefinition(_)
-        | Definition::ScalarTypeDefinition(_)
-        | Definition::ObjectTypeDefinition(_)
-        | Definition::InterfaceTypeDefinition(_)
-        | Definition::UnionTypeDefinition(_)
-        | Definition::EnumTypeDefinition(_)
-        | Definition::InputObjectTypeDefinition(_)
-        | Definition::SchemaExtension(_)
-        | Definition::ScalarTypeExtension(_)
-        | Definition::ObjectTypeExtension(_)
-        | Definition::InterfaceTypeExtension(_)
-        | Definition::UnionTypeExtension(_)
-        | Definition::EnumTypeExtension(_)
-        | Definition::InputObjectTypeExtension(_) => Some(0),
-    }
+    matches!(
+        definition,
+        Definition::OperationDefinition(_) | Definition::FragmentDefinition(_)
+    )
 }
 
 /// Writes a definition behind something else, and so not in shorthand.

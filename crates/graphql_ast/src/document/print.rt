@@ -1,5 +1,5 @@
 //! Documents are printed: the writer of definitions in a row, and the `Syntax` of a document.
-ghost use Rattle.std.specs.Prelude.{◌≡◌, IfOk, IsOk, Some};
+ghost use Rattle.std.specs.Prelude.{◌≡◌, ◌≤◌, IfOk, IsOk, Some};
 ghost use Rattle.std.specs.List.{list_all};
 ghost use Rattle.graphql_text.specs.Greatest.{greatest};
 ghost use Rattle.graphql_text.specs.Layout.{is_front};
@@ -16,7 +16,7 @@ ghost use Rattle.graphql_ast.specs.lemmas.Documents.{document_laws};
 
 use crate::definition::Definition;
 use crate::definition::write::{
-    find_list_depth, find_selection_depth, write_definition, write_first_definition,
+    find_list_depth, has_selections, write_definition, write_first_definition,
 };
 use crate::document::Document;
 use graphql_executable::writers::ExecutableStacks;
@@ -61,15 +61,19 @@ fn find_definitions_list_depth(definitions: &[Definition]) -> Option<usize>
     Some(most)
 }
 
-/// How deep the selection sets of definitions may stand in one another. `None` if it is above `usize::MAX`.
-fn find_definitions_selection_depth(definitions: &[Definition]) -> Option<usize>
-    ensures { IsCount result (greatest selection_depth (definition_trees definitions.now)) }
+/// How deep selection sets may stand in one another, in definitions that nest `nesting` levels: as deep as these, and 0
+/// where none has selections. It is a bound alone, so that no definition is gone through a second time.
+fn selection_depth(definitions: &[Definition], nesting: usize) -> usize
+    requires { greatest definition_kind.nesting (definition_trees definitions.now) ≡ nesting }
+    ensures enough { greatest selection_depth (definition_trees definitions.now) ≤ result }
+    ensures within { result ≤ nesting }
 {
-    let mut most = 0;
     for definition in definitions {
-        most = most.max(find_selection_depth(definition)?);
+        if has_selections(definition) {
+            return nesting;
+        }
     }
-    Some(most)
+    0
 }
 
 /// Writes definitions in a row, and the end of a document; nothing where there are none.
@@ -107,19 +111,18 @@ fn reserve_stacks<'a>(
     definitions: &'a [Definition],
     depth: usize,
 ) -> Result<ExecutableStacks<'a>, AllocError>
+    requires { greatest definition_kind.nesting (definition_trees definitions.now) ≡ depth }
     ensures values { IfOk result (λ stacks. IsReady stacks.definitions.values depth) }
     ensures types { IfOk result (λ stacks. IsReady stacks.definitions.types
         (greatest definition_list_depth (definition_trees definitions.now))) }
     ensures selections { IfOk result (λ stacks. IsReady stacks.selections
         (greatest selection_depth (definition_trees definitions.now))) }
-    ensures succeeds { depth ≡ 0 → greatest definition_list_depth (definition_trees definitions.now) ≡ 0 →
-        greatest selection_depth (definition_trees definitions.now) ≡ 0 → IsOk result }
+    ensures succeeds { depth ≡ 0 → greatest definition_list_depth (definition_trees definitions.now) ≡ 0 → IsOk result }
 {
     let list_depth = find_definitions_list_depth(definitions).ok_or(AllocError)?;
-    let selection_depth = find_definitions_selection_depth(definitions).ok_or(AllocError)?;
     Ok(ExecutableStacks {
         definitions: Stacks::reserve(alloc, depth, list_depth)?,
-        selections: Stack::reserve(Some(alloc), selection_depth)?,
+        selections: Stack::reserve(Some(alloc), selection_depth(definitions, depth))?,
     })
 }
 

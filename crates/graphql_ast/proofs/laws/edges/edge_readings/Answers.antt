@@ -1,4 +1,4 @@
-use Rattle.std.proofs.Common.{[], ◌∷◌, None, codes, false, inl, inr, refl}
+use Rattle.std.proofs.Common.{[], ◌∷◌, codes, inl, inr, refl}
 use Rattle.graphql_text.specs.Forms.{◌⨟◌, either, name_except, no_tokens, not_followed_by, only_if, optional_token, token}
 use Rattle.graphql_text.specs.Tokens.{rbrace, Punctuation}
 use Rattle.graphql_text.proofs.Parts.{begins_none}

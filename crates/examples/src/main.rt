@@ -53,7 +53,8 @@ fn set_argument(
     value: Node<Value>,
 ) -> Result<(), SpecifiedArgumentError>
     ensures ok { OnOk result
-        (directive.new.arguments.items ≡ with_value_of name.now value directive.old.arguments.items) }
+        (directive.new.arguments.items
+        ≡ with_value_of name.now value directive.old.arguments.items) }
     ensures err { OnErr result (directive.new.arguments.items ≡ directive.old.arguments.items) }
     ensures not_specified { IsErrOf result SpecifiedArgumentError.NotSpecified ↔
         (first_argument_named name.now directive.old.arguments.items ≡ None) }

@@ -1,11 +1,17 @@
 -- What the derived `==` of definitions and documents decides: whether their trees are the same.
 use Rattle.std.proofs.Common.{◌≡◌, Bool, ap}
 use Rattle.std.specs.Bool.{Decides}
-use Rattle.graphql_executable.proofs.DefinitionEquality.{operation_definitions_decide, fragment_definitions_decide}
-use Rattle.graphql_type_system.proofs.TypeSystemEquality.{schema_definitions_decide, scalar_type_definitions_decide, object_type_definitions_decide, interface_type_definitions_decide, union_type_definitions_decide, enum_type_definitions_decide, input_object_type_definitions_decide, schema_extensions_decide, scalar_type_extensions_decide, object_type_extensions_decide, interface_type_extensions_decide, union_type_extensions_decide, enum_type_extensions_decide, input_object_type_extensions_decide}
-use Rattle.graphql_values.proofs.DefinitionEquality.{directive_definitions_decide}
-use Rattle.graphql_values.proofs.DirectiveEquality.{lists_decide}
-use Rattle.graphql_values.proofs.Equality.{through, never}
+use Rattle.graphql_executable.proofs.comparisons.ExecutableEquality.{operation_definitions_decide, fragment_definitions_decide}
+use Rattle.graphql_type_system.proofs.TypeSystemEquality.{schema_definitions_decide, scalar_type_definitions_decide}
+use Rattle.graphql_type_system.proofs.TypeSystemEquality.{object_type_definitions_decide, interface_type_definitions_decide}
+use Rattle.graphql_type_system.proofs.TypeSystemEquality.{union_type_definitions_decide, enum_type_definitions_decide}
+use Rattle.graphql_type_system.proofs.TypeSystemEquality.{input_object_type_definitions_decide, schema_extensions_decide}
+use Rattle.graphql_type_system.proofs.TypeSystemEquality.{scalar_type_extensions_decide, object_type_extensions_decide}
+use Rattle.graphql_type_system.proofs.TypeSystemEquality.{interface_type_extensions_decide, union_type_extensions_decide}
+use Rattle.graphql_type_system.proofs.TypeSystemEquality.{enum_type_extensions_decide, input_object_type_extensions_decide}
+use Rattle.graphql_values.proofs.comparisons.DefinitionEquality.{directive_definitions_decide}
+use Rattle.graphql_values.proofs.comparisons.DirectiveEquality.{lists_decide}
+use Rattle.graphql_values.proofs.comparisons.ValueEquality.{through, never}
 use Rattle.graphql_ast.specs.AstTrees.{definition_tree, document_tree}
 use Rattle.graphql_ast.specs.Definitions.{DefinitionName, DefinitionTree, kind_named}
 use Rattle.graphql_ast.specs.Definitions as name
@@ -62,23 +68,38 @@ decided : (k : DefinitionName) {a : Bool} (x y : (kind_named k).Tree) → Decide
 decided k x y d = through d (same_trees k x y) (ap (tree_of k))
 
 pub definitions_decide : (a b : Definition) → Decides (definition.ghosts.eq a b) (definition_tree a ≡ definition_tree b)
-definitions_decide (variant.OperationDefinition n) (variant.OperationDefinition m) = decided name.OperationDefinition _ _ (operation_definitions_decide n.value m.value)
-definitions_decide (variant.FragmentDefinition n) (variant.FragmentDefinition m) = decided name.FragmentDefinition _ _ (fragment_definitions_decide n.value m.value)
-definitions_decide (variant.DirectiveDefinition n) (variant.DirectiveDefinition m) = decided name.DirectiveDefinition _ _ (directive_definitions_decide n.value m.value)
+definitions_decide (variant.OperationDefinition n) (variant.OperationDefinition m) =
+    decided name.OperationDefinition _ _ (operation_definitions_decide n.value m.value)
+definitions_decide (variant.FragmentDefinition n) (variant.FragmentDefinition m) =
+    decided name.FragmentDefinition _ _ (fragment_definitions_decide n.value m.value)
+definitions_decide (variant.DirectiveDefinition n) (variant.DirectiveDefinition m) =
+    decided name.DirectiveDefinition _ _ (directive_definitions_decide n.value m.value)
 definitions_decide (variant.SchemaDefinition n) (variant.SchemaDefinition m) = decided name.SchemaDefinition _ _ (schema_definitions_decide n.value m.value)
-definitions_decide (variant.ScalarTypeDefinition n) (variant.ScalarTypeDefinition m) = decided name.ScalarTypeDefinition _ _ (scalar_type_definitions_decide n.value m.value)
-definitions_decide (variant.ObjectTypeDefinition n) (variant.ObjectTypeDefinition m) = decided name.ObjectTypeDefinition _ _ (object_type_definitions_decide n.value m.value)
-definitions_decide (variant.InterfaceTypeDefinition n) (variant.InterfaceTypeDefinition m) = decided name.InterfaceTypeDefinition _ _ (interface_type_definitions_decide n.value m.value)
-definitions_decide (variant.UnionTypeDefinition n) (variant.UnionTypeDefinition m) = decided name.UnionTypeDefinition _ _ (union_type_definitions_decide n.value m.value)
-definitions_decide (variant.EnumTypeDefinition n) (variant.EnumTypeDefinition m) = decided name.EnumTypeDefinition _ _ (enum_type_definitions_decide n.value m.value)
-definitions_decide (variant.InputObjectTypeDefinition n) (variant.InputObjectTypeDefinition m) = decided name.InputObjectTypeDefinition _ _ (input_object_type_definitions_decide n.value m.value)
+definitions_decide (variant.ScalarTypeDefinition n) (variant.ScalarTypeDefinition m) =
+    decided name.ScalarTypeDefinition _ _ (scalar_type_definitions_decide n.value m.value)
+definitions_decide (variant.ObjectTypeDefinition n) (variant.ObjectTypeDefinition m) =
+    decided name.ObjectTypeDefinition _ _ (object_type_definitions_decide n.value m.value)
+definitions_decide (variant.InterfaceTypeDefinition n) (variant.InterfaceTypeDefinition m) =
+    decided name.InterfaceTypeDefinition _ _ (interface_type_definitions_decide n.value m.value)
+definitions_decide (variant.UnionTypeDefinition n) (variant.UnionTypeDefinition m) =
+    decided name.UnionTypeDefinition _ _ (union_type_definitions_decide n.value m.value)
+definitions_decide (variant.EnumTypeDefinition n) (variant.EnumTypeDefinition m) =
+    decided name.EnumTypeDefinition _ _ (enum_type_definitions_decide n.value m.value)
+definitions_decide (variant.InputObjectTypeDefinition n) (variant.InputObjectTypeDefinition m) =
+    decided name.InputObjectTypeDefinition _ _ (input_object_type_definitions_decide n.value m.value)
 definitions_decide (variant.SchemaExtension n) (variant.SchemaExtension m) = decided name.SchemaExtension _ _ (schema_extensions_decide n.value m.value)
-definitions_decide (variant.ScalarTypeExtension n) (variant.ScalarTypeExtension m) = decided name.ScalarTypeExtension _ _ (scalar_type_extensions_decide n.value m.value)
-definitions_decide (variant.ObjectTypeExtension n) (variant.ObjectTypeExtension m) = decided name.ObjectTypeExtension _ _ (object_type_extensions_decide n.value m.value)
-definitions_decide (variant.InterfaceTypeExtension n) (variant.InterfaceTypeExtension m) = decided name.InterfaceTypeExtension _ _ (interface_type_extensions_decide n.value m.value)
-definitions_decide (variant.UnionTypeExtension n) (variant.UnionTypeExtension m) = decided name.UnionTypeExtension _ _ (union_type_extensions_decide n.value m.value)
-definitions_decide (variant.EnumTypeExtension n) (variant.EnumTypeExtension m) = decided name.EnumTypeExtension _ _ (enum_type_extensions_decide n.value m.value)
-definitions_decide (variant.InputObjectTypeExtension n) (variant.InputObjectTypeExtension m) = decided name.InputObjectTypeExtension _ _ (input_object_type_extensions_decide n.value m.value)
+definitions_decide (variant.ScalarTypeExtension n) (variant.ScalarTypeExtension m) =
+    decided name.ScalarTypeExtension _ _ (scalar_type_extensions_decide n.value m.value)
+definitions_decide (variant.ObjectTypeExtension n) (variant.ObjectTypeExtension m) =
+    decided name.ObjectTypeExtension _ _ (object_type_extensions_decide n.value m.value)
+definitions_decide (variant.InterfaceTypeExtension n) (variant.InterfaceTypeExtension m) =
+    decided name.InterfaceTypeExtension _ _ (interface_type_extensions_decide n.value m.value)
+definitions_decide (variant.UnionTypeExtension n) (variant.UnionTypeExtension m) =
+    decided name.UnionTypeExtension _ _ (union_type_extensions_decide n.value m.value)
+definitions_decide (variant.EnumTypeExtension n) (variant.EnumTypeExtension m) =
+    decided name.EnumTypeExtension _ _ (enum_type_extensions_decide n.value m.value)
+definitions_decide (variant.InputObjectTypeExtension n) (variant.InputObjectTypeExtension m) =
+    decided name.InputObjectTypeExtension _ _ (input_object_type_extensions_decide n.value m.value)
 definitions_decide a b = never (λ e. let names = ap (λ t. t.name) e in cc)
 
 pub documents_decide : (a b : Document) → Decides (document.ghosts.eq a b) (document_tree a ≡ document_tree b)

@@ -1,5 +1,10 @@
+-- Lemmas on the definitions of specs/.
+
+-- what the derived `==` of definitions and documents decides: whether their trees are the same
 pub mod AstEquality
+-- of Documents: the layout of documents, and the room that it needs on the stacks
 pub mod DocumentShapes
-pub mod FirstDefinitions
-pub mod ReadBack
-pub mod Readings
+-- of Definitions: what is no operation looks alike at the front of a print and behind something else
+pub mod FirstDefinition
+-- what worked examples are proved by
+pub mod examples

@@ -1,13 +1,15 @@
 -- How much room the definitions of a document need on the stacks that they are written with.
 use Rattle.std.specs.Prelude.{ℕ, Bool, true, false, if◌then◌else◌}
-use Rattle.graphql_text.specs.Stack.{IsReady}
+use Rattle.graphql_text.specs.code.Stack.{IsReady}
 use Rattle.graphql_text.specs.declared.place.Place.{Place}
-use Rattle.graphql_values.specs.ArgumentsDefinitions.{arguments_list_depth}
-use Rattle.graphql_values.specs.Stacks.{CanWriteDefinition}
-use Rattle.graphql_executable.specs.VariableDefinitions.{variables_list_depth}
+use Rattle.graphql_values.specs.kinds.ArgumentsDefinitions.{arguments_list_depth}
+use Rattle.graphql_values.specs.code.Stacks.{CanWriteDefinition}
+use Rattle.graphql_executable.specs.kinds.VariableDefinitions.{variables_list_depth}
 use Rattle.graphql_executable.specs.declared.stacks.ExecutableStacks.{ExecutableStacks}
-use Rattle.graphql_type_system.specs.ImplementingTypes.{fields_list_depth}
-use Rattle.graphql_ast.specs.Definitions.{DefinitionName, OperationDefinition, FragmentDefinition, DirectiveDefinition, ObjectTypeDefinition, InterfaceTypeDefinition, InputObjectTypeDefinition, ObjectTypeExtension, InterfaceTypeExtension, InputObjectTypeExtension, kind_named, DefinitionTree, definition_kind}
+use Rattle.graphql_type_system.specs.kinds.ImplementingTypes.{fields_list_depth}
+use Rattle.graphql_ast.specs.Definitions.{DefinitionName, OperationDefinition, FragmentDefinition, DirectiveDefinition}
+use Rattle.graphql_ast.specs.Definitions.{ObjectTypeDefinition, InterfaceTypeDefinition, InputObjectTypeDefinition, ObjectTypeExtension}
+use Rattle.graphql_ast.specs.Definitions.{InterfaceTypeExtension, InputObjectTypeExtension, kind_named, DefinitionTree, definition_kind}
 
 -- the lists around the type in a definition that has the most of them
 abbrev pub list_depth_named : (name : DefinitionName) → (kind_named name).Tree → ℕ

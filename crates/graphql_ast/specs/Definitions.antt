@@ -1,35 +1,27 @@
 -- Definitions: Definition, section 2.2. Each of the seventeen kinds of definitions and extensions is one.
-use Rattle.graphql_text.specs.Kinds.{Kind}
-use Rattle.graphql_executable.specs.OperationDefinitions.{operation_definition_kind}
-use Rattle.graphql_executable.specs.FragmentDefinitions.{fragment_definition_kind}
-use Rattle.graphql_values.specs.DirectiveDefinitions.{directive_definition_kind}
-use Rattle.graphql_type_system.specs.Schemas.{schema_definition_kind, schema_extension_kind}
-use Rattle.graphql_type_system.specs.ScalarTypes.{scalar_type_definition_kind, scalar_type_extension_kind}
-use Rattle.graphql_type_system.specs.ObjectTypes.{object_type_definition_kind, object_type_extension_kind}
-use Rattle.graphql_type_system.specs.InterfaceTypes.{interface_type_definition_kind, interface_type_extension_kind}
-use Rattle.graphql_type_system.specs.UnionTypes.{union_type_definition_kind, union_type_extension_kind}
-use Rattle.graphql_type_system.specs.EnumTypes.{enum_type_definition_kind, enum_type_extension_kind}
-use Rattle.graphql_type_system.specs.InputObjectTypes.{input_object_type_definition_kind, input_object_type_extension_kind}
+use Rattle.graphql_text.specs.kinds.Kinds.{Kind}
+use Rattle.graphql_executable.specs.kinds.OperationDefinitions.{operation_definition_kind}
+use Rattle.graphql_executable.specs.kinds.FragmentDefinitions.{fragment_definition_kind}
+use Rattle.graphql_values.specs.kinds.DirectiveDefinitions.{directive_definition_kind}
+use Rattle.graphql_type_system.specs.kinds.Schemas.{schema_definition_kind, schema_extension_kind}
+use Rattle.graphql_type_system.specs.kinds.ScalarTypes.{scalar_type_definition_kind, scalar_type_extension_kind}
+use Rattle.graphql_type_system.specs.kinds.ObjectTypes.{object_type_definition_kind, object_type_extension_kind}
+use Rattle.graphql_type_system.specs.kinds.InterfaceTypes.{interface_type_definition_kind, interface_type_extension_kind}
+use Rattle.graphql_type_system.specs.kinds.UnionTypes.{union_type_definition_kind, union_type_extension_kind}
+use Rattle.graphql_type_system.specs.kinds.EnumTypes.{enum_type_definition_kind, enum_type_extension_kind}
+use Rattle.graphql_type_system.specs.kinds.InputObjectTypes.{input_object_type_definition_kind, input_object_type_extension_kind}
 
 -- which of the seventeen it is
 pub data DefinitionName : Type 0 where
-  OperationDefinition : DefinitionName
-  FragmentDefinition : DefinitionName
-  DirectiveDefinition : DefinitionName
-  SchemaDefinition : DefinitionName
-  ScalarTypeDefinition : DefinitionName
-  ObjectTypeDefinition : DefinitionName
-  InterfaceTypeDefinition : DefinitionName
-  UnionTypeDefinition : DefinitionName
-  EnumTypeDefinition : DefinitionName
-  InputObjectTypeDefinition : DefinitionName
+  -- ExecutableDefinition, section 2.2
+  OperationDefinition FragmentDefinition : DefinitionName
+  -- TypeSystemDefinition, section 3
+  DirectiveDefinition SchemaDefinition : DefinitionName
+  -- TypeDefinition, section 3.4
+  ScalarTypeDefinition ObjectTypeDefinition InterfaceTypeDefinition UnionTypeDefinition EnumTypeDefinition InputObjectTypeDefinition : DefinitionName
+  -- TypeSystemExtension, section 3.1, and TypeExtension, section 3.4.3
   SchemaExtension : DefinitionName
-  ScalarTypeExtension : DefinitionName
-  ObjectTypeExtension : DefinitionName
-  InterfaceTypeExtension : DefinitionName
-  UnionTypeExtension : DefinitionName
-  EnumTypeExtension : DefinitionName
-  InputObjectTypeExtension : DefinitionName
+  ScalarTypeExtension ObjectTypeExtension InterfaceTypeExtension UnionTypeExtension EnumTypeExtension InputObjectTypeExtension : DefinitionName
 
 abbrev pub kind_named : DefinitionName → Kind
 kind_named OperationDefinition = operation_definition_kind
@@ -63,5 +55,4 @@ definition_kind = record {
   obeys = λ definition. (kind_named definition.name).obeys definition.tree;
   shape = λ broken front definition. (kind_named definition.name).shape broken front definition.tree;
   nesting = λ definition. (kind_named definition.name).nesting definition.tree;
-  entries = λ definition. (kind_named definition.name).entries definition.tree;
 }

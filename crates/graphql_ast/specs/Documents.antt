@@ -1,11 +1,11 @@
 -- Documents: Document, section 2.2.
 use Rattle.std.specs.Prelude.{List, [], ◌∷◌, ◌++◌, Bool, false, ◌&&◌}
 use Rattle.std.specs.List.{list_all}
-use Rattle.graphql_text.specs.Forms.{nonempty_list_of}
-use Rattle.graphql_text.specs.Greatest.{greatest}
-use Rattle.graphql_text.specs.Kinds.{Kind}
-use Rattle.graphql_text.specs.Layout.{Item, Blank, Finish}
-use Rattle.graphql_text.specs.Members.{has_some}
+use Rattle.graphql_text.specs.grammar.Forms.{nonempty_list_of}
+use Rattle.graphql_text.specs.parts.Greatest.{greatest}
+use Rattle.graphql_text.specs.kinds.Kinds.{Kind}
+use Rattle.graphql_text.specs.layout.Layout.{Item, Blank, Finish}
+use Rattle.graphql_text.specs.parts.Members.{has_some}
 use Rattle.graphql_ast.specs.Definitions.{DefinitionTree, definition_kind}
 
 -- The layout behind the first definition: an empty line before each that follows, or a space on one line, and a line feed at the end, unless it
@@ -28,5 +28,4 @@ document_kind = record {
   obeys = λ definitions. has_some definitions && list_all definition_kind.obeys definitions;
   shape = document_shape;
   nesting = greatest definition_kind.nesting;
-  entries = greatest definition_kind.entries;
 }

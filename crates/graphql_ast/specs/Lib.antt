@@ -1,17 +1,20 @@
--- Documents: definitions, and documents of them.
+-- Documents: definitions, and documents of them. Then, under their own names, the pages of the crates below that contracts cite.
+
+-- definitions, section 2.2: each of the seventeen kinds is one
 pub mod Definitions
+-- documents, section 2.2
 pub mod Documents
--- the trees that the types of the code stand for
+-- the trees that definitions and documents of the code stand for
 pub mod AstTrees
--- what holds of all that is printed
-pub mod ReadBack
--- what calls answer, and the sources of a document
+-- what a definition of the code answers
 pub mod DefinitionQueries
+-- the source texts of a document, which are no part of its tree
 pub mod Sources
--- with which stacks documents are written
+-- how much room the definitions of a document need on the stacks that they are written with
 pub mod AstStacks
--- examples, and lemmas
-pub mod Examples
+-- examples that laws speak of
+pub mod examples
+-- lemmas that impls and laws cite, no definitions: definitions and documents as parts, and their laws
 pub mod lemmas
 -- what the crates below say of names and nodes, of texts and prints, and of each kind: all but what writers and lemmas need
 pub use Rattle.graphql_base.specs.Name
@@ -20,76 +23,78 @@ pub use Rattle.graphql_base.specs.Names
 pub use Rattle.graphql_base.specs.Node
 pub use Rattle.graphql_base.specs.NodeLoans
 pub use Rattle.graphql_base.specs.Span
-pub use Rattle.graphql_text.specs.Characters
-pub use Rattle.graphql_text.specs.BlockStringValue
-pub use Rattle.graphql_text.specs.Strings
-pub use Rattle.graphql_text.specs.Tokens
-pub use Rattle.graphql_text.specs.QuotedForm
-pub use Rattle.graphql_text.specs.BlockForm
-pub use Rattle.graphql_text.specs.Literals as LiteralSyntax
-pub use Rattle.graphql_text.specs.Layout
-pub use Rattle.graphql_text.specs.Nesting
-pub use Rattle.graphql_text.specs.Greatest
-pub use Rattle.graphql_text.specs.Lines
-pub use Rattle.graphql_text.specs.Levels
-pub use Rattle.graphql_text.specs.Forms
-pub use Rattle.graphql_text.specs.OneReading
-pub use Rattle.graphql_text.specs.Kinds
-pub use Rattle.graphql_text.specs.Optional
-pub use Rattle.graphql_text.specs.Descriptions
-pub use Rattle.graphql_text.specs.Extensions
-pub use Rattle.graphql_text.specs.Members
-pub use Rattle.graphql_text.specs.Parentheses
-pub use Rattle.graphql_text.specs.JoinedNames
-pub use Rattle.graphql_text.specs.Leaves
-pub use Rattle.graphql_text.specs.Reading
-pub use Rattle.graphql_text.specs.Printing
-pub use Rattle.graphql_text.specs.Sinks
-pub use Rattle.graphql_text.specs.Stream
-pub use Rattle.graphql_text.specs.Comparisons
-pub use Rattle.graphql_values.specs.Values
-pub use Rattle.graphql_values.specs.TypeReferences
-pub use Rattle.graphql_values.specs.Wrappings
-pub use Rattle.graphql_values.specs.Arguments
-pub use Rattle.graphql_values.specs.Directives
-pub use Rattle.graphql_values.specs.DefaultValues
-pub use Rattle.graphql_values.specs.InputValueDefinitions
-pub use Rattle.graphql_values.specs.ArgumentsDefinitions
-pub use Rattle.graphql_values.specs.OperationTypes
-pub use Rattle.graphql_values.specs.DirectiveLocations
-pub use Rattle.graphql_values.specs.DirectiveDefinitions
-pub use Rattle.graphql_values.specs.Literals
-pub use Rattle.graphql_values.specs.ValueTrees
-pub use Rattle.graphql_values.specs.TypeTrees
-pub use Rattle.graphql_values.specs.DirectiveTrees
-pub use Rattle.graphql_values.specs.LocationTrees
-pub use Rattle.graphql_values.specs.DefinitionTrees
-pub use Rattle.graphql_values.specs.ValueQueries
-pub use Rattle.graphql_values.specs.Queries
-pub use Rattle.graphql_values.specs.ArgumentValues
-pub use Rattle.graphql_values.specs.Loans
-pub use Rattle.graphql_executable.specs.VariableDefinitions
-pub use Rattle.graphql_executable.specs.FragmentNames
-pub use Rattle.graphql_executable.specs.FragmentSpreads
-pub use Rattle.graphql_executable.specs.SelectionHeads
-pub use Rattle.graphql_executable.specs.Selections
-pub use Rattle.graphql_executable.specs.Fields
-pub use Rattle.graphql_executable.specs.InlineFragments
-pub use Rattle.graphql_executable.specs.OperationDefinitions
-pub use Rattle.graphql_executable.specs.FragmentDefinitions
-pub use Rattle.graphql_executable.specs.ExecutableTrees
-pub use Rattle.graphql_executable.specs.SelectionQueries
-pub use Rattle.graphql_type_system.specs.Keywords
-pub use Rattle.graphql_type_system.specs.Schemas
-pub use Rattle.graphql_type_system.specs.ScalarTypes
-pub use Rattle.graphql_type_system.specs.FieldDefinitions
-pub use Rattle.graphql_type_system.specs.ImplementingTypes
-pub use Rattle.graphql_type_system.specs.ObjectTypes
-pub use Rattle.graphql_type_system.specs.InterfaceTypes
-pub use Rattle.graphql_type_system.specs.UnionTypes
-pub use Rattle.graphql_type_system.specs.EnumValueDefinitions
-pub use Rattle.graphql_type_system.specs.BracedTypes
-pub use Rattle.graphql_type_system.specs.EnumTypes
-pub use Rattle.graphql_type_system.specs.InputObjectTypes
-pub use Rattle.graphql_type_system.specs.MemberTrees
-pub use Rattle.graphql_type_system.specs.TypeSystemTrees
+pub use Rattle.graphql_text.specs.lexical.Characters
+pub use Rattle.graphql_text.specs.strings.BlockStringValue
+pub use Rattle.graphql_text.specs.strings.Strings
+pub use Rattle.graphql_text.specs.lexical.Tokens
+pub use Rattle.graphql_text.specs.strings.QuotedForm
+pub use Rattle.graphql_text.specs.strings.BlockForm
+pub use Rattle.graphql_text.specs.lexical.Literals as LiteralSyntax
+pub use Rattle.graphql_text.specs.layout.Layout
+pub use Rattle.graphql_text.specs.layout.Nesting
+pub use Rattle.graphql_text.specs.parts.Greatest
+pub use Rattle.graphql_text.specs.layout.Lines
+pub use Rattle.graphql_text.specs.layout.Levels
+pub use Rattle.graphql_text.specs.grammar.Forms
+pub use Rattle.graphql_text.specs.grammar.OneReading
+pub use Rattle.graphql_text.specs.kinds.Kinds
+pub use Rattle.graphql_text.specs.parts.Optional
+pub use Rattle.graphql_text.specs.parts.Descriptions
+pub use Rattle.graphql_text.specs.parts.Extensions
+pub use Rattle.graphql_text.specs.parts.Members
+pub use Rattle.graphql_text.specs.parts.Parentheses
+pub use Rattle.graphql_text.specs.parts.JoinedNames
+pub use Rattle.graphql_text.specs.trees.Leaves
+pub use Rattle.graphql_text.specs.kinds.Reading
+pub use Rattle.graphql_text.specs.kinds.Printing
+pub use Rattle.graphql_text.specs.kinds.PrintedKinds
+pub use Rattle.graphql_text.specs.parts.PrintedParts
+pub use Rattle.graphql_text.specs.layout.Spelling
+pub use Rattle.graphql_text.specs.code.Sinks
+pub use Rattle.graphql_text.specs.code.Stream
+pub use Rattle.graphql_text.specs.trees.Comparisons
+pub use Rattle.graphql_values.specs.kinds.Values
+pub use Rattle.graphql_values.specs.kinds.TypeReferences
+pub use Rattle.graphql_values.specs.kinds.Wrappings
+pub use Rattle.graphql_values.specs.kinds.Arguments
+pub use Rattle.graphql_values.specs.kinds.Directives
+pub use Rattle.graphql_values.specs.kinds.DefaultValues
+pub use Rattle.graphql_values.specs.kinds.InputValueDefinitions
+pub use Rattle.graphql_values.specs.kinds.ArgumentsDefinitions
+pub use Rattle.graphql_values.specs.kinds.OperationTypes
+pub use Rattle.graphql_values.specs.kinds.DirectiveLocations
+pub use Rattle.graphql_values.specs.kinds.DirectiveDefinitions
+pub use Rattle.graphql_values.specs.trees.Literals
+pub use Rattle.graphql_values.specs.trees.ValueTrees
+pub use Rattle.graphql_values.specs.trees.TypeTrees
+pub use Rattle.graphql_values.specs.trees.DirectiveTrees
+pub use Rattle.graphql_values.specs.trees.LocationTrees
+pub use Rattle.graphql_values.specs.trees.DefinitionTrees
+pub use Rattle.graphql_values.specs.code.ValueQueries
+pub use Rattle.graphql_values.specs.code.Queries
+pub use Rattle.graphql_values.specs.code.ArgumentValues
+pub use Rattle.graphql_values.specs.code.Loans
+pub use Rattle.graphql_executable.specs.kinds.VariableDefinitions
+pub use Rattle.graphql_executable.specs.kinds.FragmentNames
+pub use Rattle.graphql_executable.specs.kinds.FragmentSpreads
+pub use Rattle.graphql_executable.specs.kinds.SelectionHeads
+pub use Rattle.graphql_executable.specs.kinds.Selections
+pub use Rattle.graphql_executable.specs.kinds.Fields
+pub use Rattle.graphql_executable.specs.kinds.InlineFragments
+pub use Rattle.graphql_executable.specs.kinds.OperationDefinitions
+pub use Rattle.graphql_executable.specs.kinds.FragmentDefinitions
+pub use Rattle.graphql_executable.specs.trees.ExecutableTrees
+pub use Rattle.graphql_executable.specs.code.SelectionQueries
+pub use Rattle.graphql_type_system.specs.kinds.Keywords
+pub use Rattle.graphql_type_system.specs.kinds.Schemas
+pub use Rattle.graphql_type_system.specs.kinds.ScalarTypes
+pub use Rattle.graphql_type_system.specs.kinds.FieldDefinitions
+pub use Rattle.graphql_type_system.specs.kinds.ImplementingTypes
+pub use Rattle.graphql_type_system.specs.kinds.ObjectTypes
+pub use Rattle.graphql_type_system.specs.kinds.InterfaceTypes
+pub use Rattle.graphql_type_system.specs.kinds.UnionTypes
+pub use Rattle.graphql_type_system.specs.kinds.EnumValueDefinitions
+pub use Rattle.graphql_type_system.specs.kinds.BracedTypes
+pub use Rattle.graphql_type_system.specs.kinds.EnumTypes
+pub use Rattle.graphql_type_system.specs.kinds.InputObjectTypes
+pub use Rattle.graphql_type_system.specs.trees.TypeSystemTrees

@@ -1,3 +1,6 @@
--- Lemmas that impls and laws cite, no definitions that a contract cites: definitions and documents as parts, and their laws.
+-- Lemmas that impls and laws cite, no definitions: definitions and documents as parts, and their laws.
+
+-- of Definitions
 pub mod Definitions
+-- of Documents
 pub mod Documents

@@ -409,7 +409,8 @@ impl From<Node<EnumTypeDefinition>> for Definition {
 }
 
 impl From<Node<InputObjectTypeDefinition>> for Definition {
-    ghost from_gives = { λ node definition. input_object_type_definition_of definition ≡ Some node };
+    ghost from_gives = { λ node definition.
+        input_object_type_definition_of definition ≡ Some node };
 
     fn from(node: Node<InputObjectTypeDefinition>) -> Definition {
         Definition::InputObjectTypeDefinition(node)

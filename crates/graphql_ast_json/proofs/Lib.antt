@@ -1,15 +1,10 @@
-pub mod Drafts
-pub mod Present
-pub mod Trees
-pub mod WrittenLists
-pub mod Outcomes
-pub mod Depths
-pub mod Each
-pub mod NodeKinds
-pub mod Names
-pub mod Passed
-pub mod TypeKinds
-pub mod ValueKinds
-pub mod SelectionKinds
-pub mod SelectionTrees
-pub mod Strings
+-- Lemmas on the definitions of specs/.
+
+-- lemmas that know nothing of JSON
+pub mod general
+-- of nodes of any kind
+pub mod nodes
+-- of the JSON of kinds
+pub mod kinds
+-- of the trees that types of the code stand for
+pub mod trees

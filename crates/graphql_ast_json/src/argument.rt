@@ -1,7 +1,7 @@
 //! Arguments in AST JSON.
-ghost use Rattle.graphql_values.specs.Arguments.{ArgumentTree};
-ghost use Rattle.graphql_values.specs.DirectiveTrees.{argument_tree};
-ghost use Rattle.graphql_ast_json.specs.DirectiveJson.{IsArgument};
+ghost use Rattle.graphql_values.specs.kinds.Arguments.{ArgumentTree};
+ghost use Rattle.graphql_values.specs.trees.DirectiveTrees.{argument_tree};
+ghost use Rattle.graphql_ast_json.specs.kinds.DirectiveJson.{IsArgument};
 ghost use Rattle.graphql_ast_json.specs.lemmas.DirectiveNodes.{argument_located, argument_never_null, same_argument};
 
 use crate::ast_json::{AstJson, AstNode};

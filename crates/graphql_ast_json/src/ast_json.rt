@@ -4,9 +4,9 @@ ghost use Rattle.serde_json.specs.Data.{Data};
 ghost use Rattle.serde_json.specs.Read.{read};
 ghost use Rattle.serde_json.specs.View.{view};
 ghost use Rattle.graphql_base.specs.Node.{node_value};
-ghost use Rattle.graphql_ast_json.specs.Errors.{IsMemory};
-ghost use Rattle.graphql_ast_json.specs.Nodes.{Anywhere, IsLocated};
-ghost use Rattle.graphql_ast_json.specs.OneTree.{IsNeverNull, IsOfOneTree};
+ghost use Rattle.graphql_ast_json.specs.code.Errors.{IsMemory};
+ghost use Rattle.graphql_ast_json.specs.nodes.Nodes.{Anywhere, IsLocated};
+ghost use Rattle.graphql_ast_json.specs.nodes.OneTree.{IsNeverNull, IsOfOneTree};
 
 use crate::error::AstJsonError;
 use crate::read::node::{location, node_of};
@@ -66,7 +66,8 @@ pub trait AstNode: AstJson {
         ensures { IfOk result (λ json. Self.is_json_of (Self.tree self.now) (view json)) };
 
     /// The JSON tells where the node stands, or doesn't tell.
-    ghost located: { (tree : Self.Tree) (json : Data) → Self.is_json_of tree json → IsLocated Anywhere json };
+    ghost located: { (tree : Self.Tree) (json : Data) → Self.is_json_of tree json →
+        IsLocated Anywhere json };
 }
 
 impl<T: AstNode + Drop> AstJson for Node<T> {

@@ -1,7 +1,7 @@
 //! Definitions in AST JSON: each is the node that it is by itself.
 ghost use Rattle.graphql_ast.specs.AstTrees.{definition_tree};
 ghost use Rattle.graphql_ast.specs.Definitions.{DefinitionTree};
-ghost use Rattle.graphql_ast_json.specs.DocumentJson.{IsAnyDefinition};
+ghost use Rattle.graphql_ast_json.specs.kinds.DocumentJson.{IsAnyDefinition};
 ghost use Rattle.graphql_ast_json.specs.lemmas.DocumentNodes.{any_definition_never_null, same_any_definition};
 
 use crate::ast_json::AstJson;

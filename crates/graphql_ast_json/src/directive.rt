@@ -1,7 +1,7 @@
 //! Directives in AST JSON.
-ghost use Rattle.graphql_values.specs.Directives.{DirectiveTree};
-ghost use Rattle.graphql_values.specs.DirectiveTrees.{directive_tree};
-ghost use Rattle.graphql_ast_json.specs.DirectiveJson.{IsDirective};
+ghost use Rattle.graphql_values.specs.kinds.Directives.{DirectiveTree};
+ghost use Rattle.graphql_values.specs.trees.DirectiveTrees.{directive_tree};
+ghost use Rattle.graphql_ast_json.specs.kinds.DirectiveJson.{IsDirective};
 ghost use Rattle.graphql_ast_json.specs.lemmas.DirectiveNodes.{directive_located, directive_never_null, same_directive};
 
 use crate::ast_json::{AstJson, AstNode};

@@ -1,7 +1,7 @@
 //! Definitions of directives in AST JSON.
-ghost use Rattle.graphql_values.specs.DefinitionTrees.{directive_definition_tree};
-ghost use Rattle.graphql_values.specs.DirectiveDefinitions.{directive_definition_kind};
-ghost use Rattle.graphql_ast_json.specs.DefinitionJson.{IsDirectiveDefinition};
+ghost use Rattle.graphql_values.specs.trees.DefinitionTrees.{directive_definition_tree};
+ghost use Rattle.graphql_values.specs.kinds.DirectiveDefinitions.{directive_definition_kind};
+ghost use Rattle.graphql_ast_json.specs.kinds.DefinitionJson.{IsDirectiveDefinition};
 ghost use Rattle.graphql_ast_json.specs.lemmas.DefinitionNodes.{directive_definition_located, directive_definition_never_null, same_directive_definition};
 
 use crate::ast_json::{AstJson, AstNode};

@@ -1,8 +1,8 @@
 //! Lists of directives in AST JSON: arrays.
 ghost use Rattle.std.specs.Prelude.{List};
-ghost use Rattle.graphql_values.specs.Directives.{DirectiveTree};
-ghost use Rattle.graphql_values.specs.DirectiveTrees.{directive_trees};
-ghost use Rattle.graphql_ast_json.specs.DirectiveJson.{AreDirectives};
+ghost use Rattle.graphql_values.specs.kinds.Directives.{DirectiveTree};
+ghost use Rattle.graphql_values.specs.trees.DirectiveTrees.{directive_trees};
+ghost use Rattle.graphql_ast_json.specs.kinds.DirectiveJson.{AreDirectives};
 ghost use Rattle.graphql_ast_json.specs.lemmas.DirectiveNodes.{directives_never_null, same_directives};
 
 use crate::ast_json::AstJson;

@@ -1,8 +1,8 @@
 //! Directive locations in AST JSON: nodes of the kind `Name`.
 ghost use Rattle.std.specs.Prelude.{◌≡◌, IfSome, IsNone};
-ghost use Rattle.graphql_values.specs.DirectiveLocations.{DirectiveLocationTree, location_name};
-ghost use Rattle.graphql_values.specs.LocationTrees.{location_tree};
-ghost use Rattle.graphql_ast_json.specs.DefinitionJson.{IsDirectiveLocation};
+ghost use Rattle.graphql_values.specs.kinds.DirectiveLocations.{DirectiveLocationTree, location_name};
+ghost use Rattle.graphql_values.specs.trees.LocationTrees.{location_tree};
+ghost use Rattle.graphql_ast_json.specs.kinds.DefinitionJson.{IsDirectiveLocation};
 ghost use Rattle.graphql_ast_json.specs.lemmas.DefinitionNodes.{location_never_null, same_location};
 
 use crate::ast_json::AstJson;

@@ -2,7 +2,7 @@
 ghost use Rattle.std.specs.Prelude.{List};
 ghost use Rattle.graphql_ast.specs.AstTrees.{document_tree};
 ghost use Rattle.graphql_ast.specs.Definitions.{DefinitionTree};
-ghost use Rattle.graphql_ast_json.specs.DocumentJson.{IsDocument};
+ghost use Rattle.graphql_ast_json.specs.kinds.DocumentJson.{IsDocument};
 ghost use Rattle.graphql_ast_json.specs.lemmas.DocumentNodes.{document_located, document_never_null, same_document};
 
 use crate::ast_json::{AstJson, AstNode};

@@ -1,8 +1,8 @@
 //! Enum types in AST JSON: definitions and extensions.
 ghost use Rattle.std.specs.Prelude.{codes};
-ghost use Rattle.graphql_type_system.specs.EnumTypes.{enum_type_definition_kind, enum_type_extension_kind};
-ghost use Rattle.graphql_type_system.specs.TypeSystemTrees.{enum_type_definition_tree, enum_type_extension_tree};
-ghost use Rattle.graphql_ast_json.specs.TypeSystemJson.{HasEnumType, IsEnumTypeDefinition, IsEnumTypeExtension, enum_type_members};
+ghost use Rattle.graphql_type_system.specs.kinds.EnumTypes.{enum_type_definition_kind, enum_type_extension_kind};
+ghost use Rattle.graphql_type_system.specs.trees.TypeSystemTrees.{enum_type_definition_tree, enum_type_extension_tree};
+ghost use Rattle.graphql_ast_json.specs.kinds.TypeSystemJson.{HasEnumType, IsEnumTypeDefinition, IsEnumTypeExtension, enum_type_members};
 ghost use Rattle.graphql_ast_json.specs.lemmas.TypeSystemNodes.{definition_located, definition_never_null, extension_located, extension_never_null, same_definition, same_enum_type, same_extension};
 
 use crate::ast_json::{AstJson, AstNode};
@@ -30,7 +30,8 @@ impl AstJson for EnumTypeDefinition {
     ghost one_tree = { same_definition (codes "EnumTypeDefinition") enum_type_members HasEnumType
         same_enum_type };
 
-    ghost never_null = { definition_never_null (codes "EnumTypeDefinition") enum_type_members HasEnumType };
+    ghost never_null = { definition_never_null
+        (codes "EnumTypeDefinition") enum_type_members HasEnumType };
 
     fn from_ast_json(
         alloc: Global,
@@ -64,7 +65,8 @@ impl AstJson for EnumTypeDefinition {
 }
 
 impl AstNode for EnumTypeDefinition {
-    ghost located = { definition_located (codes "EnumTypeDefinition") enum_type_members HasEnumType };
+    ghost located = { definition_located
+        (codes "EnumTypeDefinition") enum_type_members HasEnumType };
 
     fn to_ast_json_at(
         &self,
@@ -90,7 +92,8 @@ impl AstJson for EnumTypeExtension {
     ghost one_tree = { same_extension (codes "EnumTypeExtension") enum_type_members HasEnumType
         same_enum_type };
 
-    ghost never_null = { extension_never_null (codes "EnumTypeExtension") enum_type_members HasEnumType };
+    ghost never_null = { extension_never_null
+        (codes "EnumTypeExtension") enum_type_members HasEnumType };
 
     fn from_ast_json(
         alloc: Global,

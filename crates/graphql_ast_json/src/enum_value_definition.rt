@@ -1,8 +1,8 @@
 //! Definitions of enum values in AST JSON.
 ghost use Rattle.std.specs.Prelude.{codes};
-ghost use Rattle.graphql_type_system.specs.EnumValueDefinitions.{enum_value_definition_kind};
-ghost use Rattle.graphql_type_system.specs.TypeSystemTrees.{enum_value_definition_tree};
-ghost use Rattle.graphql_ast_json.specs.TypeSystemJson.{HasEnumValue, IsEnumValueDefinition, enum_value_members};
+ghost use Rattle.graphql_type_system.specs.kinds.EnumValueDefinitions.{enum_value_definition_kind};
+ghost use Rattle.graphql_type_system.specs.trees.TypeSystemTrees.{enum_value_definition_tree};
+ghost use Rattle.graphql_ast_json.specs.kinds.TypeSystemJson.{HasEnumValue, IsEnumValueDefinition, enum_value_members};
 ghost use Rattle.graphql_ast_json.specs.lemmas.TypeSystemNodes.{definition_located, definition_never_null, same_definition, same_enum_value};
 
 use crate::ast_json::{AstJson, AstNode};
@@ -29,7 +29,8 @@ impl AstJson for EnumValueDefinition {
     ghost one_tree = { same_definition (codes "EnumValueDefinition") enum_value_members HasEnumValue
         same_enum_value };
 
-    ghost never_null = { definition_never_null (codes "EnumValueDefinition") enum_value_members HasEnumValue };
+    ghost never_null = { definition_never_null
+        (codes "EnumValueDefinition") enum_value_members HasEnumValue };
 
     fn from_ast_json(
         alloc: Global,
@@ -59,7 +60,8 @@ impl AstJson for EnumValueDefinition {
 }
 
 impl AstNode for EnumValueDefinition {
-    ghost located = { definition_located (codes "EnumValueDefinition") enum_value_members HasEnumValue };
+    ghost located = { definition_located
+        (codes "EnumValueDefinition") enum_value_members HasEnumValue };
 
     fn to_ast_json_at(
         &self,

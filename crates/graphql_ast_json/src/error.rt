@@ -66,7 +66,7 @@ pub struct JsonPath {
 
 impl JsonPath {
     ghost use Rattle.std.specs.Prelude.{[], IfOk};
-    ghost use Rattle.graphql_ast_json.specs.Paths.{path_text, path_in, begins_with_name, item_name};
+    ghost use Rattle.graphql_ast_json.specs.code.Paths.{path_text, path_in, begins_with_name, item_name};
 
     pub(crate) fn root(alloc: Global) -> JsonPath
         ensures { path_text result ≡ [] }
@@ -147,7 +147,7 @@ pub enum AstJsonError {
 }
 
 impl From<AllocError> for AstJsonError {
-    ghost use Rattle.graphql_ast_json.specs.Errors.{IsMemory};
+    ghost use Rattle.graphql_ast_json.specs.code.Errors.{IsMemory};
 
     ghost from_gives = { λ _ error. IsMemory error };
 
@@ -157,7 +157,7 @@ impl From<AllocError> for AstJsonError {
 }
 
 impl<T: Drop> From<AllocFailed<T>> for AstJsonError {
-    ghost use Rattle.graphql_ast_json.specs.Errors.{IsMemory};
+    ghost use Rattle.graphql_ast_json.specs.code.Errors.{IsMemory};
 
     ghost from_gives = { λ _ error. IsMemory error };
 
@@ -167,7 +167,7 @@ impl<T: Drop> From<AllocFailed<T>> for AstJsonError {
 }
 
 impl AstJsonError {
-    ghost use Rattle.graphql_ast_json.specs.Errors.{IsMemory};
+    ghost use Rattle.graphql_ast_json.specs.code.Errors.{IsMemory};
 
     /// A problem of the JSON itself that is read.
     pub(crate) fn here(alloc: Global, problem: AstJsonProblem) -> AstJsonError {

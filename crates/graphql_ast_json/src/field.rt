@@ -1,7 +1,7 @@
 //! Fields in AST JSON.
-ghost use Rattle.graphql_executable.specs.ExecutableTrees.{field_tree};
-ghost use Rattle.graphql_executable.specs.Fields.{FieldTree};
-ghost use Rattle.graphql_ast_json.specs.ExecutableJson.{IsField};
+ghost use Rattle.graphql_executable.specs.trees.ExecutableTrees.{field_tree};
+ghost use Rattle.graphql_executable.specs.kinds.Fields.{FieldTree};
+ghost use Rattle.graphql_ast_json.specs.kinds.ExecutableJson.{IsField};
 ghost use Rattle.graphql_ast_json.specs.lemmas.ExecutableNodes.{field_located, field_never_null, same_field};
 
 use crate::ast_json::{AstJson, AstNode};

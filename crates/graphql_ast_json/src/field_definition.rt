@@ -1,8 +1,8 @@
 //! Definitions of fields in AST JSON.
 ghost use Rattle.std.specs.Prelude.{codes};
-ghost use Rattle.graphql_type_system.specs.FieldDefinitions.{field_definition_kind};
-ghost use Rattle.graphql_type_system.specs.TypeSystemTrees.{field_definition_tree};
-ghost use Rattle.graphql_ast_json.specs.TypeSystemJson.{HasField, IsFieldDefinition, field_members};
+ghost use Rattle.graphql_type_system.specs.kinds.FieldDefinitions.{field_definition_kind};
+ghost use Rattle.graphql_type_system.specs.trees.TypeSystemTrees.{field_definition_tree};
+ghost use Rattle.graphql_ast_json.specs.kinds.TypeSystemJson.{HasField, IsFieldDefinition, field_members};
 ghost use Rattle.graphql_ast_json.specs.lemmas.TypeSystemNodes.{definition_located, definition_never_null, same_definition, same_field};
 
 use crate::ast_json::{AstJson, AstNode};

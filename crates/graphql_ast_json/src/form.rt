@@ -2,14 +2,14 @@
 ghost use Rattle.std.specs.Prelude.{IfOk, IfErr};
 ghost use Rattle.serde_json.specs.Data.{Data};
 ghost use Rattle.serde_json.specs.View.{view};
-ghost use Rattle.graphql_text.specs.Leaves.{name_tree};
-ghost use Rattle.graphql_text.specs.Literals.{NameText};
-ghost use Rattle.graphql_executable.specs.ExecutableTrees.{selection_trees};
-ghost use Rattle.graphql_executable.specs.Selections.{SelectionTrees};
-ghost use Rattle.graphql_ast_json.specs.Errors.{IsMemory};
-ghost use Rattle.graphql_ast_json.specs.ExecutableJson.{IsSelectionSet, IsVariable};
-ghost use Rattle.graphql_ast_json.specs.OneTree.{IsNeverNull};
-ghost use Rattle.graphql_ast_json.specs.TypeJson.{IsNamedType};
+ghost use Rattle.graphql_text.specs.trees.Leaves.{name_tree};
+ghost use Rattle.graphql_text.specs.lexical.Literals.{NameText};
+ghost use Rattle.graphql_executable.specs.trees.ExecutableTrees.{selection_trees};
+ghost use Rattle.graphql_executable.specs.kinds.Selections.{SelectionTrees};
+ghost use Rattle.graphql_ast_json.specs.code.Errors.{IsMemory};
+ghost use Rattle.graphql_ast_json.specs.kinds.ExecutableJson.{IsSelectionSet, IsVariable};
+ghost use Rattle.graphql_ast_json.specs.nodes.OneTree.{IsNeverNull};
+ghost use Rattle.graphql_ast_json.specs.kinds.TypeJson.{IsNamedType};
 ghost use Rattle.graphql_ast_json.specs.lemmas.ExecutableNodes.{selection_set_never_null, variable_never_null};
 ghost use Rattle.graphql_ast_json.specs.lemmas.TypeNodes.{named_type_never_null};
 

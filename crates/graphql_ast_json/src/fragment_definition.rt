@@ -1,8 +1,8 @@
 //! Definitions of fragments in AST JSON.
 ghost use Rattle.std.specs.Prelude.{codes};
-ghost use Rattle.graphql_executable.specs.ExecutableTrees.{fragment_definition_tree};
-ghost use Rattle.graphql_executable.specs.FragmentDefinitions.{fragment_definition_kind};
-ghost use Rattle.graphql_ast_json.specs.ExecutableJson.{HasFragmentDefinition, IsFragmentDefinition, fragment_definition_members};
+ghost use Rattle.graphql_executable.specs.trees.ExecutableTrees.{fragment_definition_tree};
+ghost use Rattle.graphql_executable.specs.kinds.FragmentDefinitions.{fragment_definition_kind};
+ghost use Rattle.graphql_ast_json.specs.kinds.ExecutableJson.{HasFragmentDefinition, IsFragmentDefinition, fragment_definition_members};
 ghost use Rattle.graphql_ast_json.specs.lemmas.ExecutableNodes.{same_fragment_definition};
 ghost use Rattle.graphql_ast_json.specs.lemmas.TypeSystemNodes.{definition_located, definition_never_null, same_definition};
 
@@ -28,7 +28,8 @@ impl AstJson for FragmentDefinition {
 
     ghost is_json_of = { IsFragmentDefinition };
 
-    ghost one_tree = { same_definition (codes "FragmentDefinition") fragment_definition_members HasFragmentDefinition
+    ghost one_tree = { same_definition
+        (codes "FragmentDefinition") fragment_definition_members HasFragmentDefinition
         same_fragment_definition };
 
     ghost never_null = { definition_never_null

@@ -1,7 +1,7 @@
 //! Fragment spreads in AST JSON.
-ghost use Rattle.graphql_executable.specs.ExecutableTrees.{fragment_spread_tree};
-ghost use Rattle.graphql_executable.specs.FragmentSpreads.{FragmentSpreadTree};
-ghost use Rattle.graphql_ast_json.specs.ExecutableJson.{IsFragmentSpread};
+ghost use Rattle.graphql_executable.specs.trees.ExecutableTrees.{fragment_spread_tree};
+ghost use Rattle.graphql_executable.specs.kinds.FragmentSpreads.{FragmentSpreadTree};
+ghost use Rattle.graphql_ast_json.specs.kinds.ExecutableJson.{IsFragmentSpread};
 ghost use Rattle.graphql_ast_json.specs.lemmas.ExecutableNodes.{fragment_spread_located, fragment_spread_never_null, same_fragment_spread};
 
 use crate::ast_json::{AstJson, AstNode};

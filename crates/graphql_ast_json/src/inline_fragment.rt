@@ -1,7 +1,7 @@
 //! Inline fragments in AST JSON.
-ghost use Rattle.graphql_executable.specs.ExecutableTrees.{inline_fragment_tree};
-ghost use Rattle.graphql_executable.specs.InlineFragments.{InlineFragmentTree};
-ghost use Rattle.graphql_ast_json.specs.ExecutableJson.{IsInlineFragment};
+ghost use Rattle.graphql_executable.specs.trees.ExecutableTrees.{inline_fragment_tree};
+ghost use Rattle.graphql_executable.specs.kinds.InlineFragments.{InlineFragmentTree};
+ghost use Rattle.graphql_ast_json.specs.kinds.ExecutableJson.{IsInlineFragment};
 ghost use Rattle.graphql_ast_json.specs.lemmas.ExecutableNodes.{inline_fragment_located, inline_fragment_never_null, same_inline_fragment};
 
 use crate::ast_json::{AstJson, AstNode};

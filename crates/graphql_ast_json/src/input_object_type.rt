@@ -1,8 +1,8 @@
 //! Input object types in AST JSON: definitions and extensions.
 ghost use Rattle.std.specs.Prelude.{codes};
-ghost use Rattle.graphql_type_system.specs.InputObjectTypes.{input_object_type_definition_kind, input_object_type_extension_kind};
-ghost use Rattle.graphql_type_system.specs.TypeSystemTrees.{input_object_type_definition_tree, input_object_type_extension_tree};
-ghost use Rattle.graphql_ast_json.specs.TypeSystemJson.{HasInputObjectType, IsInputObjectTypeDefinition, IsInputObjectTypeExtension, input_object_type_members};
+ghost use Rattle.graphql_type_system.specs.kinds.InputObjectTypes.{input_object_type_definition_kind, input_object_type_extension_kind};
+ghost use Rattle.graphql_type_system.specs.trees.TypeSystemTrees.{input_object_type_definition_tree, input_object_type_extension_tree};
+ghost use Rattle.graphql_ast_json.specs.kinds.TypeSystemJson.{HasInputObjectType, IsInputObjectTypeDefinition, IsInputObjectTypeExtension, input_object_type_members};
 ghost use Rattle.graphql_ast_json.specs.lemmas.TypeSystemNodes.{definition_located, definition_never_null, extension_located, extension_never_null, same_definition, same_extension, same_input_object_type};
 
 use crate::ast_json::{AstJson, AstNode};
@@ -27,10 +27,12 @@ impl AstJson for InputObjectTypeDefinition {
 
     ghost is_json_of = { IsInputObjectTypeDefinition };
 
-    ghost one_tree = { same_definition (codes "InputObjectTypeDefinition") input_object_type_members HasInputObjectType
+    ghost one_tree = { same_definition
+        (codes "InputObjectTypeDefinition") input_object_type_members HasInputObjectType
         same_input_object_type };
 
-    ghost never_null = { definition_never_null (codes "InputObjectTypeDefinition") input_object_type_members
+    ghost never_null = { definition_never_null
+        (codes "InputObjectTypeDefinition") input_object_type_members
         HasInputObjectType };
 
     fn from_ast_json(
@@ -65,7 +67,8 @@ impl AstJson for InputObjectTypeDefinition {
 }
 
 impl AstNode for InputObjectTypeDefinition {
-    ghost located = { definition_located (codes "InputObjectTypeDefinition") input_object_type_members
+    ghost located = { definition_located
+        (codes "InputObjectTypeDefinition") input_object_type_members
         HasInputObjectType };
 
     fn to_ast_json_at(
@@ -89,10 +92,12 @@ impl AstJson for InputObjectTypeExtension {
 
     ghost is_json_of = { IsInputObjectTypeExtension };
 
-    ghost one_tree = { same_extension (codes "InputObjectTypeExtension") input_object_type_members HasInputObjectType
+    ghost one_tree = { same_extension
+        (codes "InputObjectTypeExtension") input_object_type_members HasInputObjectType
         same_input_object_type };
 
-    ghost never_null = { extension_never_null (codes "InputObjectTypeExtension") input_object_type_members
+    ghost never_null = { extension_never_null
+        (codes "InputObjectTypeExtension") input_object_type_members
         HasInputObjectType };
 
     fn from_ast_json(

@@ -1,7 +1,7 @@
 //! Definitions of input values in AST JSON.
-ghost use Rattle.graphql_values.specs.DefinitionTrees.{input_value_definition_tree};
-ghost use Rattle.graphql_values.specs.InputValueDefinitions.{input_value_definition_kind};
-ghost use Rattle.graphql_ast_json.specs.DefinitionJson.{IsInputValueDefinition};
+ghost use Rattle.graphql_values.specs.trees.DefinitionTrees.{input_value_definition_tree};
+ghost use Rattle.graphql_values.specs.kinds.InputValueDefinitions.{input_value_definition_kind};
+ghost use Rattle.graphql_ast_json.specs.kinds.DefinitionJson.{IsInputValueDefinition};
 ghost use Rattle.graphql_ast_json.specs.lemmas.DefinitionNodes.{input_value_definition_located, input_value_definition_never_null, same_input_value_definition};
 
 use crate::ast_json::{AstJson, AstNode};

@@ -1,8 +1,8 @@
 //! Interface types in AST JSON: definitions and extensions.
 ghost use Rattle.std.specs.Prelude.{codes};
-ghost use Rattle.graphql_type_system.specs.InterfaceTypes.{interface_type_definition_kind, interface_type_extension_kind};
-ghost use Rattle.graphql_type_system.specs.TypeSystemTrees.{interface_type_definition_tree, interface_type_extension_tree};
-ghost use Rattle.graphql_ast_json.specs.TypeSystemJson.{HasImplementingType, IsInterfaceTypeDefinition, IsInterfaceTypeExtension, implementing_type_members};
+ghost use Rattle.graphql_type_system.specs.kinds.InterfaceTypes.{interface_type_definition_kind, interface_type_extension_kind};
+ghost use Rattle.graphql_type_system.specs.trees.TypeSystemTrees.{interface_type_definition_tree, interface_type_extension_tree};
+ghost use Rattle.graphql_ast_json.specs.kinds.TypeSystemJson.{HasImplementingType, IsInterfaceTypeDefinition, IsInterfaceTypeExtension, implementing_type_members};
 ghost use Rattle.graphql_ast_json.specs.lemmas.TypeSystemNodes.{definition_located, definition_never_null, extension_located, extension_never_null, same_definition, same_extension, same_implementing_type};
 
 use crate::ast_json::{AstJson, AstNode};
@@ -28,10 +28,12 @@ impl AstJson for InterfaceTypeDefinition {
 
     ghost is_json_of = { IsInterfaceTypeDefinition };
 
-    ghost one_tree = { same_definition (codes "InterfaceTypeDefinition") implementing_type_members HasImplementingType
+    ghost one_tree = { same_definition
+        (codes "InterfaceTypeDefinition") implementing_type_members HasImplementingType
         same_implementing_type };
 
-    ghost never_null = { definition_never_null (codes "InterfaceTypeDefinition") implementing_type_members
+    ghost never_null = { definition_never_null
+        (codes "InterfaceTypeDefinition") implementing_type_members
         HasImplementingType };
 
     fn from_ast_json(
@@ -104,10 +106,12 @@ impl AstJson for InterfaceTypeExtension {
 
     ghost is_json_of = { IsInterfaceTypeExtension };
 
-    ghost one_tree = { same_extension (codes "InterfaceTypeExtension") implementing_type_members HasImplementingType
+    ghost one_tree = { same_extension
+        (codes "InterfaceTypeExtension") implementing_type_members HasImplementingType
         same_implementing_type };
 
-    ghost never_null = { extension_never_null (codes "InterfaceTypeExtension") implementing_type_members
+    ghost never_null = { extension_never_null
+        (codes "InterfaceTypeExtension") implementing_type_members
         HasImplementingType };
 
     fn from_ast_json(

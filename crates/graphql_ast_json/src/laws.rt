@@ -1,5 +1,5 @@
 //! Laws of AST JSON. Each function does nothing: its contract is the law.
-ghost use Rattle.graphql_ast_json.specs.OneTree.{IsNeverNull, IsOfOneTree};
+ghost use Rattle.graphql_ast_json.specs.nodes.OneTree.{IsNeverNull, IsOfOneTree};
 
 use crate::ast_json::AstJson;
 

@@ -2,10 +2,10 @@
 ghost use Rattle.std.specs.Prelude.{◌≡◌, IfOk, IfErr, Some, codes};
 ghost use Rattle.serde_json.specs.Data.{string};
 ghost use Rattle.serde_json.specs.View.{view};
-ghost use Rattle.graphql_text.specs.Leaves.{name_tree};
-ghost use Rattle.graphql_text.specs.Literals.{NameText};
-ghost use Rattle.graphql_ast_json.specs.Errors.{IsMemory};
-ghost use Rattle.graphql_ast_json.specs.Nodes.{member_of, IsName};
+ghost use Rattle.graphql_text.specs.trees.Leaves.{name_tree};
+ghost use Rattle.graphql_text.specs.lexical.Literals.{NameText};
+ghost use Rattle.graphql_ast_json.specs.code.Errors.{IsMemory};
+ghost use Rattle.graphql_ast_json.specs.nodes.Nodes.{member_of, IsName};
 ghost use Rattle.graphql_ast_json.specs.lemmas.Leaves.{name_never_null, same_name};
 
 use crate::ast_json::AstJson;
@@ -23,7 +23,8 @@ pub(crate) fn name_text(alloc: Global, json: &Json) -> Result<Name, AstJsonError
     ensures ok { IfOk result (λ name.
         member_of (codes "value") (view json.now) ≡ Some (string (name_tree name).text)) }
     ensures err { IfErr result (λ error. ¬ IsMemory error
-        → (name : NameText) → ¬ (member_of (codes "value") (view json.now) ≡ Some (string name.text))) }
+        → (name : NameText)
+        → ¬ (member_of (codes "value") (view json.now) ≡ Some (string name.text))) }
 {
     let text = text_member(alloc, json, "value")?;
     if Name::is_valid_syntax(text) {

@@ -1,8 +1,8 @@
 //! Object types in AST JSON: definitions and extensions.
 ghost use Rattle.std.specs.Prelude.{codes};
-ghost use Rattle.graphql_type_system.specs.ObjectTypes.{object_type_definition_kind, object_type_extension_kind};
-ghost use Rattle.graphql_type_system.specs.TypeSystemTrees.{object_type_definition_tree, object_type_extension_tree};
-ghost use Rattle.graphql_ast_json.specs.TypeSystemJson.{HasImplementingType, IsObjectTypeDefinition, IsObjectTypeExtension, implementing_type_members};
+ghost use Rattle.graphql_type_system.specs.kinds.ObjectTypes.{object_type_definition_kind, object_type_extension_kind};
+ghost use Rattle.graphql_type_system.specs.trees.TypeSystemTrees.{object_type_definition_tree, object_type_extension_tree};
+ghost use Rattle.graphql_ast_json.specs.kinds.TypeSystemJson.{HasImplementingType, IsObjectTypeDefinition, IsObjectTypeExtension, implementing_type_members};
 ghost use Rattle.graphql_ast_json.specs.lemmas.TypeSystemNodes.{definition_located, definition_never_null, extension_located, extension_never_null, same_definition, same_extension, same_implementing_type};
 
 use crate::ast_json::{AstJson, AstNode};
@@ -28,10 +28,12 @@ impl AstJson for ObjectTypeDefinition {
 
     ghost is_json_of = { IsObjectTypeDefinition };
 
-    ghost one_tree = { same_definition (codes "ObjectTypeDefinition") implementing_type_members HasImplementingType
+    ghost one_tree = { same_definition
+        (codes "ObjectTypeDefinition") implementing_type_members HasImplementingType
         same_implementing_type };
 
-    ghost never_null = { definition_never_null (codes "ObjectTypeDefinition") implementing_type_members
+    ghost never_null = { definition_never_null
+        (codes "ObjectTypeDefinition") implementing_type_members
         HasImplementingType };
 
     fn from_ast_json(
@@ -79,7 +81,8 @@ impl AstJson for ObjectTypeDefinition {
 }
 
 impl AstNode for ObjectTypeDefinition {
-    ghost located = { definition_located (codes "ObjectTypeDefinition") implementing_type_members HasImplementingType };
+    ghost located = { definition_located
+        (codes "ObjectTypeDefinition") implementing_type_members HasImplementingType };
 
     fn to_ast_json_at(
         &self,
@@ -103,10 +106,12 @@ impl AstJson for ObjectTypeExtension {
 
     ghost is_json_of = { IsObjectTypeExtension };
 
-    ghost one_tree = { same_extension (codes "ObjectTypeExtension") implementing_type_members HasImplementingType
+    ghost one_tree = { same_extension
+        (codes "ObjectTypeExtension") implementing_type_members HasImplementingType
         same_implementing_type };
 
-    ghost never_null = { extension_never_null (codes "ObjectTypeExtension") implementing_type_members
+    ghost never_null = { extension_never_null
+        (codes "ObjectTypeExtension") implementing_type_members
         HasImplementingType };
 
     fn from_ast_json(
@@ -144,7 +149,8 @@ impl AstJson for ObjectTypeExtension {
 }
 
 impl AstNode for ObjectTypeExtension {
-    ghost located = { extension_located (codes "ObjectTypeExtension") implementing_type_members HasImplementingType };
+    ghost located = { extension_located
+        (codes "ObjectTypeExtension") implementing_type_members HasImplementingType };
 
     fn to_ast_json_at(
         &self,

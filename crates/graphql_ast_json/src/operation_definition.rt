@@ -1,8 +1,8 @@
 //! Operations in AST JSON.
 ghost use Rattle.std.specs.Prelude.{codes};
-ghost use Rattle.graphql_executable.specs.ExecutableTrees.{operation_definition_tree};
-ghost use Rattle.graphql_executable.specs.OperationDefinitions.{operation_definition_kind};
-ghost use Rattle.graphql_ast_json.specs.ExecutableJson.{HasOperationDefinition, IsOperationDefinition, operation_definition_members};
+ghost use Rattle.graphql_executable.specs.trees.ExecutableTrees.{operation_definition_tree};
+ghost use Rattle.graphql_executable.specs.kinds.OperationDefinitions.{operation_definition_kind};
+ghost use Rattle.graphql_ast_json.specs.kinds.ExecutableJson.{HasOperationDefinition, IsOperationDefinition, operation_definition_members};
 ghost use Rattle.graphql_ast_json.specs.lemmas.ExecutableNodes.{same_operation_definition};
 ghost use Rattle.graphql_ast_json.specs.lemmas.TypeSystemNodes.{definition_located, definition_never_null, same_definition};
 
@@ -41,7 +41,8 @@ impl AstJson for OperationDefinition {
 
     ghost is_json_of = { IsOperationDefinition };
 
-    ghost one_tree = { same_definition (codes "OperationDefinition") operation_definition_members HasOperationDefinition
+    ghost one_tree = { same_definition
+        (codes "OperationDefinition") operation_definition_members HasOperationDefinition
         same_operation_definition };
 
     ghost never_null = { definition_never_null

@@ -2,10 +2,10 @@
 ghost use Rattle.std.specs.Prelude.{◌≡◌, IfOk, IfErr, IfSome, IsNone, Some, codes};
 ghost use Rattle.serde_json.specs.Data.{string};
 ghost use Rattle.serde_json.specs.View.{view};
-ghost use Rattle.graphql_values.specs.LocationTrees.{operation_type_tree};
-ghost use Rattle.graphql_values.specs.OperationTypes.{OperationTypeTree, operation_type_name};
-ghost use Rattle.graphql_ast_json.specs.Errors.{IsMemory};
-ghost use Rattle.graphql_ast_json.specs.Nodes.{member_of};
+ghost use Rattle.graphql_values.specs.trees.LocationTrees.{operation_type_tree};
+ghost use Rattle.graphql_values.specs.kinds.OperationTypes.{OperationTypeTree, operation_type_name};
+ghost use Rattle.graphql_ast_json.specs.code.Errors.{IsMemory};
+ghost use Rattle.graphql_ast_json.specs.nodes.Nodes.{member_of};
 
 use crate::error::AstJsonError;
 use crate::read::members::text_member;
@@ -15,7 +15,8 @@ use std::alloc::Global;
 
 /// The operation type whose word in the grammar the text is.
 fn operation_type_named(text: &str) -> Option<OperationType>
-    ensures some { IfSome result (λ type. text.now ≡ operation_type_name (operation_type_tree type)) }
+    ensures some { IfSome result
+        (λ type. text.now ≡ operation_type_name (operation_type_tree type)) }
     ensures none { IsNone result
         → (tree : OperationTypeTree) → ¬ (text.now ≡ operation_type_name tree) }
 {
@@ -35,7 +36,8 @@ pub(crate) fn operation_type_member(
     ensures ok { IfOk result (λ type. member_of (codes "operation") (view json.now)
         ≡ Some (string (operation_type_name (operation_type_tree type)))) }
     ensures err { IfErr result (λ error. ¬ IsMemory error → (tree : OperationTypeTree)
-        → ¬ (member_of (codes "operation") (view json.now) ≡ Some (string (operation_type_name tree)))) }
+        → ¬ (member_of (codes "operation") (view json.now)
+        ≡ Some (string (operation_type_name tree)))) }
 {
     let text = text_member(alloc, json, "operation")?;
     match operation_type_named(text) {

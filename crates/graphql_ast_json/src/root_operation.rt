@@ -1,7 +1,7 @@
 //! Root operations of schemas in AST JSON: nodes of the kind `OperationTypeDefinition`.
-ghost use Rattle.graphql_type_system.specs.Schemas.{RootOperationTree};
-ghost use Rattle.graphql_type_system.specs.TypeSystemTrees.{root_operation_tree};
-ghost use Rattle.graphql_ast_json.specs.TypeSystemJson.{IsRootOperation};
+ghost use Rattle.graphql_type_system.specs.kinds.Schemas.{RootOperationTree};
+ghost use Rattle.graphql_type_system.specs.trees.TypeSystemTrees.{root_operation_tree};
+ghost use Rattle.graphql_ast_json.specs.kinds.TypeSystemJson.{IsRootOperation};
 ghost use Rattle.graphql_ast_json.specs.lemmas.TypeSystemNodes.{root_operation_located, root_operation_never_null, same_root_operation};
 
 use crate::ast_json::{AstJson, AstNode};

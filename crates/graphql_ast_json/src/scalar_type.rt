@@ -1,8 +1,8 @@
 //! Scalar types in AST JSON: definitions and extensions.
 ghost use Rattle.std.specs.Prelude.{codes};
-ghost use Rattle.graphql_type_system.specs.ScalarTypes.{scalar_type_definition_kind, scalar_type_extension_kind};
-ghost use Rattle.graphql_type_system.specs.TypeSystemTrees.{scalar_type_definition_tree, scalar_type_extension_tree};
-ghost use Rattle.graphql_ast_json.specs.TypeSystemJson.{HasScalarType, IsScalarTypeDefinition, IsScalarTypeExtension, scalar_type_members};
+ghost use Rattle.graphql_type_system.specs.kinds.ScalarTypes.{scalar_type_definition_kind, scalar_type_extension_kind};
+ghost use Rattle.graphql_type_system.specs.trees.TypeSystemTrees.{scalar_type_definition_tree, scalar_type_extension_tree};
+ghost use Rattle.graphql_ast_json.specs.kinds.TypeSystemJson.{HasScalarType, IsScalarTypeDefinition, IsScalarTypeExtension, scalar_type_members};
 ghost use Rattle.graphql_ast_json.specs.lemmas.TypeSystemNodes.{definition_located, definition_never_null, extension_located, extension_never_null, same_definition, same_extension, same_scalar_type};
 
 use crate::ast_json::{AstJson, AstNode};
@@ -26,10 +26,12 @@ impl AstJson for ScalarTypeDefinition {
 
     ghost is_json_of = { IsScalarTypeDefinition };
 
-    ghost one_tree = { same_definition (codes "ScalarTypeDefinition") scalar_type_members HasScalarType
+    ghost one_tree = { same_definition
+        (codes "ScalarTypeDefinition") scalar_type_members HasScalarType
         same_scalar_type };
 
-    ghost never_null = { definition_never_null (codes "ScalarTypeDefinition") scalar_type_members HasScalarType };
+    ghost never_null = { definition_never_null
+        (codes "ScalarTypeDefinition") scalar_type_members HasScalarType };
 
     fn from_ast_json(
         alloc: Global,
@@ -59,7 +61,8 @@ impl AstJson for ScalarTypeDefinition {
 }
 
 impl AstNode for ScalarTypeDefinition {
-    ghost located = { definition_located (codes "ScalarTypeDefinition") scalar_type_members HasScalarType };
+    ghost located = { definition_located
+        (codes "ScalarTypeDefinition") scalar_type_members HasScalarType };
 
     fn to_ast_json_at(
         &self,
@@ -81,10 +84,12 @@ impl AstJson for ScalarTypeExtension {
 
     ghost is_json_of = { IsScalarTypeExtension };
 
-    ghost one_tree = { same_extension (codes "ScalarTypeExtension") scalar_type_members HasScalarType
+    ghost one_tree = { same_extension
+        (codes "ScalarTypeExtension") scalar_type_members HasScalarType
         same_scalar_type };
 
-    ghost never_null = { extension_never_null (codes "ScalarTypeExtension") scalar_type_members HasScalarType };
+    ghost never_null = { extension_never_null
+        (codes "ScalarTypeExtension") scalar_type_members HasScalarType };
 
     fn from_ast_json(
         alloc: Global,
@@ -112,7 +117,8 @@ impl AstJson for ScalarTypeExtension {
 }
 
 impl AstNode for ScalarTypeExtension {
-    ghost located = { extension_located (codes "ScalarTypeExtension") scalar_type_members HasScalarType };
+    ghost located = { extension_located
+        (codes "ScalarTypeExtension") scalar_type_members HasScalarType };
 
     fn to_ast_json_at(
         &self,

@@ -1,8 +1,8 @@
 //! Schemas in AST JSON: definitions and extensions.
 ghost use Rattle.std.specs.Prelude.{codes};
-ghost use Rattle.graphql_type_system.specs.Schemas.{schema_definition_kind, schema_extension_kind};
-ghost use Rattle.graphql_type_system.specs.TypeSystemTrees.{schema_definition_tree, schema_extension_tree};
-ghost use Rattle.graphql_ast_json.specs.TypeSystemJson.{HasSchema, IsSchemaDefinition, IsSchemaExtension, schema_members};
+ghost use Rattle.graphql_type_system.specs.kinds.Schemas.{schema_definition_kind, schema_extension_kind};
+ghost use Rattle.graphql_type_system.specs.trees.TypeSystemTrees.{schema_definition_tree, schema_extension_tree};
+ghost use Rattle.graphql_ast_json.specs.kinds.TypeSystemJson.{HasSchema, IsSchemaDefinition, IsSchemaExtension, schema_members};
 ghost use Rattle.graphql_ast_json.specs.lemmas.TypeSystemNodes.{definition_located, definition_never_null, extension_located, extension_never_null, same_definition, same_extension, same_schema};
 
 use crate::ast_json::{AstJson, AstNode};
@@ -30,7 +30,8 @@ impl AstJson for SchemaDefinition {
     ghost one_tree = { same_definition (codes "SchemaDefinition") schema_members HasSchema
         same_schema };
 
-    ghost never_null = { definition_never_null (codes "SchemaDefinition") schema_members HasSchema };
+    ghost never_null = { definition_never_null
+        (codes "SchemaDefinition") schema_members HasSchema };
 
     fn from_ast_json(
         alloc: Global,

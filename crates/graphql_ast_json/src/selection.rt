@@ -1,7 +1,7 @@
 //! Selections in AST JSON: a field, a fragment spread or an inline fragment, whose location is that of its node.
-ghost use Rattle.graphql_executable.specs.ExecutableTrees.{selection_tree};
-ghost use Rattle.graphql_executable.specs.Selections.{SelectionTree};
-ghost use Rattle.graphql_ast_json.specs.ExecutableJson.{IsSelection};
+ghost use Rattle.graphql_executable.specs.trees.ExecutableTrees.{selection_tree};
+ghost use Rattle.graphql_executable.specs.kinds.Selections.{SelectionTree};
+ghost use Rattle.graphql_ast_json.specs.kinds.ExecutableJson.{IsSelection};
 ghost use Rattle.graphql_ast_json.specs.lemmas.ExecutableNodes.{same_selection, selection_never_null};
 
 pub(crate) mod read;

@@ -2,11 +2,11 @@
 ghost use Rattle.std.specs.Prelude.{◌≡◌, ℕ, List, IfOk, IfErr, encode_utf8_all};
 ghost use Rattle.serde_json.specs.View.{view};
 ghost use Rattle.graphql_base.specs.Node.{IsNodeStrAt};
-ghost use Rattle.graphql_text.specs.Leaves.{description_tree};
-ghost use Rattle.graphql_text.specs.Literals.{StringText};
-ghost use Rattle.graphql_ast_json.specs.Errors.{IsMemory};
-ghost use Rattle.graphql_ast_json.specs.Nodes.{IsBoolean, IsStringValue, OptionalMember};
-ghost use Rattle.graphql_ast_json.specs.Reading.{IsStringOf};
+ghost use Rattle.graphql_text.specs.trees.Leaves.{description_tree};
+ghost use Rattle.graphql_text.specs.lexical.Literals.{StringText};
+ghost use Rattle.graphql_ast_json.specs.code.Errors.{IsMemory};
+ghost use Rattle.graphql_ast_json.specs.nodes.Nodes.{IsBoolean, IsStringValue, OptionalMember};
+ghost use Rattle.graphql_ast_json.specs.code.NodeReading.{IsStringOf};
 ghost use Rattle.graphql_ast_json.specs.lemmas.Leaves.{same_string_value, string_never_null};
 
 use crate::ast_json::AstJson;

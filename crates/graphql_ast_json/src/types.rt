@@ -1,7 +1,7 @@
 //! Type references in AST JSON.
-ghost use Rattle.graphql_values.specs.TypeReferences.{TypeTree};
-ghost use Rattle.graphql_values.specs.TypeTrees.{type_tree};
-ghost use Rattle.graphql_ast_json.specs.TypeJson.{IsTypeReference};
+ghost use Rattle.graphql_values.specs.kinds.TypeReferences.{TypeTree};
+ghost use Rattle.graphql_values.specs.trees.TypeTrees.{type_tree};
+ghost use Rattle.graphql_ast_json.specs.kinds.TypeJson.{IsTypeReference};
 ghost use Rattle.graphql_ast_json.specs.lemmas.TypeNodes.{same_type, type_located, type_never_null};
 
 mod read;

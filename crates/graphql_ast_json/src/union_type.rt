@@ -1,8 +1,8 @@
 //! Union types in AST JSON: definitions and extensions.
 ghost use Rattle.std.specs.Prelude.{codes};
-ghost use Rattle.graphql_type_system.specs.UnionTypes.{union_type_definition_kind, union_type_extension_kind};
-ghost use Rattle.graphql_type_system.specs.TypeSystemTrees.{union_type_definition_tree, union_type_extension_tree};
-ghost use Rattle.graphql_ast_json.specs.TypeSystemJson.{HasUnionType, IsUnionTypeDefinition, IsUnionTypeExtension, union_type_members};
+ghost use Rattle.graphql_type_system.specs.kinds.UnionTypes.{union_type_definition_kind, union_type_extension_kind};
+ghost use Rattle.graphql_type_system.specs.trees.TypeSystemTrees.{union_type_definition_tree, union_type_extension_tree};
+ghost use Rattle.graphql_ast_json.specs.kinds.TypeSystemJson.{HasUnionType, IsUnionTypeDefinition, IsUnionTypeExtension, union_type_members};
 ghost use Rattle.graphql_ast_json.specs.lemmas.TypeSystemNodes.{definition_located, definition_never_null, extension_located, extension_never_null, same_definition, same_extension, same_union_type};
 
 use crate::ast_json::{AstJson, AstNode};
@@ -30,7 +30,8 @@ impl AstJson for UnionTypeDefinition {
     ghost one_tree = { same_definition (codes "UnionTypeDefinition") union_type_members HasUnionType
         same_union_type };
 
-    ghost never_null = { definition_never_null (codes "UnionTypeDefinition") union_type_members HasUnionType };
+    ghost never_null = { definition_never_null
+        (codes "UnionTypeDefinition") union_type_members HasUnionType };
 
     fn from_ast_json(
         alloc: Global,
@@ -62,7 +63,8 @@ impl AstJson for UnionTypeDefinition {
 }
 
 impl AstNode for UnionTypeDefinition {
-    ghost located = { definition_located (codes "UnionTypeDefinition") union_type_members HasUnionType };
+    ghost located = { definition_located
+        (codes "UnionTypeDefinition") union_type_members HasUnionType };
 
     fn to_ast_json_at(
         &self,
@@ -88,7 +90,8 @@ impl AstJson for UnionTypeExtension {
     ghost one_tree = { same_extension (codes "UnionTypeExtension") union_type_members HasUnionType
         same_union_type };
 
-    ghost never_null = { extension_never_null (codes "UnionTypeExtension") union_type_members HasUnionType };
+    ghost never_null = { extension_never_null
+        (codes "UnionTypeExtension") union_type_members HasUnionType };
 
     fn from_ast_json(
         alloc: Global,
@@ -118,7 +121,8 @@ impl AstJson for UnionTypeExtension {
 }
 
 impl AstNode for UnionTypeExtension {
-    ghost located = { extension_located (codes "UnionTypeExtension") union_type_members HasUnionType };
+    ghost located = { extension_located
+        (codes "UnionTypeExtension") union_type_members HasUnionType };
 
     fn to_ast_json_at(
         &self,

@@ -1,7 +1,7 @@
 //! Values in AST JSON.
-ghost use Rattle.graphql_values.specs.Values.{ValueTree};
-ghost use Rattle.graphql_values.specs.ValueTrees.{value_tree};
-ghost use Rattle.graphql_ast_json.specs.ValueJson.{IsValue};
+ghost use Rattle.graphql_values.specs.kinds.Values.{ValueTree};
+ghost use Rattle.graphql_values.specs.trees.ValueTrees.{value_tree};
+ghost use Rattle.graphql_ast_json.specs.kinds.ValueJson.{IsValue};
 ghost use Rattle.graphql_ast_json.specs.lemmas.ValueNodes.{same_value, value_located, value_never_null};
 
 pub(crate) mod read;

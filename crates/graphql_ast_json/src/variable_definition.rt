@@ -1,8 +1,8 @@
 //! Definitions of variables in AST JSON.
 ghost use Rattle.std.specs.Prelude.{codes};
-ghost use Rattle.graphql_executable.specs.ExecutableTrees.{variable_definition_tree};
-ghost use Rattle.graphql_executable.specs.VariableDefinitions.{variable_definition_kind};
-ghost use Rattle.graphql_ast_json.specs.ExecutableJson.{HasVariableDefinition, IsVariableDefinition, variable_definition_members};
+ghost use Rattle.graphql_executable.specs.trees.ExecutableTrees.{variable_definition_tree};
+ghost use Rattle.graphql_executable.specs.kinds.VariableDefinitions.{variable_definition_kind};
+ghost use Rattle.graphql_ast_json.specs.kinds.ExecutableJson.{HasVariableDefinition, IsVariableDefinition, variable_definition_members};
 ghost use Rattle.graphql_ast_json.specs.lemmas.ExecutableNodes.{same_variable_definition};
 ghost use Rattle.graphql_ast_json.specs.lemmas.TypeSystemNodes.{definition_located, definition_never_null, same_definition};
 
@@ -29,7 +29,8 @@ impl AstJson for VariableDefinition {
 
     ghost is_json_of = { IsVariableDefinition };
 
-    ghost one_tree = { same_definition (codes "VariableDefinition") variable_definition_members HasVariableDefinition
+    ghost one_tree = { same_definition
+        (codes "VariableDefinition") variable_definition_members HasVariableDefinition
         same_variable_definition };
 
     ghost never_null = { definition_never_null

@@ -40,12 +40,14 @@ pub fn names_compare_by_text(a: &Name, b: &Name)
 
 /// Names are in the order of the bytes of their texts.
 pub fn names_are_in_byte_order(a: &Name, b: &Name)
-    ensures { ⟦<Name as Ord>⟧.cmp a.now b.now ≡ slice_cmp nat_cmp (name_text a.now) (name_text b.now) }
+    ensures { ⟦<Name as Ord>⟧.cmp a.now b.now
+        ≡ slice_cmp nat_cmp (name_text a.now) (name_text b.now) }
 {}
 
 /// The order of names agrees with their equality.
 pub fn name_order_agrees_with_equality(a: &Name, b: &Name)
-    ensures { (⟦<Name as Ord>⟧.cmp a.now b.now ≡ Equal) ↔ IsTrue (⟦<Name as PartialEq>⟧.eq a.now b.now) }
+    ensures { (⟦<Name as Ord>⟧.cmp a.now b.now ≡ Equal)
+        ↔ IsTrue (⟦<Name as PartialEq>⟧.eq a.now b.now) }
 {}
 
 /// A name hashes as its text does, wherever it stands, and whether its text is static or shared: so equal names
@@ -70,7 +72,8 @@ pub fn nodes_hash_by_value<T: Hash>(a: &Node<T>, b: &Node<T>)
 
 /// Two shared texts are equal exactly if their texts are, wherever they stand.
 pub fn node_strs_compare_by_text(a: &NodeStr, b: &NodeStr)
-    ensures { IsTrue (⟦<NodeStr as PartialEq>⟧.eq a.now b.now) ↔ (node_str_text a.now ≡ node_str_text b.now) }
+    ensures { IsTrue (⟦<NodeStr as PartialEq>⟧.eq a.now b.now)
+        ↔ (node_str_text a.now ≡ node_str_text b.now) }
 {}
 
 /// A shared text hashes as its text does, wherever it stands: so equal ones hash alike.
@@ -82,7 +85,8 @@ pub fn node_strs_hash_by_text(a: &NodeStr, b: &NodeStr)
 
 /// Two errors about a text that is no name are equal exactly if the texts and the locations are.
 pub fn invalid_name_errors_compare_by_fields(a: &InvalidNameError, b: &InvalidNameError)
-    ensures { IsTrue (⟦<InvalidNameError as PartialEq>⟧.eq a.now b.now) ↔ AreSameInvalid a.now b.now }
+    ensures { IsTrue (⟦<InvalidNameError as PartialEq>⟧.eq a.now b.now)
+        ↔ AreSameInvalid a.now b.now }
 {}
 
 /// Two errors are equal exactly if the variants and the fields are.

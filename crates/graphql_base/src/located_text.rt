@@ -52,7 +52,7 @@ pub struct LocatedText {
 }
 
 impl Model for LocatedText {
-    ghost use Rattle.graphql_base.specs.Texts.{StoredText, stored, EndsInReach};
+    ghost use Rattle.graphql_base.specs.StoredTexts.{StoredText, stored, EndsInReach};
 
     ghost Value = { StoredText };
 
@@ -73,7 +73,8 @@ impl LocatedText {
     }
 
     pub fn from_shared(text: RcStr) -> LocatedText
-        ensures { result ≡ record { bytes = rc_str_bytes text; is_static = false; location = None } }
+        ensures { result
+            ≡ record { bytes = rc_str_bytes text; is_static = false; location = None } }
     {
         LocatedText {
             form: Form::Shared(text),
@@ -81,10 +82,11 @@ impl LocatedText {
     }
 
     /// The same text at another place.
-    #[tactic(auto, using(crate::proofs::Stretches::filled))]
+    #[tactic(auto, using(crate::proofs::SpanStretches::filled))]
     pub fn at(self, span: SourceSpan) -> LocatedText
         requires { span_len span ≡ length self.bytes }
-        ensures { result ≡ record { bytes = self.bytes; is_static = self.is_static; location = Some span } }
+        ensures { result
+            ≡ record { bytes = self.bytes; is_static = self.is_static; location = Some span } }
     {
         let LocatedText { form } = self;
         let start = span.start();
@@ -140,7 +142,8 @@ impl LocatedText {
     pub fn to_shared(&self) -> Result<Option<RcStr>, AllocError>
         ensures static_text { IsTrue self.now.is_static → result ≡ Ok None }
         ensures shared_text { self.now.is_static ≡ false → IfOk result IsSome }
-        ensures value { IfOk result (λ copy. IfSome copy (λ text. rc_str_bytes text ≡ self.now.bytes)) }
+        ensures value { IfOk result
+            (λ copy. IfSome copy (λ text. rc_str_bytes text ≡ self.now.bytes)) }
     {
         match &self.form {
             Form::Static(_) | Form::StaticAt { .. } => Ok(None),

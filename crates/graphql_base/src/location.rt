@@ -25,7 +25,7 @@ impl Model for Location {
 }
 
 impl Location {
-    #[tactic(auto, using(crate::proofs::Stretches::between))]
+    #[tactic(auto, using(crate::proofs::SpanStretches::between))]
     pub fn new(span: Option<SourceSpan>) -> Location
         ensures { result ≡ span }
     {

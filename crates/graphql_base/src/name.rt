@@ -242,7 +242,8 @@ impl Name {
     pub fn to_cloned_arc(&self) -> Result<Option<RcStr>, AllocError>
         ensures static_text { IsTrue (is_static_name self.now) → result ≡ Ok None }
         ensures shared_text { is_static_name self.now ≡ false → IfOk result IsSome }
-        ensures text { IfOk result (λ copy. IfSome copy (λ text. rc_str_bytes text ≡ name_text self.now)) }
+        ensures text { IfOk result
+            (λ copy. IfSome copy (λ text. rc_str_bytes text ≡ name_text self.now)) }
     {
         self.text.to_shared()
     }

@@ -43,7 +43,8 @@ impl<T> Shared<T> {
 
     /// The value, to write to; `None` where it has another owner.
     pub fn get_mut(&mut self) -> Option<&mut T>
-        ensures* writes_back { sem 𝓛 (LendsIf (the_row T.row) T.row self.entry result (λ value. value) self.old) }
+        ensures* writes_back { sem 𝓛
+            (LendsIf (the_row T.row) T.row self.entry result (λ value. value) self.old) }
         ensures value { IfSome result (λ value. value.now ≡ self.old) }
     {
         Rc::get_mut(&mut self.inner)
@@ -56,7 +57,8 @@ impl<T> Shared<T> {
         ensures* writes_back { sem 𝓛 (LendsSoOk (the_row T.row) T.row self.entry result
             (λ shared value. shared ≡ value)
             (λ shared. (shared ≡ self.old) ⊎ T.is_clone self.old shared)) }
-        ensures value { IfOk result (λ value. (value.now ≡ self.old) ⊎ T.is_clone self.old value.now) }
+        ensures value { IfOk result
+            (λ value. (value.now ≡ self.old) ⊎ T.is_clone self.old value.now) }
     {
         Rc::make_mut(&mut self.inner)
     }

@@ -2,7 +2,7 @@
 //! tree, can be lent for writing.
 ghost use Rattle.std.specs.Prelude.{◌≡◌, ◌^◌, ◌<◌, ℕ, List, length};
 ghost use denote.RawPtr.{Ptr};
-ghost use Rattle.graphql_base.specs.Forever.{IsPlaced, readable_forever};
+ghost use Rattle.graphql_base.specs.StaticBytes.{IsPlaced, readable_forever};
 
 use std::marker::Model;
 use std::str;

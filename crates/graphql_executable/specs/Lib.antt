@@ -1,20 +1,12 @@
--- Operations, fragments and selections: trees, grammar, layout, nesting, side conditions and kinds.
-pub mod VariableDefinitions
-pub mod FragmentNames
-pub mod FragmentSpreads
-pub mod SelectionHeads
-pub mod Selections
-pub mod Fields
-pub mod InlineFragments
-pub mod OperationDefinitions
-pub mod FragmentDefinitions
+-- Operations, fragments and selections.
+
+-- each kind: its trees, grammar, layout, nesting, side conditions
+pub mod kinds
 -- the trees that the types of the code stand for
-pub mod ExecutableTrees
--- what calls answer
-pub mod SelectionQueries
--- what is still to be written, and with which stacks
-pub mod ExecutableStacks
-pub mod SelectionWalk
--- examples, and lemmas
-pub mod Examples
+pub mod trees
+-- what calls answer, and what writers have still to write
+pub mod code
+-- examples that laws speak of
+pub mod examples
+-- lemmas that impls and the crates above cite, no definitions: each part and kind, and its laws
 pub mod lemmas

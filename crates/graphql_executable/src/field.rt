@@ -1,6 +1,6 @@
 //! Fields.
 ghost use Rattle.std.specs.Prelude.{◌≡◌};
-ghost use Rattle.graphql_executable.specs.SelectionQueries.{response_name};
+ghost use Rattle.graphql_executable.specs.code.SelectionQueries.{response_name};
 
 pub(crate) mod print;
 
@@ -40,7 +40,7 @@ impl Field {
 }
 
 impl Clone for Field {
-    ghost use Rattle.graphql_executable.specs.ExecutableTrees.{IsFieldCloneOf};
+    ghost use Rattle.graphql_executable.specs.trees.ExecutableTrees.{IsFieldCloneOf};
 
     ghost is_clone = { IsFieldCloneOf };
 

@@ -20,7 +20,7 @@ pub struct InlineFragment {
 }
 
 impl Clone for InlineFragment {
-    ghost use Rattle.graphql_executable.specs.ExecutableTrees.{IsInlineFragmentCloneOf};
+    ghost use Rattle.graphql_executable.specs.trees.ExecutableTrees.{IsInlineFragmentCloneOf};
 
     ghost is_clone = { IsInlineFragmentCloneOf };
 

@@ -3,7 +3,7 @@
 //! - `operation_definition`, `variable_definition`: operations and their variables.
 //! - `fragment_definition`: definitions of fragments.
 //! - `selection`, `field`, `fragment_spread`, `inline_fragment`: what stands in selection sets.
-//! - `writers`: what the kinds of the crates above are checked and written with.
+//! - `writers`: what the kinds of the crates above are written with.
 //! - `laws`: laws of these kinds, as contracts of functions that do nothing.
 #![tactic(auto)]
 

@@ -1,6 +1,6 @@
 //! Selections: what stands between the braces of a selection set.
 ghost use Rattle.std.specs.Prelude.{◌≡◌, option_copied};
-ghost use Rattle.graphql_executable.specs.SelectionQueries.{field_of, fragment_spread_of, inline_fragment_of, selection_location};
+ghost use Rattle.graphql_executable.specs.code.SelectionQueries.{field_of, fragment_spread_of, inline_fragment_of, selection_location};
 
 pub(crate) mod print;
 

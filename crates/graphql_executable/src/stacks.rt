@@ -1,9 +1,11 @@
 //! The stacks that operations, fragments and selections are written with.
-ghost use Rattle.std.specs.Prelude.{◌≡◌, IfOk, IsOk};
-ghost use Rattle.graphql_text.specs.Stack.{IsReady};
+ghost use Rattle.std.specs.Prelude.{◌≡◌, ℕ, IfOk, IsOk};
+ghost use Rattle.graphql_text.specs.layout.Levels.{Fits, IsCount};
+ghost use Rattle.graphql_text.specs.declared.place.Place.{Place};
+ghost use Rattle.graphql_executable.specs.code.ExecutableStacks.{AreAllKept, CanWriteExecutable};
 
 use crate::selection::Selection;
-use graphql_text::writers::Stack;
+use graphql_text::writers::{Stack, WritingStacks};
 use graphql_values::writers::Stacks;
 use std::alloc::{AllocError, Global};
 
@@ -24,21 +26,28 @@ pub struct ExecutableStacks<'a> {
 }
 
 impl<'a> ExecutableStacks<'a> {
-    /// Stacks with room for values and selection sets that nest so deep, and for types of so many lists. For none no
-    /// memory is asked for. `AllocError` where memory is refused.
+    /// Stacks with room for values and selection sets of a nesting depth, and for types of so many lists. For none no
+    /// memory is asked for. `AllocError` where memory is refused, and where the lists are more than `usize::MAX`.
     pub fn reserve(
         alloc: Global,
         nesting: usize,
-        list_depth: usize,
+        list_depth: Option<usize>,
     ) -> Result<ExecutableStacks<'a>, AllocError>
-        ensures values { IfOk result (λ stacks. IsReady stacks.definitions.values nesting) }
-        ensures types { IfOk result (λ stacks. IsReady stacks.definitions.types list_depth) }
-        ensures selections { IfOk result (λ stacks. IsReady stacks.selections nesting) }
-        ensures succeeds { nesting ≡ 0 → list_depth ≡ 0 → IsOk result }
+        ensures ready { (lists : ℕ) → IsCount list_depth lists →
+            IfOk result (λ stacks. (place : Place) →
+            Fits place.level nesting → CanWriteExecutable place stacks nesting lists) }
+        ensures free { (lists : ℕ) → IsCount list_depth lists → nesting ≡ 0 →
+            lists ≡ 0 → IsOk result }
     {
         Ok(ExecutableStacks {
             definitions: Stacks::reserve(alloc, nesting, list_depth)?,
             selections: Stack::reserve(Some(alloc), nesting)?,
         })
     }
+}
+
+impl WritingStacks for ExecutableStacks<'_> {
+    ghost can_write = { CanWriteExecutable };
+
+    ghost are_kept = { AreAllKept };
 }

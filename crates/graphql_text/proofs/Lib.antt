@@ -1,61 +1,22 @@
-pub mod Tests
-pub mod Classes
-pub mod Numerals
-pub mod Reader
-pub mod Skips
-pub mod Numbers
-pub mod Quotes
-pub mod Complete
-pub mod CommaGroups
-pub mod CommaLeads
-pub mod CommaEnds
-pub mod CurlyGroups
-pub mod JoinedNames
-pub mod Compose
-pub mod Quoted
-pub mod Sides
-pub mod Names
-pub mod Sound
-pub mod BlockValue
-pub mod EscapeSteps
-pub mod BlockLaw
-pub mod Checked
-pub mod PrintedTokens
-pub mod Spelling
-pub mod Valid
-pub mod LayoutLexes
-pub mod TokenClasses
-pub mod Parsing
-pub mod Scalars
-pub mod KindLaws
-pub mod Parts
-pub mod RowParts
-pub mod KindParts
-pub mod Readings
-pub mod LevelLaws
-pub mod WritingLaws
-pub mod Ascii
-pub mod LineScan
-pub mod LineStrings
-pub mod LineBlocks
-pub mod WordCharacters
-pub mod Bracketing
-pub mod LineLaws
-pub mod Telling
-pub mod FixedText
-pub mod GroupLaws
-pub mod QuoteScans
-pub mod PlainCharacters
-pub mod Runs
-pub mod Pieces
-pub mod SplitLines
-pub mod StringTexts
-pub mod PlainLines
-pub mod Headline
-pub mod Sending
-pub mod TwoSpaces
-pub mod Utf8
-pub mod FlatGroups
-pub mod StackLaws
-pub mod PendingLaws
-pub mod Slices
+-- Lemmas on the definitions of specs/, in folders of the same names.
+
+-- lemmas that know nothing of GraphQL
+pub mod general
+-- of the lexical grammar but strings
+pub mod lexical
+-- a reader of tokens that computes, and that it finds what Tokens.Lexes says
+pub mod reader
+-- of strings, and of how the code writes them
+pub mod strings
+-- of layouts and their text
+pub mod layout
+-- of the notation of the syntactic grammar
+pub mod grammar
+-- of the laws of kinds
+pub mod kinds
+-- the facts of kinds, part by part
+pub mod parts
+-- of what writers do
+pub mod code
+-- what worked examples are proved by
+pub mod examples

@@ -2,10 +2,10 @@
 
 ghost use Rattle.std.specs.Prelude.{◌≡◌, ◌==◌, ◌<◌, ℕ, IsTrue, true, false, nat_lt, Decides, length, drop, [], chars, codes, encode_utf8_all};
 ghost use Rattle.std.specs.List.{list_any, repeat};
-ghost use Rattle.graphql_text.specs.Characters.{begins_with, is_space_or_tab, quotes};
-ghost use Rattle.graphql_text.specs.BlockStringValue.{is_blank as holds_only_blanks};
-ghost use Rattle.graphql_text.specs.QuotedForm.{quoted_character};
-ghost use Rattle.graphql_text.specs.BlockForm.{begins_unindented as has_no_indent, block_form, block_on_one_line, block_over_lines, block_text, broken_line, can_be_block as has_block_form, escape_quotes, would_join_closing_quotes};
+ghost use Rattle.graphql_text.specs.lexical.Characters.{begins_with, is_space_or_tab, quotes};
+ghost use Rattle.graphql_text.specs.strings.BlockStringValue.{is_blank as holds_only_blanks};
+ghost use Rattle.graphql_text.specs.strings.QuotedForm.{quoted_character};
+ghost use Rattle.graphql_text.specs.strings.BlockForm.{begins_unindented as has_no_indent, block_form, block_on_one_line, block_over_lines, block_text, broken_line, can_be_block as has_block_form, escape_quotes, would_join_closing_quotes};
 
 use crate::breaks::line_break;
 use crate::target::{Target, write_piece};
@@ -161,7 +161,8 @@ fn would_join_quotes(value: &[u8]) -> bool
 
 /// Writes the block form of bytes.
 fn write_block_bytes<O: Target>(out: &mut O, prefix: &str, level: usize, value: &str)
-    ensures { O.wrote out.old (block_form (repeat level prefix.now) (nat_lt 70 (length value.now)) value.now) out.new }
+    ensures { O.wrote out.old
+        (block_form (repeat level prefix.now) (nat_lt 70 (length value.now)) value.now) out.new }
 {
     if holds(value, b'\n') | (value.len() > 70) | would_join_quotes(value.as_bytes()) {
         write_over_lines(out, prefix, level, value);
@@ -172,7 +173,8 @@ fn write_block_bytes<O: Target>(out: &mut O, prefix: &str, level: usize, value: 
 
 /// Writes the block form of a value that can be a block string.
 pub(crate) fn write_block<O: Target>(out: &mut O, prefix: &str, level: usize, value: &str)
-    ensures { O.wrote out.old (encode_utf8_all (block_text (chars prefix.now) level (chars value.now))) out.new }
+    ensures { O.wrote out.old
+        (encode_utf8_all (block_text (chars prefix.now) level (chars value.now))) out.new }
 {
     write_block_bytes(out, prefix, level, value);
 }
@@ -216,8 +218,10 @@ pub(crate) fn write_plain_block<O: Target>(
     value: &str,
 )
     requires two_spaces { IsTrue is_two_spaces → prefix.now ≡ codes "  " }
-    requires plain { list_any (λ byte. nat_lt 1 (length (quoted_character byte))) value.now ≡ false }
-    ensures { O.wrote out.old (encode_utf8_all (block_text (chars prefix.now) level (chars value.now))) out.new }
+    requires plain { list_any (λ byte. nat_lt 1 (length (quoted_character byte))) value.now
+        ≡ false }
+    ensures { O.wrote out.old
+        (encode_utf8_all (block_text (chars prefix.now) level (chars value.now))) out.new }
 {
     if value.len() > 70 {
         write_plain_over_lines(out, prefix, is_two_spaces, level, value);

@@ -2,7 +2,7 @@
 
 ghost use Rattle.std.specs.Prelude.{◌≡◌, ◌≤◌, ◌++◌, IsSome, IsTrue, MatchOption, ⊤, chars, codes, encode_utf8_all};
 ghost use Rattle.std.specs.List.{repeat};
-ghost use Rattle.graphql_text.specs.Layout.{break_text};
+ghost use Rattle.graphql_text.specs.layout.Layout.{break_text};
 ghost use Rattle.graphql_text.specs.declared.breaks.TheConstants.{READY_LEVELS};
 
 use crate::target::Target;
@@ -49,7 +49,8 @@ pub(crate) fn indent<O: Target>(out: &mut O, prefix: &str, level: usize)
 #[inline(always)]
 fn ready_break(prefix: &str, is_two_spaces: bool, level: usize) -> Option<&'static str>
     requires { IsTrue is_two_spaces → prefix.now ≡ codes "  " }
-    ensures { MatchOption result ⊤ (λ text. text.now ≡ encode_utf8_all (break_text (chars prefix.now) level)) }
+    ensures { MatchOption result ⊤
+        (λ text. text.now ≡ encode_utf8_all (break_text (chars prefix.now) level)) }
 {
     if is_two_spaces && level <= READY_LEVELS {
         Some(two_space_break(level))
@@ -89,7 +90,8 @@ fn write_break<O: Target>(out: &mut O, prefix: &str, level: usize)
 /// Writes a comma, a line feed, and the prefix as often as the level, one by one.
 #[inline(never)]
 pub(crate) fn comma_break<O: Target>(out: &mut O, prefix: &str, level: usize)
-    ensures { O.wrote out.old (codes "," ++ encode_utf8_all (break_text (chars prefix.now) level)) out.new }
+    ensures { O.wrote out.old
+        (codes "," ++ encode_utf8_all (break_text (chars prefix.now) level)) out.new }
 {
     out.text(",\n");
     indent(out, prefix, level);

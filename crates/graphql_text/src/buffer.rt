@@ -63,7 +63,7 @@ pub(crate) struct Buffer {
 }
 
 impl Buffer {
-    ghost use Rattle.graphql_text.specs.Buffer.{waiting_bytes};
+    ghost use Rattle.graphql_text.specs.code.Buffer.{waiting_bytes};
 
     pub(crate) fn new() -> Buffer
         ensures { waiting_bytes result ≡ [] }
@@ -95,7 +95,8 @@ impl Buffer {
     /// Adds the text, if there is room for all of it.
     #[inline(always)]
     pub(crate) fn add(&mut self, text: &str) -> bool
-        ensures added { IsTrue result → waiting_bytes self.new ≡ waiting_bytes self.old ++ text.now }
+        ensures added { IsTrue result →
+            waiting_bytes self.new ≡ waiting_bytes self.old ++ text.now }
         ensures full { result ≡ false → self.new ≡ self.old }
         ensures room { length (waiting_bytes self.old) + length text.now ≤ SIZE → IsTrue result }
     {

@@ -1,59 +1,59 @@
 //! Kinds of trees that are printed, and their prints.
 ghost use Rattle.std.specs.Prelude.{◌≡◌, ℕ, ◌↔◌, [], true, false, List, Bool, Option, Some, None, codes, IfOk, OnOk, OnErr, IsOk, IsErrOf, IsTrue, MatchOption, string_bytes, encode_utf8_all, chars};
-ghost use Rattle.graphql_text.specs.Buffer.{waiting_bytes};
-ghost use Rattle.graphql_text.specs.Kinds.{Kind};
-ghost use Rattle.graphql_text.specs.Layout.{IsBlankMode};
-ghost use Rattle.graphql_text.specs.Levels.{Fits, IsCount};
-ghost use Rattle.graphql_text.specs.Place.{mode_of};
-ghost use Rattle.graphql_text.specs.Reading.{Laws};
-ghost use Rattle.graphql_text.specs.Sinks.{CanFault, SinkTook, SinkFaulted};
-ghost use Rattle.graphql_text.specs.Writing.{WritesTree, bytes_from};
+ghost use Rattle.graphql_text.specs.code.Buffer.{waiting_bytes};
+ghost use Rattle.graphql_text.specs.kinds.Kinds.{Kind};
+ghost use Rattle.graphql_text.specs.layout.Layout.{IsBlankMode};
+ghost use Rattle.graphql_text.specs.layout.Levels.{IsCount};
+ghost use Rattle.graphql_text.specs.kinds.Reading.{Laws};
+ghost use Rattle.graphql_text.specs.code.Sinks.{CanFault, SinkTook, SinkFaulted};
+ghost use Rattle.graphql_text.specs.code.Writing.{WritesTree, bytes_from};
 
 use crate::buffer::Buffer;
-use crate::place::Place;
+use crate::place::{Place, Start};
 use crate::sink::TextSink;
 use crate::target::{Target, ToFormatter, ToSink, ToText, finish, into_text};
 use std::alloc::{AllocError, Global};
 use std::fmt;
 use thiserror::Error;
 
-/// A kind of tree that is printed, and read back as itself alone.
-///
-/// `Serialize` prints it. The ghost members say which kind it is (`specs/Kinds.antt`), and `laws` is the proof that
-/// what the kind says fits together.
-pub trait Syntax {
+/// A type whose values are trees of a kind (`specs/kinds/Kinds.antt`): what is known of them before they are printed.
+pub trait SyntaxTree {
+    /// The kind: its grammar, side conditions, layout and nesting depth.
     ghost kind: { Kind };
 
-    /// The tree without locations. Two values that are alike have the same one.
+    /// The tree without locations. Two values that are equal have the same one.
     ghost tree: { Self → kind.Tree };
 
+    /// The proof that what the kind says fits together.
     ghost laws: { Laws kind };
 
-    /// Whether the tree keeps the side conditions of its kind: then what is printed of it can be read. It takes no
+    /// How many lists are around the name in the type that has most of them: 0 in a tree without types. The stack of
+    /// types needs so much room.
+    ghost list_depth: { kind.Tree → ℕ };
+
+    /// Whether the tree obeys the side conditions of its kind: then what is printed of it can be read. It takes no
     /// memory.
     fn is_well_formed(&self) -> bool
         ensures { result ≡ kind.obeys (tree self.now) };
 
-    /// How deep the groups of the tree stand in one another. `None` if it is above `usize::MAX`.
+    /// The nesting depth of the tree's groups. `None` if it is above `usize::MAX`.
     fn find_nesting(&self) -> Option<usize>
         ensures { IsCount result (kind.nesting (tree self.now)) };
+}
 
-    /// Writes the whole layout of the tree from a place on. How deep its groups stand in one another is handed over,
-    /// since it was found before. Memory for its stacks is asked for before the first byte: `AllocError` where it is
-    /// refused, with nothing written.
-    fn write<O: Target>(
-        &self,
-        out: &mut O,
-        place: &Place<'_>,
-        depth: usize,
-    ) -> Result<(), AllocError>
+/// A type whose trees are printed, and read back as themselves alone. `Serialize` prints them.
+pub trait Syntax: SyntaxTree {
+    /// Writes the whole layout of the tree. Memory for its stacks is asked for before the first byte: `AllocError`
+    /// where it is refused, with nothing written.
+    fn write<O: Target>(&self, out: &mut O, start: &Start<'_>) -> Result<(), AllocError>
     where
         Self: Sized,
-        requires fits { Fits place.now.level depth }
-        requires depth { depth ≡ kind.nesting (tree self.now) }
-        ensures ok { OnOk result (WritesTree O.wrote out.old out.new place.now kind (tree self.now)) }
+        requires { start.now.depth ≡ Self.kind.nesting (Self.tree self.now) }
+        ensures ok { OnOk result
+            (WritesTree O.wrote out.old out.new start.now.place Self.kind (Self.tree self.now)) }
         ensures err { OnErr result (out.new ≡ out.old) }
-        ensures free { kind.entries (tree self.now) ≡ 0 → IsOk result };
+        ensures free { start.now.depth ≡ 0 →
+            Self.list_depth (Self.tree self.now) ≡ 0 → IsOk result };
 }
 
 /// Why a tree was not printed, or not to its end.
@@ -82,7 +82,7 @@ pub struct Serialize<'a, T> {
 }
 
 impl<'a, T> Serialize<'a, T> {
-    ghost use Rattle.graphql_text.specs.Printing.{IsDefaultPrint, print_tree, print_mode, print_level};
+    ghost use Rattle.graphql_text.specs.kinds.Printing.{IsDefaultPrint, print_tree, print_mode, print_level};
 
     /// The tree in the default layout: a prefix of two spaces, from level 0.
     pub fn new(tree: &'a T) -> Serialize<'a, T>
@@ -133,49 +133,43 @@ impl<'a, T> Serialize<'a, T> {
 fn send_layout<T: Syntax, S: TextSink>(
     tree: &T,
     out: &mut ToSink<'_, S>,
-    place: &Place<'_>,
-    depth: usize,
+    start: &Start<'_>,
 ) -> Result<(), AllocError>
-    requires level { Fits place.now.level depth }
-    requires depth { depth ≡ T.kind.nesting (T.tree tree.now) }
+    requires depth { start.now.depth ≡ T.kind.nesting (T.tree tree.now) }
     requires faults { CanFault (S.fault_count out.old.sink.now) }
     requires fresh { out.old.stopped ≡ false }
     requires empty { waiting_bytes out.old.buffer ≡ [] }
     ensures name { out.new.sink.ghost_name ≡ out.old.sink.ghost_name }
     ensures err { OnErr result (out.new.sink.now ≡ out.old.sink.now) }
-    ensures free { T.kind.entries (T.tree tree.now) ≡ 0 → IsOk result }
+    ensures free { start.now.depth ≡ 0 → T.list_depth (T.tree tree.now) ≡ 0 → IsOk result }
     ensures stopped { OnOk result (out.new.stopped ≡ true →
         SinkFaulted S.taken S.fault_count out.old.sink.now
-        (bytes_from place.now T.kind (T.tree tree.now)) out.new.sink.now) }
+        (bytes_from start.now.place T.kind (T.tree tree.now)) out.new.sink.now) }
     ensures printed { OnOk result (out.new.stopped ≡ false →
         SinkTook S.taken S.fault_count out.old.sink.now
-        (bytes_from place.now T.kind (T.tree tree.now)) out.new.sink.now) }
+        (bytes_from start.now.place T.kind (T.tree tree.now)) out.new.sink.now) }
 {
-    tree.write(out, place, depth)?;
+    tree.write(out, start)?;
     finish(out);
     Ok(())
 }
 
 impl<'a, T: Syntax> Serialize<'a, T> {
-    ghost use Rattle.graphql_text.specs.Printing.{PrintOverflows, ReadsAlone, print_tree, print_mode, print_level, print_bytes};
+    ghost use Rattle.graphql_text.specs.kinds.Printing.{IsStart, PrintOverflows, print_tree, print_mode, print_level, print_bytes};
+    ghost use Rattle.graphql_text.specs.kinds.Reading.{ReadsAlone};
 
-    /// How deep the groups of the tree stand in one another, where that and the level fit together.
-    fn depth(&self) -> Option<usize>
+    /// Where the print begins. `None` if the starting level and the nesting depth don't fit into a `usize` together.
+    fn start(&self) -> Option<Start<'a>>
         ensures { MatchOption result (PrintOverflows T.kind T.tree self.now)
-            (λ depth. (depth ≡ T.kind.nesting (T.tree (print_tree self.now))) × Fits (print_level self.now) depth) }
+            (IsStart T.kind T.tree self.now) }
     {
         match self.tree.find_nesting() {
-            Some(depth) if depth <= usize::MAX - self.level => Some(depth),
+            Some(depth) if depth <= usize::MAX - self.level => Some(Start {
+                place: Place::new(self.prefix, self.level),
+                depth,
+            }),
             _ => None,
         }
-    }
-
-    /// The place where the print begins.
-    fn start(&self) -> Place<'a>
-        ensures mode { mode_of result.prefix ≡ print_mode self.now }
-        ensures level { result.level ≡ print_level self.now }
-    {
-        Place::new(self.prefix, self.level)
     }
 
     /// Prints into a sink.
@@ -188,22 +182,26 @@ impl<'a, T: Syntax> Serialize<'a, T> {
     pub fn print_to<S: TextSink>(&self, sink: &mut S) -> Result<(), PrintError>
         requires { CanFault (S.fault_count sink.old) }
         ensures printed { OnOk result
-            (SinkTook S.taken S.fault_count sink.old (print_bytes T.kind T.tree self.now) sink.new) }
+            (SinkTook S.taken S.fault_count sink.old
+            (print_bytes T.kind T.tree self.now) sink.new) }
 
-        ensures overflow { IsErrOf result PrintError.LevelOverflow ↔ PrintOverflows T.kind T.tree self.now }
+        ensures overflow { IsErrOf result PrintError.LevelOverflow
+            ↔ PrintOverflows T.kind T.tree self.now }
         ensures untouched { IsErrOf result PrintError.LevelOverflow → sink.new ≡ sink.old }
         ensures memory { IsErrOf result PrintError.Memory → sink.new ≡ sink.old }
-        ensures free { T.kind.entries (T.tree (print_tree self.now)) ≡ 0 →
-            IsErrOf result PrintError.Memory → ⊥ }
+        ensures free { T.kind.nesting (T.tree (print_tree self.now)) ≡ 0 →
+            T.list_depth (T.tree (print_tree self.now)) ≡ 0 → IsErrOf result PrintError.Memory → ⊥ }
         ensures stopped { IsErrOf result PrintError.Sink →
-            SinkFaulted S.taken S.fault_count sink.old (print_bytes T.kind T.tree self.now) sink.new }
+            SinkFaulted S.taken S.fault_count sink.old
+            (print_bytes T.kind T.tree self.now) sink.new }
 
         // What was printed of a well-formed tree is read as that tree, and as no other.
         ensures read { OnOk result
-            (IsTrue (T.kind.obeys (T.tree (print_tree self.now))) → IsBlankMode (print_mode self.now) →
+            (IsTrue (T.kind.obeys (T.tree (print_tree self.now))) →
+            IsBlankMode (print_mode self.now) →
             ReadsAlone T.kind (print_bytes T.kind T.tree self.now) (T.tree (print_tree self.now))) }
     {
-        let Some(depth) = self.depth() else {
+        let Some(start) = self.start() else {
             // before memory is asked for, and before the first byte
             return Err(PrintError::LevelOverflow);
         };
@@ -212,7 +210,7 @@ impl<'a, T: Syntax> Serialize<'a, T> {
             stopped: false,
             buffer: Buffer::new(),
         };
-        if send_layout(self.tree, &mut out, &self.start(), depth).is_err() {
+        if send_layout(self.tree, &mut out, &start).is_err() {
             return Err(PrintError::Memory);
         }
         if out.stopped {
@@ -225,17 +223,20 @@ impl<'a, T: Syntax> Serialize<'a, T> {
     /// The text of the layout. `LevelOverflow` and `Memory` come as in `print_to`, and `Memory` also where the text
     /// itself cannot grow; it never answers `Sink`.
     pub fn to_text(&self, alloc: Global) -> Result<String, PrintError>
-        ensures printed { IfOk result (λ text. string_bytes text ≡ print_bytes T.kind T.tree self.now) }
+        ensures printed { IfOk result
+            (λ text. string_bytes text ≡ print_bytes T.kind T.tree self.now) }
 
-        ensures overflow { IsErrOf result PrintError.LevelOverflow ↔ PrintOverflows T.kind T.tree self.now }
+        ensures overflow { IsErrOf result PrintError.LevelOverflow
+            ↔ PrintOverflows T.kind T.tree self.now }
         ensures sink { IsErrOf result PrintError.Sink → ⊥ }
 
         // What was printed of a well-formed tree is read as that tree, and as no other.
         ensures read { IfOk result (λ text.
-            IsTrue (T.kind.obeys (T.tree (print_tree self.now))) → IsBlankMode (print_mode self.now) →
+            IsTrue (T.kind.obeys (T.tree (print_tree self.now))) →
+            IsBlankMode (print_mode self.now) →
             ReadsAlone T.kind (string_bytes text) (T.tree (print_tree self.now))) }
     {
-        let Some(depth) = self.depth() else {
+        let Some(start) = self.start() else {
             return Err(PrintError::LevelOverflow);
         };
         let mut out = ToText {
@@ -243,7 +244,7 @@ impl<'a, T: Syntax> Serialize<'a, T> {
             failed: false,
             buffer: Buffer::new(),
         };
-        if self.tree.write(&mut out, &self.start(), depth).is_err() {
+        if self.tree.write(&mut out, &start).is_err() {
             return Err(PrintError::Memory);
         }
         into_text(out).ok_or(PrintError::Memory)
@@ -251,19 +252,19 @@ impl<'a, T: Syntax> Serialize<'a, T> {
 }
 
 impl<'a, T: Syntax> fmt::Display for Serialize<'a, T> {
-    ghost use Rattle.graphql_text.specs.Printing.{print_bytes};
+    ghost use Rattle.graphql_text.specs.kinds.Printing.{print_bytes};
 
     ghost output = { λ s. Some (print_bytes T.kind T.tree s) };
 
     fn fmt<W: fmt::Write>(&self, f: &mut fmt::Formatter<W>) -> fmt::Result {
-        let Some(depth) = self.depth() else {
+        let Some(start) = self.start() else {
             return Err(fmt::Error);
         };
         let mut out = ToFormatter {
             formatter: f,
             failed: false,
         };
-        if self.tree.write(&mut out, &self.start(), depth).is_err() {
+        if self.tree.write(&mut out, &start).is_err() {
             return Err(fmt::Error);
         }
         if out.failed { Err(fmt::Error) } else { Ok(()) }

@@ -3,18 +3,19 @@
 ghost use Rattle.std.specs.Prelude.{◌≡◌, ℕ, true, false, List, [], ◌∷◌, ◌++◌, ◌↔◌, IsTrue, Option, None, Some, MatchOption, codes, encode_utf8_all};
 ghost use Rattle.std.specs.List.{list_all};
 ghost use Rattle.graphql_base.specs.Names.{begins_in, is_name, is_name_continue};
-ghost use Rattle.graphql_text.specs.BlockForm.{block_text, can_be_block};
-ghost use Rattle.graphql_text.specs.BlockStringValue.{block_string_value, is_blank};
-ghost use Rattle.graphql_text.specs.Characters.{IsSourceText, is_ignored, follows_no_number, is_quote};
-ghost use Rattle.graphql_text.specs.Examples.{described_name, two_definitions, two_integers, two_names};
-ghost use Rattle.graphql_text.specs.Layout.{IsBlankMode, Item, StringRole, comma_group, curly_group, layout, string_text};
-ghost use Rattle.graphql_text.specs.Lines.{LinesAreIndented};
-ghost use Rattle.graphql_text.specs.Literals.{is_float, is_int};
-ghost use Rattle.graphql_text.specs.Printing.{ReadsAlone, print_mode, print_tree};
-ghost use Rattle.graphql_text.specs.QuotedForm.{quoted_form};
-ghost use Rattle.graphql_text.specs.Spelling.{AreApart, tokens_of_items};
-ghost use Rattle.graphql_text.specs.Strings.{IsBlock, IsQuoted};
-ghost use Rattle.graphql_text.specs.Tokens.{FloatValue, IntValue, Lexes, LexesBefore, Name, Punctuation, Punctuator, StringValue, Token, lbracket, punctuator_text, rbracket};
+ghost use Rattle.graphql_text.specs.strings.BlockForm.{block_text, can_be_block};
+ghost use Rattle.graphql_text.specs.strings.BlockStringValue.{block_string_value, is_blank};
+ghost use Rattle.graphql_text.specs.lexical.Characters.{IsSourceText, is_ignored, follows_no_number, is_quote};
+ghost use Rattle.graphql_text.specs.examples.LayoutExamples.{described_name, two_definitions, two_integers, two_names};
+ghost use Rattle.graphql_text.specs.layout.Layout.{IsBlankMode, Item, StringRole, comma_group, curly_group, layout, string_text};
+ghost use Rattle.graphql_text.specs.layout.Lines.{LinesAreIndented};
+ghost use Rattle.graphql_text.specs.lexical.Literals.{is_float, is_int};
+ghost use Rattle.graphql_text.specs.kinds.Printing.{print_mode, print_tree};
+ghost use Rattle.graphql_text.specs.kinds.Reading.{ReadsAlone};
+ghost use Rattle.graphql_text.specs.strings.QuotedForm.{quoted_form};
+ghost use Rattle.graphql_text.specs.layout.Spelling.{AreApart, tokens_of_items};
+ghost use Rattle.graphql_text.specs.strings.Strings.{IsBlock, IsQuoted};
+ghost use Rattle.graphql_text.specs.lexical.Tokens.{FloatValue, IntValue, Lexes, LexesBefore, Name, Punctuation, Punctuator, StringValue, Token, lbracket, punctuator_text, rbracket};
 
 use crate::engine::{PrintError, Serialize, Syntax};
 use crate::sink::SinkFault;
@@ -24,7 +25,8 @@ use std::fmt::Display;
 /// same tokens.
 pub fn one_token_list()
     ensures texts { (text : List ℕ) (xs ys : List Token) → Lexes text xs → Lexes text ys → xs ≡ ys }
-    ensures bytes { (a b : List ℕ) (xs ys : List Token) → encode_utf8_all a ≡ encode_utf8_all b → Lexes a xs →
+    ensures bytes { (a b : List ℕ) (xs ys : List Token) →
+        encode_utf8_all a ≡ encode_utf8_all b → Lexes a xs →
         Lexes b ys → xs ≡ ys }
 {}
 
@@ -35,9 +37,11 @@ pub fn one_token_list()
 pub fn tokens_side_by_side()
     ensures punctuators { (mark : Punctuator) (after : List ℕ) →
         LexesBefore (punctuator_text mark) (Punctuation mark ∷ []) after }
-    ensures names { (text after : List ℕ) → is_name text ≡ true → begins_in is_name_continue after ≡ false →
+    ensures names { (text after : List ℕ) → is_name text ≡ true →
+        begins_in is_name_continue after ≡ false →
         LexesBefore text (Name text ∷ []) after }
-    ensures ints { (text after : List ℕ) → is_int text ≡ true → begins_in follows_no_number after ≡ false →
+    ensures ints { (text after : List ℕ) → is_int text ≡ true →
+        begins_in follows_no_number after ≡ false →
         LexesBefore text (IntValue text ∷ []) after }
     ensures floats { (text after : List ℕ) → is_float text ≡ true →
         begins_in follows_no_number after ≡ false →
@@ -46,7 +50,8 @@ pub fn tokens_side_by_side()
         LexesBefore spelling (StringValue value ∷ []) after }
     ensures blocks { (spelling value after : List ℕ) → IsBlock spelling value →
         LexesBefore spelling (StringValue value ∷ []) after }
-    ensures ignored { (text after : List ℕ) → list_all is_ignored text ≡ true → LexesBefore text [] after }
+    ensures ignored { (text after : List ℕ) → list_all is_ignored text ≡ true →
+        LexesBefore text [] after }
     ensures joined { (a b after : List ℕ) (xs ys : List Token) → LexesBefore a xs (b ++ after) →
         LexesBefore b ys after → LexesBefore (a ++ b) (xs ++ ys) after }
     ensures lines { (a b : List ℕ) (xs ys : List Token) → Lexes a xs → Lexes b ys →
@@ -81,17 +86,22 @@ pub fn layouts_lex()
 {}
 
 /// What layouts give: groups, a description, and a blank between two parts with a line feed at the end.
-#[tactic(auto, unfolding(crate::specs::Layout::text_of_items, crate::specs::Layout::each_after))]
+#[tactic(auto, unfolding(crate::specs::layout::Layout::text_of_items, crate::specs::layout::Layout::each_after))]
 pub fn worked_layouts()
-    ensures curly_group { layout (Some (codes "  ")) 1 (curly_group two_names) ≡ codes "  {\n    a\n    b\n  }" }
+    ensures curly_group { layout (Some (codes "  ")) 1 (curly_group two_names)
+        ≡ codes "  {\n    a\n    b\n  }" }
     ensures curly_group_on_one_line { layout None 1 (curly_group two_names) ≡ codes "{ a b }" }
     ensures empty_curly_group { layout (Some (codes "  ")) 0 (curly_group []) ≡ codes "{}" }
-    ensures comma_group { layout (Some (codes "\t")) 1 (comma_group lbracket rbracket true two_integers)
+    ensures comma_group { layout (Some (codes "\t")) 1
+        (comma_group lbracket rbracket true two_integers)
         ≡ codes "\t[\n\t\t1,\n\t\t2,\n\t]" }
-    ensures comma_group_on_one_line { layout None 1 (comma_group lbracket rbracket false two_integers)
+    ensures comma_group_on_one_line { layout None 1
+        (comma_group lbracket rbracket false two_integers)
         ≡ codes "[1, 2]" }
-    ensures empty_comma_group { layout (Some (codes "  ")) 0 (comma_group lbracket rbracket true []) ≡ codes "[]" }
-    ensures description { layout (Some (codes "  ")) 1 described_name ≡ codes "  \"\"\"d\"\"\"\n  a" }
+    ensures empty_comma_group { layout (Some (codes "  ")) 0 (comma_group lbracket rbracket true [])
+        ≡ codes "[]" }
+    ensures description { layout (Some (codes "  ")) 1 described_name
+        ≡ codes "  \"\"\"d\"\"\"\n  a" }
     ensures description_on_one_line { layout None 0 described_name ≡ codes "\"d\" a" }
     ensures document { layout (Some (codes "  ")) 1 two_definitions ≡ codes "  a\n\n  b\n" }
     ensures document_on_one_line { layout None 0 two_definitions ≡ codes "a b" }
@@ -104,7 +114,8 @@ pub fn worked_texts()
         ∷ Punctuation rbracket ∷ []) }
     ensures escapes { Lexes (codes "\"\\u0041\\/\"") (StringValue (codes "A/") ∷ []) }
     ensures block { Lexes (codes "\"\"\"\n\ta\n\"\"\"") (StringValue (codes "a") ∷ []) }
-    ensures numbers { Lexes (codes "-0 1.50e-3") (IntValue (codes "-0") ∷ FloatValue (codes "1.50e-3") ∷ []) }
+    ensures numbers { Lexes (codes "-0 1.50e-3")
+        (IntValue (codes "-0") ∷ FloatValue (codes "1.50e-3") ∷ []) }
     ensures names { Lexes (codes "on_2\"\"") (Name (codes "on_2") ∷ StringValue [] ∷ []) }
     ensures nothing { Lexes [] [] }
 {}
@@ -127,7 +138,8 @@ pub fn refused_texts()
 /// the first line keeps its indentation; blank lines at the front and at the end are dropped; a line shorter than the
 /// common indentation becomes empty; a tab counts as one.
 pub fn block_string_values()
-    ensures example { block_string_value (codes "\n    Hello,\n      World!\n\n    Yours,\n      GraphQL.\n  ")
+    ensures example { block_string_value
+        (codes "\n    Hello,\n      World!\n\n    Yours,\n      GraphQL.\n  ")
         ≡ codes "Hello,\n  World!\n\nYours,\n  GraphQL." }
     ensures terminators { block_string_value (codes "a\r\nb\rc\nd") ≡ codes "a\nb\nc\nd" }
     ensures first_line { block_string_value (codes "  a\n  b") ≡ codes "  a\nb" }
@@ -139,12 +151,15 @@ pub fn block_string_values()
 /// Texts of which each line that isn't empty begins with the prefix as often as the level and the brackets open there
 /// say.
 pub fn indented_texts()
-    ensures group { LinesAreIndented (codes "  ") 0 (codes "{\n  list: [\n    1,\n    2,\n  ],\n}") }
+    ensures group { LinesAreIndented (codes "  ") 0
+        (codes "{\n  list: [\n    1,\n    2,\n  ],\n}") }
     ensures level { LinesAreIndented (codes "\t") 2 (codes "\t\t[\n\t\t\t1,\n\t\t]") }
     ensures block { LinesAreIndented (codes "  ") 0
         (codes "[\n  \"\"\"\n  [{(\n\n  ) \\\"\"\" ]\n  \"\"\",\n  \"({[\",\n  \"\",\n]") }
-    ensures default { LinesAreIndented (codes "  ") 0 (codes "f(\n  a: [Int] = [\n    1,\n  ] @x,\n): Int") }
-    ensures document { LinesAreIndented (codes "  ") 1 (codes "  type A\n\n  query {\n    a\n  }\n") }
+    ensures default { LinesAreIndented (codes "  ") 0
+        (codes "f(\n  a: [Int] = [\n    1,\n  ] @x,\n): Int") }
+    ensures document { LinesAreIndented (codes "  ") 1
+        (codes "  type A\n\n  query {\n    a\n  }\n") }
 {}
 
 /// Texts of which one line isn't: an item, a closing bracket, the first line, and the inner lines of a block string,
@@ -154,13 +169,15 @@ pub fn outdented_texts()
     ensures closing { LinesAreIndented (codes "  ") 1 (codes "  [\n    1,\n ]") → ⊥ }
     ensures first { LinesAreIndented (codes "  ") 1 (codes "{ a }") → ⊥ }
     ensures block { LinesAreIndented (codes "  ") 0 (codes "[\n  \"\"\"\n)\n  \"\"\",\n]") → ⊥ }
-    ensures block_end { LinesAreIndented (codes "  ") 0 (codes "[\n  \"\"\"\n  a\n \"\"\",\n]") → ⊥ }
+    ensures block_end { LinesAreIndented (codes "  ") 0 (codes "[\n  \"\"\"\n  a\n \"\"\",\n]") →
+        ⊥ }
 {}
 
 /// What is displayed of a well-formed tree, on one line or under a prefix of spaces and tabs, is read as that tree,
 /// and as no other.
 pub fn displayed_trees_are_read<'a, T: Syntax>(_printed: &Serialize<'a, T>)
-    ensures { IsTrue (T.kind.obeys (T.tree (print_tree _printed.now))) → IsBlankMode (print_mode _printed.now) →
+    ensures { IsTrue (T.kind.obeys (T.tree (print_tree _printed.now))) →
+        IsBlankMode (print_mode _printed.now) →
         MatchOption (⟦<Serialize<'a, T> as Display>⟧.output _printed.now) ⊥
         (λ bytes. ReadsAlone T.kind bytes (T.tree (print_tree _printed.now))) }
 {}

@@ -1,5 +1,6 @@
-//! Where a writer stands.
+//! Where a writer stands, and where a print begins.
 ghost use Rattle.std.specs.Prelude.{◌≡◌, ◌↔◌, ◌+◌, ◌-◌, ◌<◌, ◌^◌, IsTrue, None, Some, codes, option_copied};
+ghost use Rattle.graphql_text.specs.layout.Levels.{Fits};
 
 /// Where a writer stands: the prefix of the lines, or none on one line, and the level, in levels of indentation.
 #[derive(Clone, Copy)]
@@ -8,7 +9,8 @@ pub struct Place<'p> {
     pub level: usize,
     // It is asked for at each break, and so found once a print.
     pub(crate) is_two_spaces: bool,
-    pub(crate) ghost two_spaces: { IsTrue is_two_spaces ↔ (option_copied prefix ≡ Some (codes "  ")) },
+    pub(crate) ghost two_spaces: { IsTrue is_two_spaces
+        ↔ (option_copied prefix ≡ Some (codes "  ")) },
 }
 
 fn is_two_spaces(prefix: Option<&str>) -> bool
@@ -69,4 +71,12 @@ impl<'p> Place<'p> {
     {
         Place::new(None, self.level)
     }
+}
+
+/// Where a print begins, and the nesting depth of its tree, which was found before. All its levels can be counted.
+#[derive(Clone, Copy)]
+pub struct Start<'p> {
+    pub place: Place<'p>,
+    pub depth: usize,
+    pub(crate) ghost fits: { Fits place.level depth },
 }

@@ -2,7 +2,7 @@
 
 ghost use Rattle.std.specs.Prelude.{◌≡◌, ◌<◌, ◌≤◌, IsTrue, false, nat_lt, length, flat_map, chars, encode_utf8_all};
 ghost use Rattle.std.specs.List.{list_any};
-ghost use Rattle.graphql_text.specs.QuotedForm.{quoted_character, quoted_form};
+ghost use Rattle.graphql_text.specs.strings.QuotedForm.{quoted_character, quoted_form};
 
 use crate::target::{Target, write_piece};
 

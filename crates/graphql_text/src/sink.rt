@@ -1,7 +1,7 @@
 //! Sinks: what takes the bytes of a print, and counts its faults.
 ghost use Rattle.std.specs.Prelude.{◌≡◌, ℕ, ◌+◌, ◌<◌, ◌≤◌, List, length, Option, IfOk, OnOk, OnErr};
 ghost use Rattle.std.specs.Io.KnownBytes.{WriteAppends};
-ghost use Rattle.graphql_text.specs.Sinks.{CanFault, SinkTook, SinkFaulted};
+ghost use Rattle.graphql_text.specs.code.Sinks.{CanFault, SinkTook, SinkFaulted};
 
 mod stream;
 mod vec;

@@ -11,7 +11,7 @@ pub struct Stack<T> {
 }
 
 impl<T: Drop> Stack<T> {
-    ghost use Rattle.graphql_text.specs.Stack.{stack_entries, stack_room};
+    ghost use Rattle.graphql_text.specs.code.Stack.{stack_entries, stack_room};
 
     /// A stack with room for a count of entries. For none no memory is asked for, and then no allocator is needed.
     /// `AllocError` where memory is refused.
@@ -49,7 +49,8 @@ impl<T: Drop> Stack<T> {
     /// Takes the last entry off the stack.
     #[inline(always)]
     pub fn pop(&mut self) -> Option<T>
-        ensures entries { MatchOption result ((stack_entries self.old ≡ []) × (stack_entries self.new ≡ []))
+        ensures entries { MatchOption result
+            ((stack_entries self.old ≡ []) × (stack_entries self.new ≡ []))
             (λ entry. stack_entries self.old ≡ stack_entries self.new ++ entry ∷ []) }
         ensures room { stack_room self.old ≤ stack_room self.new }
     {

@@ -1,8 +1,8 @@
 //! Strings, quoted or as block strings.
 
 ghost use Rattle.std.specs.Prelude.{[], ◌∷◌, chars};
-ghost use Rattle.graphql_text.specs.Layout.{AsDescription, AsValue, StringItem};
-ghost use Rattle.graphql_text.specs.Writing.{Writes};
+ghost use Rattle.graphql_text.specs.layout.Layout.{AsDescription, AsValue, StringItem};
+ghost use Rattle.graphql_text.specs.code.Writing.{Writes};
 
 use crate::block_string::{begins_unindented, can_be_block, holds, write_block, write_plain_block};
 use crate::place::Place;
@@ -40,7 +40,8 @@ pub fn write_string_value<O: Target>(out: &mut O, place: &Place<'_>, value: &str
 /// Writes a description that may hold characters to escape.
 #[inline(never)]
 fn write_description_with_escapes<O: Target>(out: &mut O, place: &Place<'_>, value: &str)
-    ensures { Writes O.wrote out.old out.new place.now (StringItem (chars value.now) AsDescription ∷ []) }
+    ensures { Writes O.wrote out.old out.new place.now
+        (StringItem (chars value.now) AsDescription ∷ []) }
 {
     match place.prefix {
         Some(prefix) if can_be_block(value) => write_block(out, prefix, place.level, value),
@@ -50,7 +51,8 @@ fn write_description_with_escapes<O: Target>(out: &mut O, place: &Place<'_>, val
 
 /// Writes a description, the string alone: as a block string under a prefix, if it can be one, else quoted.
 pub fn write_description<O: Target>(out: &mut O, place: &Place<'_>, value: &str)
-    ensures { Writes O.wrote out.old out.new place.now (StringItem (chars value.now) AsDescription ∷ []) }
+    ensures { Writes O.wrote out.old out.new place.now
+        (StringItem (chars value.now) AsDescription ∷ []) }
 {
     match place.prefix {
         _ if has_escaped(value) => write_description_with_escapes(out, place, value),

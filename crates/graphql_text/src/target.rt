@@ -1,9 +1,9 @@
 //! What a printer writes to: a sink, a text, a formatter.
 ghost use Rattle.std.specs.Prelude.{◌≡◌, ◌↔◌, ◌++◌, ℕ, [], List, IfSome, IsTrue, false, string_bytes};
 ghost use Rattle.std.proofs.Common.{refl, ◌∙◌};
-ghost use Rattle.graphql_text.specs.Buffer.{waiting_bytes, written_bytes};
-ghost use Rattle.graphql_text.specs.Sinks.{Sends, SendsBuffered};
-ghost use Rattle.graphql_text.specs.Targets.{TextGrew, FormatterTook};
+ghost use Rattle.graphql_text.specs.code.Buffer.{waiting_bytes, written_bytes};
+ghost use Rattle.graphql_text.specs.code.Sinks.{Sends, SendsBuffered};
+ghost use Rattle.graphql_text.specs.code.Targets.{TextGrew, FormatterTook};
 ghost use Rattle.graphql_text.specs.lemmas.Sinks.{buffered_nothing, buffered_idle, buffered_more};
 ghost use Rattle.graphql_text.specs.lemmas.Targets.{grew_nothing, grew_idle, grew_more, formatted_nothing, formatted_idle, formatted_more};
 
@@ -46,9 +46,10 @@ pub(crate) struct ToSink<'a, S> {
 /// Sends what waits, and then lets the text wait, or sends it too. It answers whether writing stopped.
 #[cold]
 #[inline(never)]
-#[tactic(auto, using(crate::proofs::Sending::both_taken, crate::specs::lemmas::Sinks::faulted_later))]
+#[tactic(auto, using(crate::proofs::code::SinkTwoPuts::both_taken, crate::specs::lemmas::Sinks::faulted_later))]
 fn send<S: TextSink>(sink: &mut S, stopped: bool, buffer: &mut Buffer, text: &str) -> bool
-    ensures { SendsBuffered S.taken S.fault_count sink.old stopped (waiting_bytes buffer.old) text.now
+    ensures { SendsBuffered S.taken S.fault_count sink.old stopped
+        (waiting_bytes buffer.old) text.now
         sink.new result (waiting_bytes buffer.new) }
 {
     if stopped {
@@ -73,7 +74,8 @@ fn send<S: TextSink>(sink: &mut S, stopped: bool, buffer: &mut Buffer, text: &st
 /// Sends what still waits, at the end.
 pub(crate) fn finish<S: TextSink>(out: &mut ToSink<'_, S>)
     ensures name { out.new.sink.ghost_name ≡ out.old.sink.ghost_name }
-    ensures sent { Sends S.taken S.fault_count out.old.sink.now out.old.stopped (waiting_bytes out.old.buffer)
+    ensures sent { Sends S.taken S.fault_count out.old.sink.now out.old.stopped
+        (waiting_bytes out.old.buffer)
         out.new.sink.now out.new.stopped }
 {
     if out.stopped {
@@ -95,15 +97,21 @@ impl<'a, S: TextSink> Target for ToSink<'a, S> {
 
     ghost stopped = { λ a. IsTrue a.stopped };
 
-    ghost nothing = { λ a.
-        (refl, buffered_nothing S.taken S.fault_count a.sink.now a.stopped (waiting_bytes a.buffer)) };
+    ghost nothing = { λ a. (
+      refl,
+      buffered_nothing S.taken S.fault_count a.sink.now a.stopped (waiting_bytes a.buffer),
+    ) };
 
-    ghost idle = { λ a bytes h.
-        (refl, buffered_idle S.taken S.fault_count a.sink.now a.stopped (waiting_bytes a.buffer) bytes h) };
+    ghost idle = { λ a bytes h. (
+      refl,
+      buffered_idle S.taken S.fault_count a.sink.now a.stopped
+          (waiting_bytes a.buffer) bytes h,
+    ) };
 
     ghost more = { λ a b c x y h k. (
       k.0 ∙ h.0,
-      buffered_more S.taken S.fault_count a.sink.now b.sink.now c.sink.now a.stopped b.stopped c.stopped
+      buffered_more S.taken S.fault_count a.sink.now b.sink.now c.sink.now a.stopped
+          b.stopped c.stopped
           (waiting_bytes a.buffer) (waiting_bytes b.buffer) (waiting_bytes c.buffer) x y h.1 k.1,
     ) };
 
@@ -149,7 +157,8 @@ fn append(text: &mut String, failed: bool, buffer: &mut Buffer, more: &str) -> b
 
 /// The whole text, unless memory was refused.
 pub(crate) fn into_text(out: ToText) -> Option<String>
-    ensures { IfSome result (λ text. (out.failed ≡ false) × (string_bytes text ≡ written_bytes out)) }
+    ensures { IfSome result
+        (λ text. (out.failed ≡ false) × (string_bytes text ≡ written_bytes out)) }
 {
     let ToText {
         mut text,
@@ -163,7 +172,8 @@ pub(crate) fn into_text(out: ToText) -> Option<String>
 }
 
 impl Target for ToText {
-    ghost wrote = { λ a bytes b. TextGrew (written_bytes a) a.failed bytes (written_bytes b) b.failed };
+    ghost wrote = { λ a bytes b.
+        TextGrew (written_bytes a) a.failed bytes (written_bytes b) b.failed };
 
     ghost stopped = { λ a. IsTrue a.failed };
 
@@ -172,7 +182,8 @@ impl Target for ToText {
     ghost idle = { λ a bytes h. grew_idle (written_bytes a) a.failed bytes h };
 
     ghost more = { λ a b c x y h k.
-        grew_more (written_bytes a) (written_bytes b) (written_bytes c) a.failed b.failed c.failed x y h k };
+        grew_more (written_bytes a) (written_bytes b)
+        (written_bytes c) a.failed b.failed c.failed x y h k };
 
     // It may go on after a failure: what stands in it then is never handed out.
     #[inline(always)]
@@ -202,7 +213,8 @@ impl<'a, W: fmt::Write> Target for ToFormatter<'a, W> {
 
     ghost nothing = { λ a. (refl, formatted_nothing W.write_str_gives a.formatter.now a.failed) };
 
-    ghost idle = { λ a bytes h. (refl, formatted_idle W.write_str_gives a.formatter.now a.failed bytes h) };
+    ghost idle = { λ a bytes h.
+        (refl, formatted_idle W.write_str_gives a.formatter.now a.failed bytes h) };
 
     ghost more = { λ a b c x y h k. (
       k.0 ∙ h.0,

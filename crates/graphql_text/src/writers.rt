@@ -2,20 +2,24 @@
 ghost use Rattle.std.specs.Prelude.{◌≡◌, ℕ, ◌≤◌, List, Option, Some, [], ◌∷◌, ◌++◌, IsSome, IsTrue, MatchOption, ⊤, codes, option_copied};
 ghost use Rattle.std.specs.Option.{option_map};
 ghost use Rattle.graphql_base.specs.Name.{name_text};
-ghost use Rattle.graphql_text.specs.Descriptions.{description_shape};
-ghost use Rattle.graphql_text.specs.Groups.{comma_lead};
-ghost use Rattle.graphql_text.specs.Layout.{Item, Word, Soft, Tight, Blank, Finish, last_comma};
-ghost use Rattle.graphql_text.specs.Leaves.{description_tree};
-ghost use Rattle.graphql_text.specs.Literals.{is_int, is_float};
-ghost use Rattle.graphql_text.specs.Place.{breaks, mode_of};
-ghost use Rattle.graphql_text.specs.Tokens.{Name as NameToken, IntValue, FloatValue};
-ghost use Rattle.graphql_text.specs.Writing.{IsCommaLead, Writes, WritesAnywhere, WritesItems, WritesLayout, fixed_text};
+ghost use Rattle.graphql_text.specs.parts.Descriptions.{description_shape};
+ghost use Rattle.graphql_text.specs.code.Groups.{comma_lead};
+ghost use Rattle.graphql_text.specs.layout.Layout.{Item, Word, Soft, Tight, Blank, Finish, last_comma};
+ghost use Rattle.graphql_text.specs.trees.Leaves.{description_tree};
+ghost use Rattle.graphql_text.specs.lexical.Literals.{is_int, is_float};
+ghost use Rattle.graphql_text.specs.code.Place.{breaks, mode_of};
+ghost use Rattle.graphql_text.specs.lexical.Tokens.{Name as NameToken, IntValue, FloatValue};
+ghost use Rattle.graphql_text.specs.code.Writing.{IsCommaLead, Writes, WritesAnywhere, WritesItems, WritesLayout, fixed_text};
 
 use crate::breaks::{comma_break, indent, line_break, ready_comma_break};
-pub use crate::place::Place;
+pub use crate::node_lists::{
+    HasTypes, are_parts_well_formed, find_parts_list_depth, find_parts_nesting,
+};
+pub use crate::place::{Place, Start};
 pub use crate::stack::Stack;
 pub use crate::string::{write_description, write_string_value};
 pub use crate::target::{Target, ToFormatter};
+pub use crate::written::{WritingStacks, Written, write_whole};
 use graphql_base::name::Name;
 use graphql_base::node::NodeStr;
 
@@ -168,7 +172,8 @@ pub fn write_last_comma<O: Target>(out: &mut O, place: &Place<'_>)
 /// and a break, else nothing.
 #[inline(always)]
 pub fn write_comma_end<O: Target>(out: &mut O, place: &Place<'_>)
-    ensures { Writes O.wrote out.old out.new place.now (last_comma (breaks place.now) ++ (Tight ∷ [])) }
+    ensures { Writes O.wrote out.old out.new place.now
+        (last_comma (breaks place.now) ++ (Tight ∷ [])) }
 {
     match place.prefix {
         Some(prefix) => match ready_comma_break(prefix, place.is_two_spaces, place.level) {

@@ -1,19 +1,10 @@
--- The type system, definitions and extensions: trees, grammar, layout, nesting, side conditions and kinds.
-pub mod Keywords
-pub mod Schemas
-pub mod ScalarTypes
-pub mod FieldDefinitions
-pub mod ImplementingTypes
-pub mod ObjectTypes
-pub mod InterfaceTypes
-pub mod UnionTypes
-pub mod EnumValueDefinitions
-pub mod BracedTypes
-pub mod EnumTypes
-pub mod InputObjectTypes
+-- The type system: definitions and extensions.
+
+-- each kind: its trees, grammar, layout, nesting, side conditions
+pub mod kinds
 -- the trees that the types of the code stand for
-pub mod MemberTrees
-pub mod TypeSystemTrees
--- examples, and lemmas
-pub mod Examples
+pub mod trees
+-- examples that laws speak of
+pub mod examples
+-- lemmas that impls and the crates above cite, no definitions: each body and kind as a part, and its laws
 pub mod lemmas

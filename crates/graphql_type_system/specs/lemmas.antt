@@ -1,4 +1,6 @@
--- Lemmas that impls and the crates above cite, no definitions that a contract cites: each body and kind as a part, and its laws.
+-- Lemmas that impls and the crates above cite, no definitions: each body and kind as a part, and its laws.
+
+-- each body as a part, put together of its parts
 pub mod Bodies
+-- the laws of the sixteen kinds
 pub mod Kinds
-pub mod Balance

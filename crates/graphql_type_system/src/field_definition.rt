@@ -1,6 +1,6 @@
 //! Definitions of fields, which object types and interface types have.
 ghost use Rattle.std.specs.Prelude.{◌≡◌, ◌<◌, IfSome, length, option_copied, position};
-ghost use Rattle.graphql_values.specs.Queries.{first_input_value_definition_named, is_input_value_definition_named};
+ghost use Rattle.graphql_values.specs.code.Queries.{first_input_value_definition_named, is_input_value_definition_named};
 
 pub(crate) mod print;
 
@@ -29,14 +29,16 @@ pub struct FieldDefinition {
 impl FieldDefinition {
     /// The first argument of that name.
     pub fn argument_by_name(&self, name: &str) -> Option<&Node<InputValueDefinition>>
-        ensures { option_copied result ≡ first_input_value_definition_named name.now self.now.arguments.items }
+        ensures { option_copied result
+            ≡ first_input_value_definition_named name.now self.now.arguments.items }
     {
         let place = self.argument_position(name)?;
         Some(&self.arguments[place])
     }
 
     fn argument_position(&self, name: &str) -> Option<usize>
-        ensures place { result ≡ position (is_input_value_definition_named name.now) self.now.arguments.items }
+        ensures place { result
+            ≡ position (is_input_value_definition_named name.now) self.now.arguments.items }
         ensures within { IfSome result (λ place. place < length self.now.arguments.items) }
     {
         self.arguments

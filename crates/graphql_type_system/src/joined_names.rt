@@ -1,11 +1,11 @@
 //! Names that are joined by a punctuator: the interfaces of a type, the members of a union.
 ghost use Rattle.std.specs.Prelude.{◌≡◌, ◌∷◌, [], Some};
-ghost use Rattle.graphql_text.specs.JoinedNames.{joined_names_shape};
-ghost use Rattle.graphql_text.specs.Layout.{Space, Word};
-ghost use Rattle.graphql_text.specs.Literals.{NameText};
-ghost use Rattle.graphql_text.specs.Tokens.{Punctuation, Punctuator, Token};
-ghost use Rattle.graphql_text.specs.Writing.{WritesAnywhere, fixed_text};
-ghost use Rattle.graphql_type_system.specs.MemberTrees.{name_trees};
+ghost use Rattle.graphql_text.specs.parts.JoinedNames.{joined_names_shape};
+ghost use Rattle.graphql_text.specs.layout.Layout.{Space, Word};
+ghost use Rattle.graphql_text.specs.lexical.Literals.{NameText};
+ghost use Rattle.graphql_text.specs.lexical.Tokens.{Punctuation, Punctuator, Token};
+ghost use Rattle.graphql_text.specs.code.Writing.{WritesAnywhere, fixed_text};
+ghost use Rattle.graphql_text.specs.trees.Leaves.{name_trees};
 
 use graphql_base::name::Name;
 use graphql_text::writers::{Target, write_name, write_words};
@@ -18,7 +18,8 @@ pub(crate) fn write_joined_names<O: Target>(
     separator: &str,
     names: &[Name],
 )
-    ensures { (word : Token) (mark : Punctuator) → fixed_text (Space ∷ Word word ∷ Space ∷ []) ≡ Some opening.now →
+    ensures { (word : Token) (mark : Punctuator) →
+        fixed_text (Space ∷ Word word ∷ Space ∷ []) ≡ Some opening.now →
         fixed_text (Space ∷ Word (Punctuation mark) ∷ Space ∷ []) ≡ Some separator.now →
         WritesAnywhere O.wrote out.old out.new
         (joined_names_shape word mark (λ (name : NameText). name.text) (name_trees names.now)) }

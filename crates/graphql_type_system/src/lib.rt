@@ -3,16 +3,12 @@
 //! - `schema`, `scalar_type`, `object_type`, `interface_type`, `union_type`, `enum_type`, `input_object_type`: a
 //!   definition and an extension each.
 //! - `field_definition`, `enum_value_definition`: what object, interface and enum types hold.
-//! - `writers`: what documents are checked and written with, and made ready for.
 //! - `laws`: laws of these kinds, as contracts of functions that do nothing.
 #![tactic(auto)]
 
-mod braced_type;
 pub mod enum_type;
 pub mod enum_value_definition;
 pub mod field_definition;
-mod implementing_type;
-mod input_field;
 pub mod input_object_type;
 pub mod interface_type;
 mod joined_names;
@@ -24,4 +20,3 @@ mod root_operation;
 pub mod scalar_type;
 pub mod schema;
 pub mod union_type;
-pub mod writers;

@@ -1,44 +1,54 @@
 //! What stands between the braces of definitions and extensions: fields, enum values, input values, root operations.
 ghost use Rattle.std.specs.Prelude.{◌≡◌, ℕ, Bool, false};
-ghost use Rattle.graphql_text.specs.Kinds.{Kind};
-ghost use Rattle.graphql_text.specs.Layout.{lowers, raises};
-ghost use Rattle.graphql_text.specs.Levels.{IsCount};
-ghost use Rattle.graphql_text.specs.Writing.{WritesPart};
-ghost use Rattle.graphql_values.specs.Stacks.{AreKept, CanWriteDefinition};
+ghost use Rattle.graphql_text.specs.kinds.Kinds.{Kind};
+ghost use Rattle.graphql_text.specs.layout.Layout.{lowers, raises};
+ghost use Rattle.graphql_text.specs.code.Writing.{WritesPart};
+ghost use Rattle.graphql_values.specs.code.Stacks.{AreKept, CanWriteDefinition};
 
-use graphql_text::writers::{Place, Target};
+use crate::enum_value_definition::EnumValueDefinition;
+use crate::field_definition::FieldDefinition;
+use graphql_text::writers::{Place, Target, Written};
+use graphql_values::input_value_definition::InputValueDefinition;
 use graphql_values::writers::Stacks;
 
 /// A part that stands between braces, each on a line of its own under a prefix.
-pub(crate) trait Member: Sized {
+pub(crate) trait Member<'t>: Sized {
     ghost kind: { Kind };
 
     ghost tree: { Self → kind.Tree };
 
-    /// How many lists stand around the name in the type in it that has most.
     ghost list_depth: { kind.Tree → ℕ };
 
-    /// Whether the member keeps the side conditions of its kind.
-    fn is_member_well_formed(member: &Self) -> bool
-        ensures { result ≡ kind.obeys (tree member.now) };
-
-    /// How deep the groups of the member stand in one another. `None` if it is above `usize::MAX`.
-    fn find_member_nesting(member: &Self) -> Option<usize>
-        ensures { IsCount result (kind.nesting (tree member.now)) };
-
-    /// Writes the member.
-    fn write_member<'a, O: Target>(
-        out: &mut O,
-        place: &Place<'_>,
-        stacks: &mut Stacks<'a>,
-        member: &'a Self,
-    )
-        requires { CanWriteDefinition place.now stacks.old
-            (kind.nesting (tree member.now)) (list_depth (tree member.now)) }
-        ensures kept { AreKept stacks.old stacks.new }
-        ensures written { WritesPart O.wrote out.old out.new place.now kind (tree member.now) };
-
-    /// What is written of a member ends at the level where it began.
     ghost balanced: { (broken : Bool) (member : kind.Tree) →
         raises (kind.shape broken false member) ≡ lowers (kind.shape broken false member) };
+
+    /// Writes the member.
+    fn write_member<O: Target>(&'t self, out: &mut O, place: &Place<'_>, stacks: &mut Stacks<'t>)
+        requires { CanWriteDefinition place.now stacks.old
+            (kind.nesting (tree self.now)) (list_depth (tree self.now)) }
+        ensures kept { AreKept stacks.old stacks.new }
+        ensures written { WritesPart O.wrote out.old out.new place.now kind (tree self.now) };
+}
+
+/// A type whose trees are members.
+pub(crate) trait MemberTree<'t>: Written<'t, Stacks<'t>> {}
+
+impl<'t> MemberTree<'t> for EnumValueDefinition {}
+
+impl<'t> MemberTree<'t> for FieldDefinition {}
+
+impl<'t> MemberTree<'t> for InputValueDefinition {}
+
+impl<'t, M: MemberTree<'t>> Member<'t> for M {
+    ghost kind = { M.kind };
+
+    ghost tree = { M.tree };
+
+    ghost list_depth = { M.list_depth };
+
+    ghost balanced = { λ broken member. M.laws.balanced broken false member };
+
+    fn write_member<O: Target>(&'t self, out: &mut O, place: &Place<'_>, stacks: &mut Stacks<'t>) {
+        self.write_at(out, place, stacks);
+    }
 }

@@ -1,20 +1,16 @@
-pub mod Clones
-pub mod DefinitionEquality
-pub mod DirectiveEquality
-pub mod DirectiveShapes
-pub mod Equality
-pub mod FirstPlaces
-pub mod LocationShapes
-pub mod Nullability
-pub mod Numerals
-pub mod Outcomes
-pub mod ParameterGroups
-pub mod Places
-pub mod Readings
-pub mod Searches
-pub mod StacksKept
-pub mod Trees
-pub mod TypeEquality
-pub mod TypeShapes
-pub mod ValueShapes
-pub mod ValueStack
+-- Lemmas on the definitions of specs/, and on lists.
+
+-- lemmas that know nothing of GraphQL
+pub mod general
+-- what the derived `==` decides: whether trees are the same
+pub mod comparisons
+-- of the trees that types of the code stand for
+pub mod trees
+-- of kinds
+pub mod kinds
+-- of the layouts of kinds, as writers go through them
+pub mod layout
+-- of what the code does
+pub mod code
+-- what worked examples are proved by
+pub mod examples

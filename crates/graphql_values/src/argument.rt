@@ -27,7 +27,8 @@ impl Argument {
         name: Name,
         value: Node<Value>,
     ) -> Result<Node<Argument>, AllocError>
-        ensures { IfOk result (λ node. node ≡ node_at None (record { name = name; value = value })) }
+        ensures { IfOk result
+            (λ node. node ≡ node_at None (record { name = name; value = value })) }
     {
         Node::new(alloc, Argument { name, value })
     }

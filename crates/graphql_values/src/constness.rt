@@ -1,7 +1,7 @@
 //! Places that admit variables, and places that don't.
 ghost use Rattle.std.specs.Prelude.{◌≡◌};
-ghost use Rattle.graphql_values.specs.ValueTrees.{constness_of};
-ghost use Rattle.graphql_values.specs.Values.{admits_variables};
+ghost use Rattle.graphql_values.specs.trees.ValueTrees.{constness_of};
+ghost use Rattle.graphql_values.specs.kinds.Values.{admits_variables};
 
 /// Whether a place is constant (`Value[Const]`), which admits no variable at any depth.
 #[derive(Clone, Copy, Debug, PartialEq, Eq)]

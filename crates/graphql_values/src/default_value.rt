@@ -1,17 +1,17 @@
 //! Default values of input values and variables.
 ghost use Rattle.std.specs.Prelude.{◌≡◌};
-ghost use Rattle.graphql_text.specs.Levels.{IsCount};
-ghost use Rattle.graphql_text.specs.Place.{breaks};
-ghost use Rattle.graphql_text.specs.Stack.{CanWrite, IsKept};
-ghost use Rattle.graphql_text.specs.Writing.{Writes};
-ghost use Rattle.graphql_values.specs.DefaultValues.{default_value_nesting, default_value_obeys, default_value_shape};
-ghost use Rattle.graphql_values.specs.ValueTrees.{default_value_tree};
+ghost use Rattle.graphql_text.specs.layout.Levels.{IsCount};
+ghost use Rattle.graphql_text.specs.code.Place.{breaks};
+ghost use Rattle.graphql_text.specs.code.Stack.{CanWrite, IsKept};
+ghost use Rattle.graphql_text.specs.code.Writing.{Writes};
+ghost use Rattle.graphql_values.specs.kinds.DefaultValues.{default_value_nesting, default_value_obeys, default_value_shape};
+ghost use Rattle.graphql_values.specs.trees.ValueTrees.{default_value_tree};
 
 use crate::constness::Constness;
 use crate::value::Value;
-use crate::value::print::{ValueEntry, find_value_nesting, is_value_well_formed, write_value};
+use crate::value::print::{ValueEntry, find_value_nesting, is_value_well_formed};
 use graphql_base::node::Node;
-use graphql_text::writers::{Place, Stack, Target, write_words};
+use graphql_text::writers::{Place, Stack, Target, Written, write_words};
 
 /// Whether a default value, if there is one, is well formed at its constant place.
 pub fn is_default_value_well_formed(default_value: Option<&Node<Value>>) -> bool
@@ -41,13 +41,14 @@ pub fn write_default_value<'a, O: Target>(
     stack: &mut Stack<ValueEntry<'a>>,
     default_value: Option<&'a Node<Value>>,
 )
-    requires { CanWrite place.now stack.old (default_value_nesting (default_value_tree default_value)) }
+    requires { CanWrite place.now stack.old
+        (default_value_nesting (default_value_tree default_value)) }
     ensures kept { IsKept stack.old stack.new }
     ensures written { Writes O.wrote out.old out.new place.now
         (default_value_shape (breaks place.now) (default_value_tree default_value.entry)) }
 {
     if let Some(value) = default_value {
         write_words(out, " = ");
-        write_value(out, place, stack, value);
+        value.write_at(out, place, stack);
     }
 }

@@ -4,9 +4,9 @@ ghost use Rattle.std.specs.Borrow.{sem};
 ghost use Rattle.std.specs.List.{HoldsAt};
 ghost use Rattle.std.specs.Option.{option_map};
 ghost use Rattle.graphql_base.specs.Name.{name_text};
-ghost use Rattle.graphql_values.specs.ArgumentValues.{argument_answer, argument_by_name};
-ghost use Rattle.graphql_values.specs.Queries.{argument_value, definition_under, first_argument_named, is_argument_named};
-ghost use Rattle.graphql_values.specs.Loans.{LendsArgumentValue, LendsSpecifiedValue, LendsValueAt};
+ghost use Rattle.graphql_values.specs.code.ArgumentValues.{argument_answer, argument_by_name};
+ghost use Rattle.graphql_values.specs.code.Queries.{argument_value, definition_under, first_argument_named, is_argument_named};
+ghost use Rattle.graphql_values.specs.code.Loans.{LendsArgumentValue, LendsSpecifiedValue, LendsValueAt};
 
 pub(crate) mod print;
 
@@ -128,7 +128,8 @@ impl Directive {
         name: &str,
         definitions: &'a IndexMap<Name, Node<DirectiveDefinition>>,
     ) -> Result<ArgumentValue<'a>, ArgumentByNameError>
-        ensures { argument_answer result ≡ argument_by_name self.now name.now definitions.now.entries }
+        ensures { argument_answer result
+            ≡ argument_by_name self.now name.now definitions.now.entries }
     {
         if let Some(value) = self.specified_argument_by_name(name) {
             return Ok(ArgumentValue::Value(value));
@@ -153,7 +154,8 @@ impl Directive {
         requires { place < length self.old.arguments.items }
         ensures* writes_back { sem 𝓛 (LendsValueAt self.entry place result) }
         ensures value { IfOk result (λ value.
-            HoldsAt (λ argument. value.now ≡ argument_value argument) self.old.arguments.items place) }
+            HoldsAt
+            (λ argument. value.now ≡ argument_value argument) self.old.arguments.items place) }
         ensures memory { IfErr result (λ error. error ≡ SpecifiedArgumentError.Memory) }
     {
         value_mut(&mut self.arguments[place])
@@ -171,7 +173,8 @@ impl Directive {
     ) -> Result<&mut Node<Value>, SpecifiedArgumentError>
         ensures* writes_back { sem 𝓛 (LendsSpecifiedValue self.entry name.now result) }
         ensures value { IfOk result (λ value.
-            option_map argument_value (first_argument_named name.now self.old.arguments.items) ≡ Some value.now) }
+            option_map argument_value (first_argument_named name.now self.old.arguments.items)
+            ≡ Some value.now) }
         ensures not_specified { IsErrOf result SpecifiedArgumentError.NotSpecified
             ↔ (first_argument_named name.now self.old.arguments.items ≡ None) }
     {

@@ -2,8 +2,8 @@
 ghost use Rattle.std.specs.Prelude.{◌≡◌, ◌<◌, IfSome, length, option_copied, position};
 ghost use Rattle.std.specs.Borrow.{sem};
 ghost use Rattle.std.specs.Option.{option_copied_mut};
-ghost use Rattle.graphql_values.specs.Loans.{LendsArgument};
-ghost use Rattle.graphql_values.specs.Queries.{first_input_value_definition_named, is_input_value_definition_named};
+ghost use Rattle.graphql_values.specs.code.Loans.{LendsArgument};
+ghost use Rattle.graphql_values.specs.code.Queries.{first_input_value_definition_named, is_input_value_definition_named};
 
 pub(crate) mod print;
 
@@ -31,14 +31,16 @@ pub struct DirectiveDefinition {
 impl DirectiveDefinition {
     /// The first argument of that name.
     pub fn argument_by_name(&self, name: &str) -> Option<&Node<InputValueDefinition>>
-        ensures { option_copied result ≡ first_input_value_definition_named name.now self.now.arguments.items }
+        ensures { option_copied result
+            ≡ first_input_value_definition_named name.now self.now.arguments.items }
     {
         let place = self.argument_position(name)?;
         Some(&self.arguments[place])
     }
 
     fn argument_position(&self, name: &str) -> Option<usize>
-        ensures place { result ≡ position (is_input_value_definition_named name.now) self.now.arguments.items }
+        ensures place { result
+            ≡ position (is_input_value_definition_named name.now) self.now.arguments.items }
         ensures within { IfSome result (λ place. place < length self.now.arguments.items) }
     {
         self.arguments

@@ -1,13 +1,13 @@
 //! Lists of directives: look-ups by name, and going over them.
-ghost use Rattle.std.specs.Prelude.{◌≡◌, ◌∷◌, ◌++◌, ◌^◌, ◌<◌, [], IfOk, IfErr, IfSome, OnOk, OnErr, length, option_copied, position};
+ghost use Rattle.std.specs.Prelude.{◌≡◌, ◌==◌, ◌∷◌, ◌++◌, ◌^◌, ◌<◌, [], IfOk, IfErr, IfSome, OnOk, OnErr, length, option_copied, position};
 ghost use Rattle.std.specs.Borrow.{sem};
 ghost use Rattle.std.specs.Iterator.{Drains, IsFinite, YieldsFirstRef, item_count};
 ghost use Rattle.std.specs.Iterator.Runs.{EveryRun, ItemsMapTo};
 ghost use Rattle.std.specs.Slice.Iter.{iter_rest, iter_mut_rest, iter_steps, iter_mut_steps};
 ghost use Rattle.graphql_base.specs.declared.node.Node.{Node};
 ghost use Rattle.graphql_values.specs.declared.directive.Directive.{Directive};
-ghost use Rattle.graphql_values.specs.Loans.{LendsItems, LendsVec};
-ghost use Rattle.graphql_values.specs.Queries.{all_directives_named, first_directive_named, has_directive_named, is_directive_named, next_directive_named};
+ghost use Rattle.graphql_values.specs.code.Loans.{LendsItems, LendsVec};
+ghost use Rattle.graphql_values.specs.code.Queries.{all_directives_named, first_directive_named, has_directive_named, is_directive_named, next_directive_named};
 
 pub(crate) mod print;
 
@@ -25,13 +25,32 @@ use std::{slice, vec};
 pub struct DirectiveList(pub Vec<Node<Directive>>);
 
 impl DirectiveList {
-    ghost use Rattle.graphql_values.specs.Queries.{directives_left};
+    ghost use Rattle.graphql_values.specs.code.Queries.{directives_left};
 
     /// The empty list. It takes no memory.
     pub fn new(alloc: Global) -> DirectiveList
         ensures { result.0.items ≡ [] }
     {
         DirectiveList(Vec::new(alloc))
+    }
+
+    /// The allocator of the list.
+    pub fn allocator(&self) -> Global {
+        *self.0.allocator()
+    }
+
+    /// Whether there is no directive.
+    pub fn is_empty(&self) -> bool
+        ensures { result ≡ (length self.now.0.items == 0) }
+    {
+        self.0.is_empty()
+    }
+
+    /// The directives in order.
+    pub fn iter<'l>(&'l self) -> slice::Iter<'l, Node<Directive>>
+        ensures { ⟦<&'l DirectiveList as IntoIterator>⟧.into_iter_gives self.entry result }
+    {
+        self.into_iter()
     }
 
     /// The first directive of that name.
@@ -121,7 +140,7 @@ pub struct GetAll<'l, 'n> {
 impl<'l> Iterator for GetAll<'l, '_> {
     type Item = &'l Node<Directive>;
 
-    ghost use Rattle.graphql_values.specs.Queries.{directives_left};
+    ghost use Rattle.graphql_values.specs.code.Queries.{directives_left};
 
     ghost next_gives = { YieldsFirstRef directives_left };
 
@@ -166,7 +185,8 @@ impl IntoIterator for DirectiveList {
 
     type IntoIter = vec::IntoIter<Node<Directive>>;
 
-    ghost into_iter_gives = { λ list it. ⟦<Vec<Node<Directive>> as IntoIterator>⟧.into_iter_gives list.0 it };
+    ghost into_iter_gives = { λ list it.
+        ⟦<Vec<Node<Directive>> as IntoIterator>⟧.into_iter_gives list.0 it };
 
     fn into_iter(self) -> vec::IntoIter<Node<Directive>> {
         let DirectiveList(nodes) = self;
@@ -179,7 +199,8 @@ impl<'l> IntoIterator for &'l DirectiveList {
 
     type IntoIter = slice::Iter<'l, Node<Directive>>;
 
-    ghost into_iter_gives = { λ list it. (iter_rest it ≡ list.now.0.items) × (length (iter_rest it) < 2 ^ 64)
+    ghost into_iter_gives = { λ list it.
+        (iter_rest it ≡ list.now.0.items) × (length (iter_rest it) < 2 ^ 64)
         × EveryRun (iter_steps {A = Node Directive}) (λ run.
         ItemsMapTo run (λ node. node.now) (iter_rest run.from)) };
 

@@ -1,7 +1,7 @@
 //! Where directives may stand.
 ghost use Rattle.std.specs.Prelude.{◌≡◌};
-ghost use Rattle.graphql_values.specs.DirectiveLocations.{location_name, operation_location};
-ghost use Rattle.graphql_values.specs.LocationTrees.{location_tree, operation_type_tree};
+ghost use Rattle.graphql_values.specs.kinds.DirectiveLocations.{location_name, operation_location};
+ghost use Rattle.graphql_values.specs.trees.LocationTrees.{location_tree, operation_type_tree};
 
 use crate::operation_type::OperationType;
 use std::fmt::{self, Display, Formatter, Write};

@@ -1,6 +1,6 @@
 //! Definitions of input values, which directives, fields and input objects have.
 ghost use Rattle.std.specs.Prelude.{◌≡◌};
-ghost use Rattle.graphql_values.specs.Queries.{is_required};
+ghost use Rattle.graphql_values.specs.code.Queries.{is_required};
 
 pub(crate) mod print;
 

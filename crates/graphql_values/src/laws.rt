@@ -1,27 +1,27 @@
 //! What holds of values, types, arguments, directives, input value definitions and directive definitions as they are
 //! printed and read.
 //!
-//! Each function does nothing: its contract is the law, with a clause for each kind of tree.
+//! Each function does nothing: its contract is the law, with one clause a kind.
 ghost use Rattle.std.specs.Prelude.{[], ◌∷◌};
-ghost use Rattle.graphql_text.specs.Descriptions.{description_form};
-ghost use Rattle.graphql_text.specs.Forms.{a_punctuator, a_string_value};
-ghost use Rattle.graphql_text.specs.OneReading.{IsReadOneWay};
-ghost use Rattle.graphql_text.specs.Printing.{IsReadWhereItObeys};
-ghost use Rattle.graphql_text.specs.Reading.{Laws};
-ghost use Rattle.graphql_text.specs.Tokens.{at, bang, bar, equals, lparen};
-ghost use Rattle.graphql_values.specs.Arguments.{argument_form, argument_kind, arguments_form};
-ghost use Rattle.graphql_values.specs.ArgumentsDefinitions.{arguments_definition_form};
-ghost use Rattle.graphql_values.specs.DefaultValues.{default_value_form};
-ghost use Rattle.graphql_values.specs.DefinitionTrees.{directive_definition_tree, input_value_definition_tree};
-ghost use Rattle.graphql_values.specs.DirectiveDefinitions.{directive_definition_kind};
-ghost use Rattle.graphql_values.specs.DirectiveTrees.{directive_tree, directive_trees};
-ghost use Rattle.graphql_values.specs.Directives.{directive_form, directive_kind, directives_form, directives_kind};
-ghost use Rattle.graphql_values.specs.InputValueDefinitions.{input_value_definition_kind};
-ghost use Rattle.graphql_values.specs.OperationTypes.{operation_type_form};
-ghost use Rattle.graphql_values.specs.TypeReferences.{type_form, type_kind};
-ghost use Rattle.graphql_values.specs.TypeTrees.{type_tree};
-ghost use Rattle.graphql_values.specs.ValueTrees.{value_tree};
-ghost use Rattle.graphql_values.specs.Values.{Constness, value_form, value_kind};
+ghost use Rattle.graphql_text.specs.parts.Descriptions.{description_form};
+ghost use Rattle.graphql_text.specs.grammar.Forms.{a_punctuator, a_string_value};
+ghost use Rattle.graphql_text.specs.grammar.OneReading.{IsReadOneWay};
+ghost use Rattle.graphql_text.specs.kinds.PrintedKinds.{IsPrintedKind, no_types};
+ghost use Rattle.graphql_text.specs.kinds.Reading.{Laws};
+ghost use Rattle.graphql_text.specs.lexical.Tokens.{at, bang, bar, equals, lparen};
+ghost use Rattle.graphql_values.specs.kinds.Arguments.{argument_form, argument_kind, arguments_form};
+ghost use Rattle.graphql_values.specs.kinds.ArgumentsDefinitions.{arguments_definition_form, arguments_list_depth};
+ghost use Rattle.graphql_values.specs.kinds.DefaultValues.{default_value_form};
+ghost use Rattle.graphql_values.specs.trees.DefinitionTrees.{directive_definition_tree, input_value_definition_tree};
+ghost use Rattle.graphql_values.specs.kinds.DirectiveDefinitions.{directive_definition_kind};
+ghost use Rattle.graphql_values.specs.trees.DirectiveTrees.{directive_tree, directive_trees};
+ghost use Rattle.graphql_values.specs.kinds.Directives.{directive_form, directive_kind, directives_form, directives_kind};
+ghost use Rattle.graphql_values.specs.kinds.InputValueDefinitions.{input_value_definition_kind};
+ghost use Rattle.graphql_values.specs.kinds.OperationTypes.{operation_type_form};
+ghost use Rattle.graphql_values.specs.kinds.TypeReferences.{list_depth, type_kind};
+ghost use Rattle.graphql_values.specs.trees.TypeTrees.{type_tree};
+ghost use Rattle.graphql_values.specs.trees.ValueTrees.{value_tree};
+ghost use Rattle.graphql_values.specs.kinds.Values.{Constness, value_form, value_kind};
 
 mod comparisons;
 mod directives;
@@ -37,7 +37,7 @@ pub use crate::laws::comparisons::{
     clones_are_the_same, compared_by_tree, equal_trees_hash_alike, errors_compare_by_variant,
 };
 pub use crate::laws::directives::{directive_look_ups_agree, get_all_ends};
-pub use crate::laws::kinds::{kind_of_each_type, printed_tokens_derive_the_tree};
+pub use crate::laws::kinds::printed_tokens_derive_the_tree;
 pub use crate::laws::readings::{
     refused_numbers, refused_readings, refused_strings, worked_readings, worked_strings,
 };
@@ -46,61 +46,68 @@ pub use crate::laws::types::{
 };
 use crate::types::Type;
 use crate::value::Value;
+use graphql_text::engine::SyntaxTree;
 use std::fmt::Display;
+use std::hash::Hash;
 
-/// What obeys the side conditions, printed under a prefix of spaces and tabs or on one line, is read as that tree and
-/// as no other; and all else that `Laws` says. A list of directives may be empty, and a type obeys the side
-/// conditions always.
-pub fn trees_are_read_back()
-    ensures values { Laws value_kind }
-    ensures types { Laws type_kind }
-    ensures arguments { Laws argument_kind }
-    ensures directives { Laws directive_kind }
-    ensures directive_lists { Laws directives_kind }
-    ensures input_value_definitions { Laws input_value_definition_kind }
-    ensures directive_definitions { Laws directive_definition_kind }
+/// Each of these types has the kind that its clause names, and all that `IsPrintedKind` says of it: what is printed and
+/// what is displayed of it is read back, it is read in one way before what may follow it, and it is compared and hashed
+/// by its tree. A type has no `Syntax`, and is displayed on one line. A list of directives may be empty, and a type obeys
+/// the side conditions always.
+pub fn printed_kinds()
+    ensures values { IsPrintedKind ⟦<Value as SyntaxTree>⟧.kind ⟦<Value as SyntaxTree>⟧.tree
+        ⟦<Value as SyntaxTree>⟧.list_depth ⟦<Value as Display>⟧.output ⟦<Value as PartialEq>⟧.eq
+        ⟦<Value as Hash>⟧.hash_input value_kind value_tree no_types [] [] }
+    ensures types { IsPrintedKind type_kind type_tree list_depth ⟦<Type as Display>⟧.output
+        ⟦<Type as PartialEq>⟧.eq ⟦<Type as Hash>⟧.hash_input type_kind type_tree list_depth
+        (a_punctuator bang ∷ []) [] }
+    ensures directives { IsPrintedKind ⟦<Directive as SyntaxTree>⟧.kind
+        ⟦<Directive as SyntaxTree>⟧.tree ⟦<Directive as SyntaxTree>⟧.list_depth
+        ⟦<Directive as Display>⟧.output ⟦<Directive as PartialEq>⟧.eq
+        ⟦<Directive as Hash>⟧.hash_input directive_kind directive_tree no_types
+        (a_punctuator lparen ∷ []) [] }
+    ensures directive_lists { IsPrintedKind ⟦<DirectiveList as SyntaxTree>⟧.kind
+        ⟦<DirectiveList as SyntaxTree>⟧.tree ⟦<DirectiveList as SyntaxTree>⟧.list_depth
+        ⟦<DirectiveList as Display>⟧.output ⟦<DirectiveList as PartialEq>⟧.eq
+        ⟦<DirectiveList as Hash>⟧.hash_input directives_kind directive_trees no_types
+        (a_punctuator at ∷ a_punctuator lparen ∷ []) [] }
+    ensures input_value_definitions { IsPrintedKind ⟦<InputValueDefinition as SyntaxTree>⟧.kind
+        ⟦<InputValueDefinition as SyntaxTree>⟧.tree
+        ⟦<InputValueDefinition as SyntaxTree>⟧.list_depth ⟦<InputValueDefinition as Display>⟧.output
+        ⟦<InputValueDefinition as PartialEq>⟧.eq ⟦<InputValueDefinition as Hash>⟧.hash_input
+        input_value_definition_kind input_value_definition_tree
+        (λ input. list_depth input.body.type)
+        (a_punctuator bang ∷ a_punctuator equals ∷ a_punctuator at ∷ a_punctuator lparen ∷ []) [] }
+    ensures directive_definitions { IsPrintedKind ⟦<DirectiveDefinition as SyntaxTree>⟧.kind
+        ⟦<DirectiveDefinition as SyntaxTree>⟧.tree ⟦<DirectiveDefinition as SyntaxTree>⟧.list_depth
+        ⟦<DirectiveDefinition as Display>⟧.output ⟦<DirectiveDefinition as PartialEq>⟧.eq
+        ⟦<DirectiveDefinition as Hash>⟧.hash_input directive_definition_kind
+        directive_definition_tree (λ definition. arguments_list_depth definition.body.arguments)
+        (a_punctuator bar ∷ []) [] }
 {}
 
-/// What is displayed of a tree that obeys the side conditions is read as that tree and as no other.
-pub fn displayed_trees_are_read(
-    value: &Value,
-    ty: &Type,
-    directive: &Directive,
-    list: &DirectiveList,
-    input: &InputValueDefinition,
-    definition: &DirectiveDefinition,
-)
-    ensures values { IsReadWhereItObeys value_kind (⟦<Value as Display>⟧.output value.now) (value_tree value.now) }
-    ensures types { IsReadWhereItObeys type_kind (⟦<Type as Display>⟧.output ty.now) (type_tree ty.now) }
-    ensures directives { IsReadWhereItObeys directive_kind (⟦<Directive as Display>⟧.output directive.now)
-        (directive_tree directive.now) }
-    ensures directive_lists { IsReadWhereItObeys directives_kind (⟦<DirectiveList as Display>⟧.output list.now)
-        (directive_trees list.now) }
-    ensures input_value_definitions { IsReadWhereItObeys input_value_definition_kind
-        (⟦<InputValueDefinition as Display>⟧.output input.now) (input_value_definition_tree input.now) }
-    ensures directive_definitions { IsReadWhereItObeys directive_definition_kind
-        (⟦<DirectiveDefinition as Display>⟧.output definition.now) (directive_definition_tree definition.now) }
+/// Arguments, which are printed only as parts, have the laws of a kind.
+pub fn arguments_are_read_back()
+    ensures { Laws argument_kind }
 {}
 
-/// Each part is read in one way, at a constant place or not: a value and an argument whatever follows it; arguments,
-/// which may be left out, before anything but `(`; a directive before anything but `(`, a list of directives before
-/// anything but `@` and `(`; a type before anything but `!`; a description before anything but a string, a default
-/// value before anything but `=`; an input value definition before anything but `!`, `=`, `@` and `(`, an arguments
-/// definition, which may be left out, before anything but `(`; an operation type whatever follows it; a directive
-/// definition before anything but `|`.
+/// Each part that is no printed kind is read in one way, and each that may stand in a constant context is there too: a
+/// value and an argument whatever follows it; arguments, which may be left out, before anything but `(`; a directive
+/// before anything but `(`, a list of directives before anything but `@` and `(`; a description before anything but a
+/// string, a default value before anything but `=`; an arguments definition, which may be left out, before anything but
+/// `(`; an operation type whatever follows it.
 pub fn parts_are_read_in_one_way()
     ensures values { (c : Constness) → IsReadOneWay (value_form c) [] }
-    ensures types { IsReadOneWay type_form (a_punctuator bang ∷ []) }
     ensures arguments { (c : Constness) → IsReadOneWay (argument_form c) [] }
-    ensures argument_lists { (c : Constness) → IsReadOneWay (arguments_form c) (a_punctuator lparen ∷ []) }
-    ensures directives { (c : Constness) → IsReadOneWay (directive_form c) (a_punctuator lparen ∷ []) }
+    ensures argument_lists { (c : Constness) →
+        IsReadOneWay (arguments_form c) (a_punctuator lparen ∷ []) }
+    ensures directives { (c : Constness) →
+        IsReadOneWay (directive_form c) (a_punctuator lparen ∷ []) }
     ensures directive_lists { (c : Constness) →
         IsReadOneWay (directives_form c) (a_punctuator at ∷ a_punctuator lparen ∷ []) }
     ensures descriptions { IsReadOneWay description_form (a_string_value ∷ []) }
     ensures default_values { IsReadOneWay default_value_form (a_punctuator equals ∷ []) }
-    ensures input_value_definitions { IsReadOneWay input_value_definition_kind.form
-        (a_punctuator bang ∷ a_punctuator equals ∷ a_punctuator at ∷ a_punctuator lparen ∷ []) }
-    ensures arguments_definitions { IsReadOneWay arguments_definition_form (a_punctuator lparen ∷ []) }
+    ensures arguments_definitions { IsReadOneWay arguments_definition_form
+        (a_punctuator lparen ∷ []) }
     ensures operation_types { IsReadOneWay operation_type_form [] }
-    ensures directive_definitions { IsReadOneWay directive_definition_kind.form (a_punctuator bar ∷ []) }
 {}

@@ -3,7 +3,7 @@ ghost use Rattle.std.specs.Prelude.{◌≡◌, FitsSigned, IfOk, IsTrue, Some};
 ghost use Rattle.std.specs.Fmt.{signed_decimal};
 ghost use Rattle.std.specs.Int.{w32};
 ghost use Rattle.std.specs.Result.{OkIff};
-ghost use Rattle.graphql_text.specs.Literals.{is_float, is_int};
+ghost use Rattle.graphql_text.specs.lexical.Literals.{is_float, is_int};
 
 use crate::number_syntax::{is_float, is_int};
 use crate::numeral::Numeral;
@@ -21,7 +21,7 @@ pub struct IntValue {
 }
 
 impl IntValue {
-    ghost use Rattle.graphql_values.specs.Literals.{int_text, int_number};
+    ghost use Rattle.graphql_values.specs.trees.Literals.{int_text, int_number};
 
     /// Whether the text is an `IntValue`: `0` or digits that don't begin with `0`, after a `-` or not.
     pub fn valid_syntax(text: &str) -> bool
@@ -82,7 +82,7 @@ impl Clone for IntValue {
 }
 
 impl Display for IntValue {
-    ghost use Rattle.graphql_values.specs.Literals.{int_text};
+    ghost use Rattle.graphql_values.specs.trees.Literals.{int_text};
 
     ghost output = { λ int. Some (int_text int) };
 
@@ -101,7 +101,7 @@ pub struct FloatValue {
 }
 
 impl FloatValue {
-    ghost use Rattle.graphql_values.specs.Literals.{float_text};
+    ghost use Rattle.graphql_values.specs.trees.Literals.{float_text};
 
     /// Whether the text is a `FloatValue`: an integer part, and a fraction, an exponent or both.
     ///
@@ -144,7 +144,7 @@ impl Clone for FloatValue {
 }
 
 impl Display for FloatValue {
-    ghost use Rattle.graphql_values.specs.Literals.{float_text};
+    ghost use Rattle.graphql_values.specs.trees.Literals.{float_text};
 
     ghost output = { λ float. Some (float_text float) };
 

@@ -2,7 +2,7 @@
 ghost use Rattle.std.specs.Prelude.{◌≡◌, ◌≤◌, length};
 ghost use Rattle.std.specs.Char.{is_ascii_digit};
 ghost use Rattle.std.specs.List.{list_all, position_from, position_or_len};
-ghost use Rattle.graphql_text.specs.Literals.{is_digits, is_exponent, is_float, is_float_part, is_fraction, is_int, is_natural, begins_float_part, is_exponent_indicator};
+ghost use Rattle.graphql_text.specs.lexical.Literals.{is_digits, is_exponent, is_float, is_float_part, is_fraction, is_int, is_natural, begins_float_part, is_exponent_indicator};
 
 fn are_digits(bytes: &[u8]) -> bool
     ensures { result ≡ list_all is_ascii_digit bytes.now }

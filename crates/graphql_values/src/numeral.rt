@@ -25,7 +25,7 @@ struct ShortText {
 }
 
 impl ShortText {
-    ghost use Rattle.graphql_values.specs.Numerals.{short_bytes};
+    ghost use Rattle.graphql_values.specs.code.Numerals.{short_bytes};
 
     fn new(text: &str) -> ShortText
         requires { length text.now ≤ ROOM }
@@ -62,7 +62,7 @@ const _: () = prove!(size_of::<Numeral>() == 32);
 
 impl Model for Numeral {
     ghost use Rattle.std.specs.Prelude.{List, ℕ};
-    ghost use Rattle.graphql_values.specs.Numerals.{form_bytes};
+    ghost use Rattle.graphql_values.specs.code.Numerals.{form_bytes};
 
     ghost Value = { List ℕ };
 

@@ -1,9 +1,9 @@
 //! The types of operations.
 ghost use Rattle.std.specs.Prelude.{◌≡◌, ◌↔◌, IsTrue, true};
 ghost use Rattle.graphql_base.specs.Name.{IsNewName};
-ghost use Rattle.graphql_values.specs.LocationTrees.{default_type_name, operation_type_tree};
-ghost use Rattle.graphql_values.specs.OperationTypes.{operation_type_name};
-ghost use Rattle.graphql_values.specs.OperationTypes as tree;
+ghost use Rattle.graphql_values.specs.trees.LocationTrees.{default_type_name, operation_type_tree};
+ghost use Rattle.graphql_values.specs.kinds.OperationTypes.{operation_type_name};
+ghost use Rattle.graphql_values.specs.kinds.OperationTypes as tree;
 
 use graphql_base::name;
 use graphql_base::name::NamedType;
@@ -66,7 +66,8 @@ impl OperationType {
 impl Display for OperationType {
     ghost use Rattle.std.specs.Prelude.{Some};
 
-    ghost output = { λ operation_type. Some (operation_type_name (operation_type_tree operation_type)) };
+    ghost output = { λ operation_type.
+        Some (operation_type_name (operation_type_tree operation_type)) };
 
     fn fmt<W: Write>(&self, f: &mut Formatter<W>) -> fmt::Result {
         f.pad(self.name())

@@ -21,8 +21,8 @@ pub enum Type {
 }
 
 impl Type {
-    ghost use Rattle.graphql_values.specs.TypeTrees.{type_tree, type_wrapping};
-    ghost use Rattle.graphql_values.specs.Wrappings.{IsAssignable, is_list, is_named_type, is_non_null, item_wrapping, listed, with_nullability};
+    ghost use Rattle.graphql_values.specs.trees.TypeTrees.{type_tree, type_wrapping};
+    ghost use Rattle.graphql_values.specs.kinds.Wrappings.{IsAssignable, is_list, is_named_type, is_non_null, item_wrapping, listed, with_nullability};
 
     /// This type, but non-null: with `!` after it.
     pub fn non_null(self) -> Type
@@ -126,7 +126,7 @@ impl Type {
 }
 
 impl Clone for Type {
-    ghost use Rattle.graphql_values.specs.TypeTrees.{IsTypeCloneOf};
+    ghost use Rattle.graphql_values.specs.trees.TypeTrees.{IsTypeCloneOf};
 
     ghost is_clone = { IsTypeCloneOf };
 

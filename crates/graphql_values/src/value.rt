@@ -2,7 +2,7 @@
 ghost use Rattle.std.specs.Prelude.{◌≡◌, FitsSigned, IfOk, IsNone, IsSomeAnd, MatchOption, Some, SomeIff, option_copied, string_bytes};
 ghost use Rattle.std.specs.Fmt.{signed_decimal};
 ghost use Rattle.std.specs.Int.{w32};
-ghost use Rattle.graphql_values.specs.Literals.{int_number, int_text};
+ghost use Rattle.graphql_values.specs.trees.Literals.{int_number, int_text};
 
 pub(crate) mod print;
 
@@ -34,13 +34,14 @@ pub enum Value {
 }
 
 impl Value {
-    ghost use Rattle.graphql_values.specs.ValueQueries.{boolean_of, enum_of, int_of, is_null, list_items_of, object_fields_of, string_of, variable_of};
+    ghost use Rattle.graphql_values.specs.code.ValueQueries.{boolean_of, enum_of, int_of, is_null, list_items_of, object_fields_of, string_of, variable_of};
 
     /// The number as an integer. `AllocError` where memory is refused.
     pub fn from_i32(alloc: Global, number: i32) -> Result<Value, AllocError>
         ensures text { IfOk result (λ value.
             IsSomeAnd (int_of value) (λ int. int_text int ≡ signed_decimal number)) }
-        ensures number { IfOk result (λ value. IsSomeAnd (int_of value) (λ int. int_number int ≡ number)) }
+        ensures number { IfOk result
+            (λ value. IsSomeAnd (int_of value) (λ int. int_number int ≡ number)) }
     {
         Ok(Value::Int(IntValue::from_i32(alloc, number)?))
     }
@@ -132,7 +133,7 @@ impl Value {
 }
 
 impl Clone for Value {
-    ghost use Rattle.graphql_values.specs.ValueTrees.{IsCloneOf};
+    ghost use Rattle.graphql_values.specs.trees.ValueTrees.{IsCloneOf};
 
     ghost is_clone = { IsCloneOf };
 
@@ -153,7 +154,7 @@ impl Clone for Value {
 
 impl From<()> for Value {
     ghost use Rattle.std.specs.Prelude.{IsTrue};
-    ghost use Rattle.graphql_values.specs.ValueQueries.{is_null};
+    ghost use Rattle.graphql_values.specs.code.ValueQueries.{is_null};
 
     ghost from_gives = { λ _ value. IsTrue (is_null value) };
 
@@ -164,7 +165,7 @@ impl From<()> for Value {
 
 impl From<bool> for Value {
     ghost use Rattle.std.specs.Prelude.{◌≡◌, Some};
-    ghost use Rattle.graphql_values.specs.ValueQueries.{boolean_of};
+    ghost use Rattle.graphql_values.specs.code.ValueQueries.{boolean_of};
 
     ghost from_gives = { λ boolean value. boolean_of value ≡ Some boolean };
 
@@ -175,7 +176,7 @@ impl From<bool> for Value {
 
 impl From<String> for Value {
     ghost use Rattle.std.specs.Prelude.{◌≡◌, Some, string_bytes};
-    ghost use Rattle.graphql_values.specs.ValueQueries.{string_of};
+    ghost use Rattle.graphql_values.specs.code.ValueQueries.{string_of};
 
     ghost from_gives = { λ text value. string_of value ≡ Some (string_bytes text) };
 

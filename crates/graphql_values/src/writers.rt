@@ -7,21 +7,9 @@ pub use crate::constness::Constness;
 pub use crate::default_value::{
     find_default_value_nesting, is_default_value_well_formed, write_default_value,
 };
-pub use crate::directive::print::write_directive;
-pub use crate::directive_definition::print::write_directive_definition;
-pub use crate::directive_list::print::{
-    are_directives_well_formed, find_directives_nesting, write_directives,
-};
-pub use crate::input_value_definition::print::{
-    find_arguments_list_depth, find_input_value_definition_nesting,
-    is_input_value_definition_well_formed, write_input_value_definition,
-};
-pub use crate::parameters::{
-    Parameter, are_parameters_well_formed, find_parameters_list_depth, find_parameters_nesting,
-    write_parameters,
-};
+pub use crate::directive_list::print::are_directives_well_formed;
+pub use crate::input_value_definition::print::some_want_lines;
+pub use crate::parameters::write_parameters;
 pub use crate::stacks::Stacks;
 pub use crate::types::print::{TypeEntry, find_list_depth, type_allocator, write_type};
-pub use crate::value::print::{
-    ValueEntry, find_value_nesting, is_enum_name, is_value_well_formed, write_value,
-};
+pub use crate::value::print::{ValueEntry, find_value_nesting, is_enum_name, is_value_well_formed};

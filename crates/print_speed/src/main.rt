@@ -14,7 +14,7 @@
 //! It prints the bytes of one round.
 #![tactic(auto)]
 
-ghost use Rattle.graphql_text.specs.Sinks.{CanFault};
+ghost use Rattle.graphql_text.specs.code.Sinks.{CanFault};
 
 mod documents;
 mod operations;

@@ -4,7 +4,7 @@ use Rattle.std.specs.declared.alloc.Global.{Global}
 use Rattle.std.specs.declared.string.String.{String}
 use Rattle.graphql_ast.specs.Documents.{document_kind}
 use Rattle.graphql_ast.specs.Levels.{Overflows}
-use Rattle.graphql_ast.specs.Printing.{ReadsAlone}
+use Rattle.graphql_ast.specs.Reading.{ReadsAlone}
 
 -- A text was put behind those that were stored, and GraphQL's grammar reads it as the tree, and as no other.
 abbrev pub Stores : document_kind.Tree → List (String Global) → List (String Global) → Type 0

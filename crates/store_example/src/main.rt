@@ -5,7 +5,7 @@
 ghost use Rattle.std.specs.Prelude.{◌≡◌, ◌↔◌, [], IfOk, IsErrOf, OnErr, OnOk, false, string_bytes};
 ghost use Rattle.graphql_ast.specs.AstTrees.{document_tree};
 ghost use Rattle.graphql_ast.specs.Documents.{document_kind};
-ghost use Rattle.graphql_ast.specs.Printing.{ReadsAlone};
+ghost use Rattle.graphql_ast.specs.Reading.{ReadsAlone};
 ghost use Rattle.store_example.specs.Stores.{IsTooDeep, Stores};
 ghost use Rattle.store_example.specs.declared.StoreError.TheVariants.{Memory};
 
@@ -82,7 +82,8 @@ impl Store {
         // Each error but `Memory` comes exactly for these documents.
         ensures refused { IsErrOf result StoreError.NotWellFormed ↔
             (document_kind.obeys (document_tree document.now) ≡ false) }
-        ensures too_deep { IsErrOf result StoreError.TooDeep ↔ IsTooDeep (document_tree document.now) }
+        ensures too_deep { IsErrOf result StoreError.TooDeep
+            ↔ IsTooDeep (document_tree document.now) }
     {
         let text = line_of(alloc, document)?;
         self.texts.push(text)?;

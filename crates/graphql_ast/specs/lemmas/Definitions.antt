@@ -1,47 +1,57 @@
 -- Lemmas, no definitions of the product: definitions as parts, and their laws.
-use Rattle.std.proofs.Common.{ℕ, ◌≡◌, ◌∙◌, refl, sym, inl, inr, Bool, true, false, if◌then◌else◌, ◌&&◌, List, [], ◌∷◌, codes, nat_eq, Option, Some, None, IsTrue}
+use Rattle.std.proofs.Common.{ℕ, ◌≡◌, ◌∙◌, refl, sym, inl, inr, Bool, true, false, if◌then◌else◌, ◌&&◌, List, [], ◌∷◌, codes, nat_eq}
+use Rattle.std.proofs.Common.{Option, Some, None, IsTrue, ◌||◌}
 use Rattle.std.proofs.lemmas.Bool.{or_cases}
 use Rattle.std.proofs.lemmas.Slice.Eq.{bytes_eq-Decides}
 use Rattle.std.specs.Cmp.Lexicographic.{pointwise}
-use Rattle.graphql_text.specs.Descriptions.{described, description_form}
-use Rattle.graphql_text.specs.Extensions.{extension}
-use Rattle.graphql_text.specs.Forms.{TokenClass, a_punctuator, a_keyword, a_name, a_string_value, token, no_tokens, ◌⨟◌, only_if, either, begins}
-use Rattle.graphql_text.specs.Kinds.{Kind}
-use Rattle.graphql_text.specs.Literals.{StringText}
-use Rattle.graphql_text.specs.Reading.{Laws}
-use Rattle.graphql_text.specs.Tokens.{amp, at, bar, equals, lbrace, lparen, Token, Punctuation, Name, StringValue}
-use Rattle.graphql_text.proofs.KindLaws.{laws_of}
-use Rattle.graphql_text.proofs.KindParts.{described_part, extension_part}
-use Rattle.graphql_text.proofs.Parsing.{Parser, Reads, Opening, ◌>>=◌, pure, fail, last, wider, within}
-use Rattle.graphql_text.proofs.Parts.{KindPart, begins_none}
-use Rattle.graphql_text.proofs.PrintedTokens.{Tail}
-use Rattle.graphql_text.proofs.Telling.{Told, told_weaker}
-use Rattle.graphql_text.proofs.Tests.{first_holds, second_holds}
-use Rattle.graphql_text.proofs.TokenClasses.{all_apart, apart-begins, within-none}
-use Rattle.graphql_values.specs.DirectiveDefinitions.{directive_definition_body}
-use Rattle.graphql_values.specs.OperationTypes.{OperationTypeTree, Query, Mutation, Subscription, operation_type_form}
+use Rattle.graphql_text.specs.parts.Descriptions.{described, description_form}
+use Rattle.graphql_text.specs.parts.Extensions.{extension}
+use Rattle.graphql_text.specs.grammar.Forms.{TokenClass, a_punctuator, a_keyword, a_name, a_string_value, token, no_tokens, ◌⨟◌, only_if, either, begins}
+use Rattle.graphql_text.specs.parts.Members.{has_some}
+use Rattle.graphql_text.specs.kinds.Kinds.{Kind}
+use Rattle.graphql_text.specs.lexical.Literals.{StringText}
+use Rattle.graphql_text.specs.kinds.Reading.{Laws}
+use Rattle.graphql_text.specs.lexical.Tokens.{amp, at, bar, equals, lbrace, lparen, Token, Punctuation, Name, StringValue}
+use Rattle.graphql_text.proofs.kinds.KindLaws.{laws_of}
+use Rattle.graphql_text.proofs.parts.KindParts.{described_part, extension_part}
+use Rattle.graphql_text.proofs.grammar.FormParsers.{Parser, Reads, Opening, ◌>>=◌, pure, fail, last, wider, within}
+use Rattle.graphql_text.proofs.parts.Parts.{KindPart, begins_none}
+use Rattle.graphql_text.proofs.parts.PartTokens.{Tail}
+use Rattle.graphql_text.proofs.parts.ToldShapes.{Told, told_weaker}
+use Rattle.graphql_text.proofs.general.BooleanTests.{first_holds, second_holds}
+use Rattle.graphql_text.proofs.grammar.TokenClasses.{all_apart, apart-begins, within-none}
+use Rattle.graphql_values.specs.kinds.DirectiveDefinitions.{directive_definition_body}
+use Rattle.graphql_values.specs.kinds.OperationTypes.{OperationTypeTree, Query, Mutation, Subscription, operation_type_form}
 use Rattle.graphql_values.specs.lemmas.DirectiveDefinitions.{directive_definition_body_part}
-use Rattle.graphql_executable.specs.FragmentDefinitions.{fragment_definition_body}
-use Rattle.graphql_executable.specs.OperationDefinitions.{full_operation_kind, is_bare_query, operation_definition_form, operation_definition_kind, operation_form, operation_shape}
-use Rattle.graphql_executable.specs.lemmas.Definitions.{at_front, fragment_definition_body_part, full_operation_part, operation_definition_part, operation_told, operation_tokens, operation_written}
+use Rattle.graphql_executable.specs.kinds.FragmentDefinitions.{fragment_definition_body}
+use Rattle.graphql_executable.specs.kinds.OperationDefinitions.{full_operation_kind, is_bare_query, operation_definition_kind, operation_form, operation_shape}
+use Rattle.graphql_executable.specs.lemmas.Definitions.{at_front, fragment_definition_body_part, full_operation_part}
+use Rattle.graphql_executable.specs.lemmas.Definitions.{operation_definition_part, operation_told, operation_tokens, operation_written}
 use Rattle.graphql_executable.specs.lemmas.Selections.{selection_set_part}
-use Rattle.graphql_type_system.specs.BracedTypes.{braced_type_adds}
-use Rattle.graphql_type_system.specs.EnumTypes.{enum_type_body}
-use Rattle.graphql_type_system.specs.EnumValueDefinitions.{enum_value_definition_kind}
-use Rattle.graphql_type_system.specs.ImplementingTypes.{implementing_type_adds}
-use Rattle.graphql_type_system.specs.InputObjectTypes.{input_object_type_body}
-use Rattle.graphql_type_system.specs.InterfaceTypes.{interface_type_body}
-use Rattle.graphql_type_system.specs.ObjectTypes.{object_type_body}
-use Rattle.graphql_type_system.specs.ScalarTypes.{scalar_type_adds, scalar_type_body}
-use Rattle.graphql_type_system.specs.Schemas.{extended_schema_body, schema_adds, schema_body}
-use Rattle.graphql_type_system.specs.UnionTypes.{union_type_adds, union_type_body}
-use Rattle.graphql_type_system.specs.lemmas.Bodies.{enum_type_body_part, extended_schema_body_part, input_object_type_body_part, interface_type_body_part, object_type_body_part, scalar_type_body_part, schema_body_part, union_type_body_part}
-use Rattle.graphql_values.specs.InputValueDefinitions.{input_value_definition_kind}
-use Rattle.graphql_ast.specs.Definitions.{DefinitionName, OperationDefinition, FragmentDefinition, DirectiveDefinition, SchemaDefinition, ScalarTypeDefinition, ObjectTypeDefinition, InterfaceTypeDefinition, UnionTypeDefinition, EnumTypeDefinition, InputObjectTypeDefinition, SchemaExtension, ScalarTypeExtension, ObjectTypeExtension, InterfaceTypeExtension, UnionTypeExtension, EnumTypeExtension, InputObjectTypeExtension, kind_named, DefinitionTree, definition_kind}
+use Rattle.graphql_type_system.specs.kinds.BracedTypes.{braced_type_adds}
+use Rattle.graphql_type_system.specs.kinds.EnumTypes.{enum_type_body}
+use Rattle.graphql_type_system.specs.kinds.EnumValueDefinitions.{enum_value_definition_kind}
+use Rattle.graphql_type_system.specs.kinds.ImplementingTypes.{implementing_type_adds}
+use Rattle.graphql_type_system.specs.kinds.InputObjectTypes.{input_object_type_body}
+use Rattle.graphql_type_system.specs.kinds.InterfaceTypes.{interface_type_body}
+use Rattle.graphql_type_system.specs.kinds.ObjectTypes.{object_type_body}
+use Rattle.graphql_type_system.specs.kinds.ScalarTypes.{scalar_type_body}
+use Rattle.graphql_type_system.specs.kinds.Schemas.{extended_schema_body, schema_body}
+use Rattle.graphql_type_system.specs.kinds.UnionTypes.{union_type_body}
+use Rattle.graphql_type_system.specs.lemmas.Bodies.{enum_type_body_part, extended_schema_body_part, input_object_type_body_part}
+use Rattle.graphql_type_system.specs.lemmas.Bodies.{interface_type_body_part, object_type_body_part, scalar_type_body_part}
+use Rattle.graphql_type_system.specs.lemmas.Bodies.{schema_body_part, union_type_body_part}
+use Rattle.graphql_values.specs.kinds.InputValueDefinitions.{input_value_definition_kind}
+use Rattle.graphql_ast.specs.Definitions.{DefinitionName, OperationDefinition, FragmentDefinition, DirectiveDefinition, SchemaDefinition}
+use Rattle.graphql_ast.specs.Definitions.{ScalarTypeDefinition, ObjectTypeDefinition, InterfaceTypeDefinition, UnionTypeDefinition}
+use Rattle.graphql_ast.specs.Definitions.{EnumTypeDefinition, InputObjectTypeDefinition, SchemaExtension, ScalarTypeExtension}
+use Rattle.graphql_ast.specs.Definitions.{ObjectTypeExtension, InterfaceTypeExtension, UnionTypeExtension, EnumTypeExtension}
+use Rattle.graphql_ast.specs.Definitions.{InputObjectTypeExtension, kind_named, DefinitionTree, definition_kind}
 
 -- what may not follow a definition, what begins one, and before what one isn't printed
 abbrev pub excluded_after_definition : List TokenClass
-excluded_after_definition = a_keyword (codes "implements") ∷ a_punctuator amp ∷ a_punctuator at ∷ a_punctuator lparen ∷ a_punctuator equals ∷ a_punctuator bar ∷ []
+excluded_after_definition =
+    a_keyword (codes "implements") ∷ a_punctuator amp ∷ a_punctuator at ∷ a_punctuator lparen ∷ a_punctuator equals ∷ a_punctuator bar ∷ []
 
 abbrev pub definition_first_tokens : List TokenClass
 definition_first_tokens = a_punctuator lbrace ∷ a_string_value ∷ a_name (codes "implements" ∷ []) ∷ []
@@ -64,7 +74,8 @@ definition_words =
 
 unfoldable pub extension_words : List (List ℕ × DefinitionName)
 extension_words =
-    (codes "schema", SchemaExtension) ∷ (codes "scalar", ScalarTypeExtension) ∷ (codes "type", ObjectTypeExtension) ∷ (codes "interface", InterfaceTypeExtension)
+    (codes "schema", SchemaExtension) ∷ (codes "scalar", ScalarTypeExtension) ∷ (codes "type", ObjectTypeExtension)
+    ∷ (codes "interface", InterfaceTypeExtension)
     ∷ (codes "union", UnionTypeExtension) ∷ (codes "enum", EnumTypeExtension) ∷ (codes "input", InputObjectTypeExtension) ∷ []
 
 unfoldable pub extension_at : List Token → Option DefinitionName
@@ -92,11 +103,13 @@ keyword_begins word (Name text ∷ more) is =
 keyword_begins word (Punctuation mark ∷ more) is = cc
 keyword_begins word (_ ∷ more) is = cc
 
-pub keyword_opens : (word : List ℕ) (tokens rest : List Token) → Opening (a_keyword word ∷ []) false tokens rest → (more : List Token) × (tokens ≡ Name word ∷ more)
+pub keyword_opens : (word : List ℕ) (tokens rest : List Token) → Opening (a_keyword word ∷ []) false tokens rest →
+    (more : List Token) × (tokens ≡ Name word ∷ more)
 keyword_opens word tokens rest (inl is) = keyword_begins word tokens is.0
 keyword_opens word tokens rest (inr none) = cc (none.0)
 
-pub behind_it : (description : Option StringText) (word : List ℕ) (tokens between more : List Token) → description_form description tokens between → between ≡ Name word ∷ more →
+pub behind_it : (description : Option StringText) (word : List ℕ) (tokens between more : List Token) →
+    description_form description tokens between → between ≡ Name word ∷ more →
     chosen_definition tokens ≡ definition_at (Name word ∷ more)
 unfolding token no_tokens behind_description chosen_definition
 behind_it None word tokens between more before is = rw (before, is) refl
@@ -122,10 +135,12 @@ brace_chosen tokens rest (inr none) = cc (none.0)
 pub record DefinitionPart (kind : Kind) (name : DefinitionName) : Type 0 where
   pub part : KindPart kind excluded_after_definition definition_first_tokens false a_brace false
   pub chosen : (tree : kind.Tree) (tokens rest : List Token) → kind.form tree tokens rest → chosen_definition tokens ≡ Some name
-  pub no_brace : (tree : kind.Tree) → IsTrue (kind.obeys tree) → (rest : List Token) → begins a_brace rest ≡ false → begins a_brace (part.tokens tree rest) ≡ false
+  pub no_brace : (tree : kind.Tree) → IsTrue (kind.obeys tree) → (rest : List Token) → begins a_brace rest ≡ false →
+      begins a_brace (part.tokens tree rest) ≡ false
   pub first_tokens : Bool → kind.Tree → Tail
   pub first_told : (broken front : Bool) (tree : kind.Tree) → Told 0 (kind.shape broken front tree) (first_tokens front tree) false (kind.nesting tree)
-  pub first_written : (front : Bool) (tree : kind.Tree) → IsTrue (kind.obeys tree) → (rest : List Token) → begins a_brace rest ≡ false → kind.form tree (first_tokens front tree rest) rest
+  pub first_written : (front : Bool) (tree : kind.Tree) → IsTrue (kind.obeys tree) → (rest : List Token) → begins a_brace rest ≡ false →
+      kind.form tree (first_tokens front tree rest) rest
 
 -- whether a part may be a definition, and begins with no brace
 abbrev pub is_definition : List TokenClass → List TokenClass → List TokenClass → Bool
@@ -142,7 +157,8 @@ module _ (kind : Kind) {F L S : List TokenClass} {opens : Bool} (p : KindPart ki
     obeyed = p.obeyed;
   }
 
-  pub begins_apart : all_apart a_brace L ≡ true → (tree : kind.Tree) → IsTrue (kind.obeys tree) → (rest : List Token) → begins S rest ≡ false → begins a_brace (p.tokens tree rest) ≡ false
+  pub begins_apart : all_apart a_brace L ≡ true → (tree : kind.Tree) → IsTrue (kind.obeys tree) → (rest : List Token) →
+      begins S rest ≡ false → begins a_brace (p.tokens tree rest) ≡ false
   begins_apart apart tree holds rest stops = opening (let x = p.read 0 tree in x.opens _ rest (p.written tree holds rest stops))
     where
       opening : Opening L false (p.tokens tree rest) rest → begins a_brace (p.tokens tree rest) ≡ false
@@ -150,7 +166,8 @@ module _ (kind : Kind) {F L S : List TokenClass} {opens : Bool} (p : KindPart ki
       opening (inr none) = cc (none.0)
 
   -- a definition that looks alike wherever it stands
-  unfoldable pub alike : (name : DefinitionName) → is_definition F L S ≡ true → all_apart a_brace L ≡ true → ((broken front : Bool) (tree : kind.Tree) → kind.shape broken false tree ≡ kind.shape broken front tree) →
+  unfoldable pub alike : (name : DefinitionName) → is_definition F L S ≡ true → all_apart a_brace L ≡ true →
+      ((broken front : Bool) (tree : kind.Tree) → kind.shape broken false tree ≡ kind.shape broken front tree) →
       ((tree : kind.Tree) (tokens rest : List Token) → kind.form tree tokens rest → chosen_definition tokens ≡ Some name) → DefinitionPart kind name
   unfolding as_definition
   alike name is apart same chosen = let whole_part = as_definition is in record {
@@ -163,14 +180,16 @@ module _ (kind : Kind) {F L S : List TokenClass} {opens : Bool} (p : KindPart ki
   }
 
 module _ {word : List ℕ} (body : Kind) {F S : List TokenClass} {opens : Bool} (p : KindPart body F (a_keyword word ∷ []) false S opens) where
-  pub described_chosen : (tree : (described body).Tree) (tokens rest : List Token) → (described body).form tree tokens rest → (more : List Token) × (chosen_definition tokens ≡ definition_at (Name word ∷ more))
+  pub described_chosen : (tree : (described body).Tree) (tokens rest : List Token) → (described body).form tree tokens rest →
+      (more : List Token) × (chosen_definition tokens ≡ definition_at (Name word ∷ more))
   unfolding ◌⨟◌
   described_chosen tree tokens rest d =
       let found = keyword_opens word d.0 rest (let x = p.read 0 tree.body in x.opens d.0 rest d.2) in
       (found.0, behind_it tree.description word tokens d.0 found.0 d.1 found.1)
 
   -- a definition that a word begins, behind its description
-  unfoldable pub described_definition : (name : DefinitionName) → is_definition F (a_string_value ∷ a_keyword word ∷ []) S ≡ true → ((more : List Token) → definition_at (Name word ∷ more) ≡ Some name) →
+  unfoldable pub described_definition : (name : DefinitionName) → is_definition F (a_string_value ∷ a_keyword word ∷ []) S ≡ true →
+      ((more : List Token) → definition_at (Name word ∷ more) ≡ Some name) →
       DefinitionPart (described body) name
   described_definition name is begun = alike (described body) (described_part body p refl) name is refl (λ broken front tree. refl)
       (λ tree tokens rest d. let found = described_chosen tree tokens rest d in found.1 ∙ begun found.0)
@@ -190,16 +209,19 @@ module _ {word : List ℕ} (body : Kind) {F S : List TokenClass} {opens : Bool} 
 
 -- OPERATIONS
 
-pub operation_type_begins : (type : OperationTypeTree) (tokens between more : List Token) (description : Option StringText) → description_form description tokens between → operation_type_form type between more →
+pub operation_type_begins : (type : OperationTypeTree) (tokens between more : List Token) (description : Option StringText) →
+    description_form description tokens between → operation_type_form type between more →
     chosen_definition tokens ≡ Some OperationDefinition
 unfolding token definition_at named_by definition_words
 operation_type_begins Query tokens between more description before is = behind_it description (codes "query") tokens between more before is
 operation_type_begins Mutation tokens between more description before is = behind_it description (codes "mutation") tokens between more before is
 operation_type_begins Subscription tokens between more description before is = behind_it description (codes "subscription") tokens between more before is
 
-pub operation_chosen : (operation : full_operation_kind.Tree) (tokens rest : List Token) → operation_form operation tokens rest → chosen_definition tokens ≡ Some OperationDefinition
-unfolding operation_form operation_definition_form either only_if ◌⨟◌
-operation_chosen operation tokens rest (inl d) = brace_chosen tokens rest (let x = selection_set_part.read 0 operation.body.selections in x.opens tokens rest d.1)
+pub operation_chosen : (operation : full_operation_kind.Tree) (tokens rest : List Token) → operation_form operation tokens rest →
+    chosen_definition tokens ≡ Some OperationDefinition
+unfolding operation_form either only_if ◌⨟◌
+operation_chosen operation tokens rest (inl d) =
+    brace_chosen tokens rest (let x = selection_set_part.read 0 operation.body.selections in x.opens tokens rest d.1)
 operation_chosen operation tokens rest (inr d) = operation_type_begins operation.body.operation_type tokens d.0 d.2.0 operation.description d.1 d.2.1
 
 unfoldable pub operation_as_definition : DefinitionPart operation_definition_kind OperationDefinition
@@ -210,7 +232,8 @@ operation_as_definition = record {
   no_brace = λ operation holds rest stops. begins_apart full_operation_kind full_operation_part refl operation holds rest (begins_none rest);
   first_tokens = operation_tokens;
   first_told = λ broken front operation. operation_told operation broken front (front && is_bare_query operation) (at_front front (is_bare_query operation));
-  first_written = λ front operation holds rest stops. operation_written operation (front && is_bare_query operation) (at_front front (is_bare_query operation)) holds rest;
+  first_written = λ front operation holds rest stops.
+      operation_written operation (front && is_bare_query operation) (at_front front (is_bare_query operation)) holds rest;
 }
 
 -- ALL DEFINITIONS
@@ -226,14 +249,27 @@ definition_parts ObjectTypeDefinition = described_definition object_type_body ob
 definition_parts InterfaceTypeDefinition = described_definition interface_type_body interface_type_body_part InterfaceTypeDefinition refl (λ more. refl)
 definition_parts UnionTypeDefinition = described_definition union_type_body union_type_body_part UnionTypeDefinition refl (λ more. refl)
 definition_parts EnumTypeDefinition = described_definition enum_type_body enum_type_body_part EnumTypeDefinition refl (λ more. refl)
-definition_parts InputObjectTypeDefinition = described_definition input_object_type_body input_object_type_body_part InputObjectTypeDefinition refl (λ more. refl)
-definition_parts SchemaExtension = extension_definition extended_schema_body extended_schema_body_part schema_adds SchemaExtension refl (λ more. refl)
-definition_parts ScalarTypeExtension = extension_definition scalar_type_body scalar_type_body_part scalar_type_adds ScalarTypeExtension refl (λ more. refl)
-definition_parts ObjectTypeExtension = extension_definition object_type_body object_type_body_part implementing_type_adds ObjectTypeExtension refl (λ more. refl)
-definition_parts InterfaceTypeExtension = extension_definition interface_type_body interface_type_body_part implementing_type_adds InterfaceTypeExtension refl (λ more. refl)
-definition_parts UnionTypeExtension = extension_definition union_type_body union_type_body_part union_type_adds UnionTypeExtension refl (λ more. refl)
-definition_parts EnumTypeExtension = extension_definition enum_type_body enum_type_body_part (braced_type_adds enum_value_definition_kind) EnumTypeExtension refl (λ more. refl)
-definition_parts InputObjectTypeExtension = extension_definition input_object_type_body input_object_type_body_part (braced_type_adds input_value_definition_kind) InputObjectTypeExtension refl (λ more. refl)
+definition_parts InputObjectTypeDefinition =
+    described_definition input_object_type_body input_object_type_body_part InputObjectTypeDefinition refl (λ more. refl)
+definition_parts SchemaExtension =
+    extension_definition extended_schema_body extended_schema_body_part
+    (λ schema. has_some schema.directives || has_some schema.root_operations) SchemaExtension refl (λ more. refl)
+definition_parts ScalarTypeExtension =
+    extension_definition scalar_type_body scalar_type_body_part
+    (λ scalar. has_some scalar.directives) ScalarTypeExtension refl (λ more. refl)
+definition_parts ObjectTypeExtension =
+    extension_definition object_type_body object_type_body_part implementing_type_adds ObjectTypeExtension refl (λ more. refl)
+definition_parts InterfaceTypeExtension =
+    extension_definition interface_type_body interface_type_body_part implementing_type_adds InterfaceTypeExtension refl (λ more. refl)
+definition_parts UnionTypeExtension =
+    extension_definition union_type_body union_type_body_part
+    (λ union. has_some union.directives || has_some union.members) UnionTypeExtension refl (λ more. refl)
+definition_parts EnumTypeExtension =
+    extension_definition enum_type_body enum_type_body_part
+    (braced_type_adds enum_value_definition_kind) EnumTypeExtension refl (λ more. refl)
+definition_parts InputObjectTypeExtension =
+    extension_definition input_object_type_body input_object_type_body_part
+    (braced_type_adds input_value_definition_kind) InputObjectTypeExtension refl (λ more. refl)
 
 -- DEFINITIONS
 
@@ -244,7 +280,8 @@ chosen_reader (Some name) = (definition_parts name).part.parser >>= λ tree. pur
 unfoldable pub definition_reader : Parser DefinitionTree
 definition_reader tokens = chosen_reader (chosen_definition tokens) tokens
 
-pub definition_is_read : (k : ℕ) (definition : DefinitionTree) → Reads k definition_reader definition (definition_kind.form definition) excluded_after_definition definition_first_tokens false
+pub definition_is_read : (k : ℕ) (definition : DefinitionTree) →
+    Reads k definition_reader definition (definition_kind.form definition) excluded_after_definition definition_first_tokens false
 unfolding definition_reader chosen_reader
 definition_is_read k definition =
     let parts = definition_parts definition.name in
@@ -265,11 +302,14 @@ definition_part = record {
 unfoldable pub first_definition_tokens : Bool → DefinitionTree → Tail
 first_definition_tokens front definition = (definition_parts definition.name).first_tokens front definition.tree
 
-pub first_definition_told : (broken front : Bool) (definition : DefinitionTree) → Told 0 (definition_kind.shape broken front definition) (first_definition_tokens front definition) false (definition_kind.nesting definition)
+pub first_definition_told : (broken front : Bool) (definition : DefinitionTree) →
+    Told 0 (definition_kind.shape broken front definition) (first_definition_tokens front definition) false
+    (definition_kind.nesting definition)
 unfolding first_definition_tokens
 first_definition_told broken front definition = (definition_parts definition.name).first_told broken front definition.tree
 
-pub first_definition_written : (front : Bool) (definition : DefinitionTree) → IsTrue (definition_kind.obeys definition) → (rest : List Token) → begins a_brace rest ≡ false →
+pub first_definition_written : (front : Bool) (definition : DefinitionTree) → IsTrue (definition_kind.obeys definition) →
+    (rest : List Token) → begins a_brace rest ≡ false →
     definition_kind.form definition (first_definition_tokens front definition rest) rest
 unfolding first_definition_tokens
 first_definition_written front definition = (definition_parts definition.name).first_written front definition.tree

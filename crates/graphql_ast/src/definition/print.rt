@@ -1,13 +1,14 @@
-//! Definitions are printed: their `Syntax`. Each is printed as its kind says.
+//! Definitions are printed, each as its kind says.
 ghost use Rattle.std.specs.Prelude.{◌≡◌, Some};
-ghost use Rattle.graphql_text.specs.Printing.{IsDefaultPrint, default_bytes};
+ghost use Rattle.graphql_text.specs.kinds.Printing.{IsDefaultPrint, default_bytes};
+ghost use Rattle.graphql_ast.specs.AstStacks.{definition_list_depth};
 ghost use Rattle.graphql_ast.specs.AstTrees.{definition_tree};
 ghost use Rattle.graphql_ast.specs.Definitions.{definition_kind};
 ghost use Rattle.graphql_ast.specs.lemmas.Definitions.{definition_laws};
 
 use crate::definition::Definition;
-use graphql_text::engine::{Serialize, Syntax};
-use graphql_text::writers::{Place, Target};
+use graphql_text::engine::{Serialize, Syntax, SyntaxTree};
+use graphql_text::writers::{HasTypes, Start, Target};
 use std::alloc::AllocError;
 use std::fmt;
 
@@ -45,12 +46,14 @@ impl Definition {
     }
 }
 
-impl Syntax for Definition {
+impl SyntaxTree for Definition {
     ghost kind = { definition_kind };
 
     ghost tree = { definition_tree };
 
     ghost laws = { definition_laws };
+
+    ghost list_depth = { definition_list_depth };
 
     fn is_well_formed(&self) -> bool {
         Definition::is_well_formed(self)
@@ -77,37 +80,59 @@ impl Syntax for Definition {
             Definition::InputObjectTypeExtension(input) => input.find_nesting(),
         }
     }
+}
 
-    fn write<O: Target>(
-        &self,
-        out: &mut O,
-        place: &Place<'_>,
-        depth: usize,
-    ) -> Result<(), AllocError> {
+impl HasTypes for Definition {
+    fn find_list_depth(&self) -> Option<usize> {
         match self {
-            Definition::OperationDefinition(operation) => operation.write(out, place, depth),
-            Definition::FragmentDefinition(fragment) => fragment.write(out, place, depth),
-            Definition::DirectiveDefinition(directive) => directive.write(out, place, depth),
-            Definition::SchemaDefinition(schema) => schema.write(out, place, depth),
-            Definition::ScalarTypeDefinition(scalar) => scalar.write(out, place, depth),
-            Definition::ObjectTypeDefinition(object) => object.write(out, place, depth),
-            Definition::InterfaceTypeDefinition(interface) => interface.write(out, place, depth),
-            Definition::UnionTypeDefinition(union_type) => union_type.write(out, place, depth),
-            Definition::EnumTypeDefinition(enum_type) => enum_type.write(out, place, depth),
-            Definition::InputObjectTypeDefinition(input) => input.write(out, place, depth),
-            Definition::SchemaExtension(schema) => schema.write(out, place, depth),
-            Definition::ScalarTypeExtension(scalar) => scalar.write(out, place, depth),
-            Definition::ObjectTypeExtension(object) => object.write(out, place, depth),
-            Definition::InterfaceTypeExtension(interface) => interface.write(out, place, depth),
-            Definition::UnionTypeExtension(union_type) => union_type.write(out, place, depth),
-            Definition::EnumTypeExtension(enum_type) => enum_type.write(out, place, depth),
-            Definition::InputObjectTypeExtension(input) => input.write(out, place, depth),
+            Definition::OperationDefinition(operation) => operation.find_list_depth(),
+            Definition::DirectiveDefinition(directive) => directive.find_list_depth(),
+            Definition::ObjectTypeDefinition(object) => object.find_list_depth(),
+            Definition::InterfaceTypeDefinition(interface) => interface.find_list_depth(),
+            Definition::InputObjectTypeDefinition(input) => input.find_list_depth(),
+            Definition::ObjectTypeExtension(object) => object.find_list_depth(),
+            Definition::InterfaceTypeExtension(interface) => interface.find_list_depth(),
+            Definition::InputObjectTypeExtension(input) => input.find_list_depth(),
+            Definition::FragmentDefinition(_)
+            | Definition::SchemaDefinition(_)
+            | Definition::ScalarTypeDefinition(_)
+            | Definition::UnionTypeDefinition(_)
+            | Definition::EnumTypeDefinition(_)
+            | Definition::SchemaExtension(_)
+            | Definition::ScalarTypeExtension(_)
+            | Definition::UnionTypeExtension(_)
+            | Definition::EnumTypeExtension(_) => Some(0),
+        }
+    }
+}
+
+impl Syntax for Definition {
+    fn write<O: Target>(&self, out: &mut O, start: &Start<'_>) -> Result<(), AllocError> {
+        match self {
+            Definition::OperationDefinition(operation) => operation.write(out, start),
+            Definition::FragmentDefinition(fragment) => fragment.write(out, start),
+            Definition::DirectiveDefinition(directive) => directive.write(out, start),
+            Definition::SchemaDefinition(schema) => schema.write(out, start),
+            Definition::ScalarTypeDefinition(scalar) => scalar.write(out, start),
+            Definition::ObjectTypeDefinition(object) => object.write(out, start),
+            Definition::InterfaceTypeDefinition(interface) => interface.write(out, start),
+            Definition::UnionTypeDefinition(union_type) => union_type.write(out, start),
+            Definition::EnumTypeDefinition(enum_type) => enum_type.write(out, start),
+            Definition::InputObjectTypeDefinition(input) => input.write(out, start),
+            Definition::SchemaExtension(schema) => schema.write(out, start),
+            Definition::ScalarTypeExtension(scalar) => scalar.write(out, start),
+            Definition::ObjectTypeExtension(object) => object.write(out, start),
+            Definition::InterfaceTypeExtension(interface) => interface.write(out, start),
+            Definition::UnionTypeExtension(union_type) => union_type.write(out, start),
+            Definition::EnumTypeExtension(enum_type) => enum_type.write(out, start),
+            Definition::InputObjectTypeExtension(input) => input.write(out, start),
         }
     }
 }
 
 impl fmt::Display for Definition {
-    ghost output = { λ definition. Some (default_bytes definition_kind (definition_tree definition)) };
+    ghost output = { λ definition.
+        Some (default_bytes definition_kind (definition_tree definition)) };
 
     fn fmt<W: fmt::Write>(&self, f: &mut fmt::Formatter<W>) -> fmt::Result {
         self.serialize().fmt(f)

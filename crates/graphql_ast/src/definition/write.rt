@@ -1,59 +1,16 @@
 //! Definitions are written as parts of a document, with stacks that are reserved once for all of them.
 ghost use Rattle.std.specs.Prelude.{◌≡◌};
-ghost use Rattle.graphql_text.specs.Layout.{is_front};
-ghost use Rattle.graphql_text.specs.Levels.{IsCount};
-ghost use Rattle.graphql_text.specs.Place.{breaks, mode_of};
-ghost use Rattle.graphql_text.specs.Writing.{Writes, WritesPart};
-ghost use Rattle.graphql_executable.specs.ExecutableStacks.{AreAllKept};
+ghost use Rattle.graphql_text.specs.layout.Layout.{is_front};
+ghost use Rattle.graphql_text.specs.code.Place.{breaks, mode_of};
+ghost use Rattle.graphql_text.specs.code.Writing.{Writes, WritesPart};
+ghost use Rattle.graphql_executable.specs.code.ExecutableStacks.{AreAllKept};
 ghost use Rattle.graphql_ast.specs.AstStacks.{CanWriteAst, definition_list_depth, has_selections, selection_depth};
 ghost use Rattle.graphql_ast.specs.AstTrees.{definition_tree};
 ghost use Rattle.graphql_ast.specs.Definitions.{definition_kind};
 
 use crate::definition::Definition;
-use graphql_executable::writers::{
-    ExecutableStacks, find_variables_list_depth, write_first_operation_definition,
-    write_fragment_definition, write_operation_definition,
-};
-use graphql_text::writers::{Place, Target};
-use graphql_type_system::writers::{
-    find_fields_list_depth, write_enum_type_definition, write_enum_type_extension,
-    write_input_object_type_definition, write_input_object_type_extension,
-    write_interface_type_definition, write_interface_type_extension, write_object_type_definition,
-    write_object_type_extension, write_scalar_type_definition, write_scalar_type_extension,
-    write_schema_definition, write_schema_extension, write_union_type_definition,
-    write_union_type_extension,
-};
-use graphql_values::writers::{find_arguments_list_depth, write_directive_definition};
-
-/// How many lists stand around the type in a definition that has the most of them. `None` if they are more than
-/// `usize::MAX`.
-pub(crate) fn find_list_depth(definition: &Definition) -> Option<usize>
-    ensures { IsCount result (definition_list_depth (definition_tree definition.now)) }
-{
-    match definition {
-        Definition::OperationDefinition(operation) => {
-            find_variables_list_depth(&operation.variables)
-        }
-        Definition::DirectiveDefinition(directive) => {
-            find_arguments_list_depth(&directive.arguments)
-        }
-        Definition::ObjectTypeDefinition(object) => find_fields_list_depth(&object.fields),
-        Definition::InterfaceTypeDefinition(interface) => find_fields_list_depth(&interface.fields),
-        Definition::InputObjectTypeDefinition(input) => find_arguments_list_depth(&input.fields),
-        Definition::ObjectTypeExtension(object) => find_fields_list_depth(&object.fields),
-        Definition::InterfaceTypeExtension(interface) => find_fields_list_depth(&interface.fields),
-        Definition::InputObjectTypeExtension(input) => find_arguments_list_depth(&input.fields),
-        Definition::FragmentDefinition(_)
-        | Definition::SchemaDefinition(_)
-        | Definition::ScalarTypeDefinition(_)
-        | Definition::UnionTypeDefinition(_)
-        | Definition::EnumTypeDefinition(_)
-        | Definition::SchemaExtension(_)
-        | Definition::ScalarTypeExtension(_)
-        | Definition::UnionTypeExtension(_)
-        | Definition::EnumTypeExtension(_) => Some(0),
-    }
-}
+use graphql_executable::writers::{ExecutableStacks, write_first_operation_definition};
+use graphql_text::writers::{Place, Target, Written};
 
 /// Whether a definition has selections.
 pub(crate) fn has_selections(definition: &Definition) -> bool
@@ -81,56 +38,52 @@ pub(crate) fn write_definition<'a, O: Target>(
         definition_kind (definition_tree definition.now) }
 {
     match definition {
-        Definition::OperationDefinition(operation) => {
-            write_operation_definition(out, place, stacks, operation);
-        }
-        Definition::FragmentDefinition(fragment) => {
-            write_fragment_definition(out, place, stacks, fragment);
-        }
+        Definition::OperationDefinition(operation) => operation.write_at(out, place, stacks),
+        Definition::FragmentDefinition(fragment) => fragment.write_at(out, place, stacks),
         Definition::DirectiveDefinition(directive) => {
-            write_directive_definition(out, place, &mut stacks.definitions, directive);
+            directive.write_at(out, place, &mut stacks.definitions);
         }
         Definition::SchemaDefinition(schema) => {
-            write_schema_definition(out, place, &mut stacks.definitions, schema);
+            schema.write_at(out, place, &mut stacks.definitions);
         }
         Definition::ScalarTypeDefinition(scalar) => {
-            write_scalar_type_definition(out, place, &mut stacks.definitions, scalar);
+            scalar.write_at(out, place, &mut stacks.definitions);
         }
         Definition::ObjectTypeDefinition(object) => {
-            write_object_type_definition(out, place, &mut stacks.definitions, object);
+            object.write_at(out, place, &mut stacks.definitions);
         }
         Definition::InterfaceTypeDefinition(interface) => {
-            write_interface_type_definition(out, place, &mut stacks.definitions, interface);
+            interface.write_at(out, place, &mut stacks.definitions);
         }
         Definition::UnionTypeDefinition(union_type) => {
-            write_union_type_definition(out, place, &mut stacks.definitions, union_type);
+            union_type.write_at(out, place, &mut stacks.definitions);
         }
         Definition::EnumTypeDefinition(enum_type) => {
-            write_enum_type_definition(out, place, &mut stacks.definitions, enum_type);
+            enum_type.write_at(out, place, &mut stacks.definitions);
         }
         Definition::InputObjectTypeDefinition(input) => {
-            write_input_object_type_definition(out, place, &mut stacks.definitions, input);
+            input.write_at(out, place, &mut stacks.definitions);
         }
         Definition::SchemaExtension(schema) => {
-            write_schema_extension(out, place, &mut stacks.definitions, schema);
+            schema.write_at(out, place, &mut stacks.definitions);
         }
         Definition::ScalarTypeExtension(scalar) => {
-            write_scalar_type_extension(out, place, &mut stacks.definitions, scalar);
+            scalar.write_at(out, place, &mut stacks.definitions);
         }
         Definition::ObjectTypeExtension(object) => {
-            write_object_type_extension(out, place, &mut stacks.definitions, object);
+            object.write_at(out, place, &mut stacks.definitions);
         }
         Definition::InterfaceTypeExtension(interface) => {
-            write_interface_type_extension(out, place, &mut stacks.definitions, interface);
+            interface.write_at(out, place, &mut stacks.definitions);
         }
         Definition::UnionTypeExtension(union_type) => {
-            write_union_type_extension(out, place, &mut stacks.definitions, union_type);
+            union_type.write_at(out, place, &mut stacks.definitions);
         }
         Definition::EnumTypeExtension(enum_type) => {
-            write_enum_type_extension(out, place, &mut stacks.definitions, enum_type);
+            enum_type.write_at(out, place, &mut stacks.definitions);
         }
         Definition::InputObjectTypeExtension(input) => {
-            write_input_object_type_extension(out, place, &mut stacks.definitions, input);
+            input.write_at(out, place, &mut stacks.definitions);
         }
     }
 }
@@ -148,7 +101,8 @@ pub(crate) fn write_first_definition<'a, O: Target>(
         (selection_depth (definition_tree definition.now)) }
     ensures kept { AreAllKept stacks.old stacks.new }
     ensures written { Writes O.wrote out.old out.new place.now
-        (definition_kind.shape (breaks place.now) (is_front (mode_of place.now.prefix) place.now.level)
+        (definition_kind.shape (breaks place.now)
+        (is_front (mode_of place.now.prefix) place.now.level)
         (definition_tree definition.now)) }
 {
     match definition {

@@ -1,27 +1,27 @@
 //! Documents are printed: the writer of definitions in a row, and the `Syntax` of a document.
-ghost use Rattle.std.specs.Prelude.{◌≡◌, ◌≤◌, IfOk, IsOk, Some};
-ghost use Rattle.std.specs.List.{list_all};
-ghost use Rattle.graphql_text.specs.Greatest.{greatest};
-ghost use Rattle.graphql_text.specs.Layout.{is_front};
-ghost use Rattle.graphql_text.specs.Levels.{IsCount};
-ghost use Rattle.graphql_text.specs.Place.{breaks, mode_of};
-ghost use Rattle.graphql_text.specs.Printing.{IsDefaultPrint, default_bytes};
-ghost use Rattle.graphql_text.specs.Stack.{IsReady};
-ghost use Rattle.graphql_text.specs.Writing.{Writes};
-ghost use Rattle.graphql_ast.specs.AstStacks.{CanWriteAst, definition_list_depth, selection_depth};
+ghost use Rattle.std.specs.Prelude.{◌≡◌, ◌≤◌, if◌then◌else◌, IfOk, IsOk, Some};
+ghost use Rattle.std.specs.List.{list_all, list_any};
+ghost use Rattle.graphql_text.specs.parts.Greatest.{greatest};
+ghost use Rattle.graphql_text.specs.layout.Layout.{is_front};
+ghost use Rattle.graphql_text.specs.layout.Levels.{Fits, IsCount};
+ghost use Rattle.graphql_text.specs.code.Place.{breaks, mode_of};
+ghost use Rattle.graphql_text.specs.kinds.Printing.{IsDefaultPrint, default_bytes};
+ghost use Rattle.graphql_text.specs.code.Writing.{Writes};
+ghost use Rattle.graphql_text.specs.declared.place.Place.{Place};
+ghost use Rattle.graphql_ast.specs.AstStacks.{CanWriteAst, definition_list_depth, has_selections, selection_depth};
 ghost use Rattle.graphql_ast.specs.AstTrees.{definition_trees, document_tree};
 ghost use Rattle.graphql_ast.specs.Definitions.{definition_kind};
 ghost use Rattle.graphql_ast.specs.Documents.{document_kind, document_shape};
 ghost use Rattle.graphql_ast.specs.lemmas.Documents.{document_laws};
 
 use crate::definition::Definition;
-use crate::definition::write::{
-    find_list_depth, has_selections, write_definition, write_first_definition,
-};
+use crate::definition::write::{has_selections, write_definition, write_first_definition};
 use crate::document::Document;
 use graphql_executable::writers::ExecutableStacks;
-use graphql_text::engine::{Serialize, Syntax};
-use graphql_text::writers::{Place, Stack, Target, write_blank, write_finish, write_first_indent};
+use graphql_text::engine::{Serialize, Syntax, SyntaxTree};
+use graphql_text::writers::{
+    HasTypes, Place, Stack, Start, Target, write_blank, write_finish, write_first_indent,
+};
 use graphql_values::writers::Stacks;
 use std::alloc::{AllocError, Global};
 use std::fmt;
@@ -56,17 +56,19 @@ fn find_definitions_list_depth(definitions: &[Definition]) -> Option<usize>
 {
     let mut most = 0;
     for definition in definitions {
-        most = most.max(find_list_depth(definition)?);
+        most = most.max(definition.find_list_depth()?);
     }
     Some(most)
 }
 
-/// How deep selection sets may stand in one another, in definitions that nest `nesting` levels: as deep as these, and 0
-/// where none has selections. It is a bound alone, so that no definition is gone through a second time.
-fn selection_depth(definitions: &[Definition], nesting: usize) -> usize
+/// How many selection sets may be open at once while definitions of this nesting depth are written: as many, or 0 where
+/// no definition has selections. It is a bound, so that no definition is gone through a second time.
+fn selection_room(definitions: &[Definition], nesting: usize) -> usize
     requires { greatest definition_kind.nesting (definition_trees definitions.now) ≡ nesting }
+    ensures room { result ≡
+        (if list_any (λ tree. has_selections tree.name) (definition_trees definitions.now)
+        then nesting else 0) }
     ensures enough { greatest selection_depth (definition_trees definitions.now) ≤ result }
-    ensures within { result ≤ nesting }
 {
     for definition in definitions {
         if has_selections(definition) {
@@ -105,24 +107,23 @@ fn write_definitions<'a, O: Target>(
     write_finish(out, place);
 }
 
-/// The stacks that definitions are written with, where these nest so deep. `AllocError` where memory is refused.
-fn reserve_stacks<'a>(
+/// The stacks that definitions of this nesting depth are written with. `AllocError` where memory is refused.
+fn reserve_stacks<'t>(
     alloc: Global,
-    definitions: &'a [Definition],
+    definitions: &'t [Definition],
     depth: usize,
-) -> Result<ExecutableStacks<'a>, AllocError>
+) -> Result<ExecutableStacks<'t>, AllocError>
     requires { greatest definition_kind.nesting (definition_trees definitions.now) ≡ depth }
-    ensures values { IfOk result (λ stacks. IsReady stacks.definitions.values depth) }
-    ensures types { IfOk result (λ stacks. IsReady stacks.definitions.types
-        (greatest definition_list_depth (definition_trees definitions.now))) }
-    ensures selections { IfOk result (λ stacks. IsReady stacks.selections
+    ensures ready { IfOk result
+        (λ stacks. (place : Place) → Fits place.level depth → CanWriteAst place stacks depth
+        (greatest definition_list_depth (definition_trees definitions.now))
         (greatest selection_depth (definition_trees definitions.now))) }
-    ensures succeeds { depth ≡ 0 → greatest definition_list_depth (definition_trees definitions.now) ≡ 0 → IsOk result }
+    ensures free { depth ≡ 0 →
+        greatest definition_list_depth (definition_trees definitions.now) ≡ 0 → IsOk result }
 {
-    let list_depth = find_definitions_list_depth(definitions).ok_or(AllocError)?;
     Ok(ExecutableStacks {
-        definitions: Stacks::reserve(alloc, depth, list_depth)?,
-        selections: Stack::reserve(Some(alloc), selection_depth(definitions, depth))?,
+        definitions: Stacks::reserve(alloc, depth, find_definitions_list_depth(definitions))?,
+        selections: Stack::reserve(Some(alloc), selection_room(definitions, depth))?,
     })
 }
 
@@ -142,12 +143,14 @@ impl Document {
     }
 }
 
-impl Syntax for Document {
+impl SyntaxTree for Document {
     ghost kind = { document_kind };
 
     ghost tree = { document_tree };
 
     ghost laws = { document_laws };
+
+    ghost list_depth = { greatest definition_list_depth };
 
     fn is_well_formed(&self) -> bool {
         Document::is_well_formed(self)
@@ -156,17 +159,14 @@ impl Syntax for Document {
     fn find_nesting(&self) -> Option<usize> {
         find_definitions_nesting(&self.definitions)
     }
+}
 
-    fn write<O: Target>(
-        &self,
-        out: &mut O,
-        place: &Place<'_>,
-        depth: usize,
-    ) -> Result<(), AllocError> {
+impl Syntax for Document {
+    fn write<O: Target>(&self, out: &mut O, start: &Start<'_>) -> Result<(), AllocError> {
         let alloc = *self.definitions.allocator();
-        let mut stacks = reserve_stacks(alloc, &self.definitions, depth)?;
-        write_first_indent(out, place);
-        write_definitions(out, place, &mut stacks, &self.definitions);
+        let mut stacks = reserve_stacks(alloc, &self.definitions, start.depth)?;
+        write_first_indent(out, &start.place);
+        write_definitions(out, &start.place, &mut stacks, &self.definitions);
         Ok(())
     }
 }

@@ -1,15 +1,15 @@
 //! Texts at the edges of the grammar: where it is easy to read too much, or too little.
 ghost use Rattle.std.specs.Prelude.{[], ◌∷◌, codes, None};
-ghost use Rattle.graphql_text.specs.Reading.{ReadsAs};
-ghost use Rattle.graphql_executable.specs.Fields.{field_kind};
-ghost use Rattle.graphql_executable.specs.FragmentSpreads.{fragment_spread_kind};
-ghost use Rattle.graphql_executable.specs.InlineFragments.{inline_fragment_kind};
-ghost use Rattle.graphql_executable.specs.Selections.{selection_kind};
-ghost use Rattle.graphql_executable.specs.VariableDefinitions.{variable_definition_kind};
-ghost use Rattle.graphql_type_system.specs.Examples.{union_with_member};
+ghost use Rattle.graphql_text.specs.kinds.Reading.{ReadsAs};
+ghost use Rattle.graphql_executable.specs.kinds.Fields.{field_kind};
+ghost use Rattle.graphql_executable.specs.kinds.FragmentSpreads.{fragment_spread_kind};
+ghost use Rattle.graphql_executable.specs.kinds.InlineFragments.{inline_fragment_kind};
+ghost use Rattle.graphql_executable.specs.kinds.Selections.{selection_kind};
+ghost use Rattle.graphql_executable.specs.kinds.VariableDefinitions.{variable_definition_kind};
+ghost use Rattle.graphql_type_system.specs.examples.TypeSystemExamples.{union_with_member};
 ghost use Rattle.graphql_ast.specs.Definitions.{UnionTypeExtension, definition_kind};
 ghost use Rattle.graphql_ast.specs.Documents.{document_kind};
-ghost use Rattle.graphql_ast.specs.Examples.{a_definition, directive_on_fields, fragment_on_t, query_described, query_of_alias, query_query, spread_of_once, type_of_b_and_c, type_with_a, union_u};
+ghost use Rattle.graphql_ast.specs.examples.DocumentExamples.{a_definition, directive_on_fields, fragment_on_t, query_described, query_of_alias, query_query, spread_of_once, type_of_b_and_c, type_with_a, union_u};
 
 /// Texts that are read though they may not look so: a separator before the first of several names, a shorthand behind
 /// what has no braces or ends with them, words of the grammar as names, and a name that begins with `on`.
@@ -24,9 +24,11 @@ pub fn edge_readings()
         (type_of_b_and_c ∷ []) }
     ensures leading_bar { ReadsAs definition_kind.form (codes "extend union U = | A")
         (a_definition UnionTypeExtension union_with_member) }
-    ensures leading_bar_of_locations { ReadsAs definition_kind.form (codes "directive @d on | FIELD")
+    ensures leading_bar_of_locations { ReadsAs definition_kind.form
+        (codes "directive @d on | FIELD")
         directive_on_fields }
-    ensures query_named_query { ReadsAs definition_kind.form (codes "query query{query}") query_query }
+    ensures query_named_query { ReadsAs definition_kind.form
+        (codes "query query{query}") query_query }
     ensures inline_fragment { ReadsAs selection_kind.form (codes "...on T{a}") fragment_on_t }
     ensures spread_of_once { ReadsAs selection_kind.form (codes "...once") spread_of_once }
 {}
@@ -52,8 +54,10 @@ pub fn edge_refusals()
         ReadsAs definition_kind.form (codes "\"d\" extend type T @d") tree → ⊥ }
     ensures fragment_with_variables { (tree : definition_kind.Tree) →
         ReadsAs definition_kind.form (codes "fragment F($a: Int) on T { a }") tree → ⊥ }
-    ensures no_arguments { (tree : field_kind.Tree) → ReadsAs field_kind.form (codes "f()") tree → ⊥ }
-    ensures no_selections { (tree : field_kind.Tree) → ReadsAs field_kind.form (codes "f {}") tree → ⊥ }
+    ensures no_arguments { (tree : field_kind.Tree) →
+        ReadsAs field_kind.form (codes "f()") tree → ⊥ }
+    ensures no_selections { (tree : field_kind.Tree) →
+        ReadsAs field_kind.form (codes "f {}") tree → ⊥ }
     ensures on_without_type { (tree : inline_fragment_kind.Tree) →
         ReadsAs inline_fragment_kind.form (codes "... on { a }") tree → ⊥ }
     ensures spread_with_set { (tree : fragment_spread_kind.Tree) →

@@ -1,17 +1,23 @@
 -- Lemmas, no definitions of the product: the JSON of input value definitions and directive definitions is of one of them, and is a node.
 use Rattle.std.proofs.Common.{◌≡◌, ℕ, true, false, List, [], ◌∷◌, Option, Some, None, option_and_then, codes, nat_eq, refl, sym, ap, ◌∙◌}
 use Rattle.std.specs.Cmp.Lexicographic.{pointwise}
-use Rattle.graphql_values.specs.DirectiveDefinitions.{directive_definition_kind}
-use Rattle.graphql_values.specs.DirectiveLocations.{DirectiveLocationTree, location_name, Query, Mutation, Subscription, Field, FragmentDefinition, FragmentSpread, InlineFragment, VariableDefinition, Schema, Scalar, Object, FieldDefinition, ArgumentDefinition, Interface, Union, Enum, EnumValue, InputObject, InputFieldDefinition}
-use Rattle.graphql_values.specs.InputValueDefinitions.{input_value_definition_kind}
+use Rattle.graphql_values.specs.kinds.DirectiveDefinitions.{directive_definition_kind}
+use Rattle.graphql_values.specs.kinds.DirectiveLocations.{DirectiveLocationTree, location_name}
+use Rattle.graphql_values.specs.declared.directive_location.DirectiveLocation.TheVariants.{Query, Mutation, Subscription, Field}
+use Rattle.graphql_values.specs.declared.directive_location.DirectiveLocation.TheVariants.{FragmentDefinition, FragmentSpread}
+use Rattle.graphql_values.specs.declared.directive_location.DirectiveLocation.TheVariants.{InlineFragment, VariableDefinition, Schema}
+use Rattle.graphql_values.specs.declared.directive_location.DirectiveLocation.TheVariants.{Scalar, Object, FieldDefinition}
+use Rattle.graphql_values.specs.declared.directive_location.DirectiveLocation.TheVariants.{ArgumentDefinition, Interface, Union, Enum}
+use Rattle.graphql_values.specs.declared.directive_location.DirectiveLocation.TheVariants.{EnumValue, InputObject, InputFieldDefinition}
+use Rattle.graphql_values.specs.kinds.InputValueDefinitions.{input_value_definition_kind}
 use Rattle.serde_json.specs.Data.{Data}
 use Rattle.serde_json.specs.Find.{as_array}
-use Rattle.graphql_ast_json.specs.DefinitionJson.{IsInputValueDefinition, IsDirectiveLocation, IsDirectiveDefinition}
-use Rattle.graphql_ast_json.specs.DirectiveJson.{IsDirective}
-use Rattle.graphql_ast_json.specs.Nodes.{Anywhere, Each, IsLocated, IsName, IsStringValue, items_or_none, member_of}
-use Rattle.graphql_ast_json.specs.OneTree.{IsNeverNull}
-use Rattle.graphql_ast_json.specs.TypeJson.{IsTypeReference}
-use Rattle.graphql_ast_json.specs.ValueJson.{IsValue}
+use Rattle.graphql_ast_json.specs.kinds.DefinitionJson.{IsInputValueDefinition, IsDirectiveLocation, IsDirectiveDefinition}
+use Rattle.graphql_ast_json.specs.kinds.DirectiveJson.{IsDirective}
+use Rattle.graphql_ast_json.specs.nodes.Nodes.{Anywhere, Each, IsLocated, IsName, IsStringValue, items_or_none, member_of}
+use Rattle.graphql_ast_json.specs.nodes.OneTree.{IsNeverNull}
+use Rattle.graphql_ast_json.specs.kinds.TypeJson.{IsTypeReference}
+use Rattle.graphql_ast_json.specs.kinds.ValueJson.{IsValue}
 use Rattle.graphql_ast_json.specs.lemmas.DirectiveNodes.{same_directive}
 use Rattle.graphql_ast_json.specs.lemmas.Leaves.{both_some, no_null, same_boolean, same_each, same_name, same_optional, same_string, same_string_value}
 use Rattle.graphql_ast_json.specs.lemmas.TypeNodes.{same_type}
@@ -21,9 +27,13 @@ pub same_input_value_definition : (a b : input_value_definition_kind.Tree) (json
 same_input_value_definition a b json p q =
     let description = same_optional IsStringValue same_string_value a.description b.description (member_of (codes "description") json) p.1 q.1 in
     let name = both_some (member_of (codes "name") json) (IsName a.body.name) (IsName b.body.name) p.2 q.2 (same_name a.body.name b.body.name) in
-    let type = both_some (member_of (codes "type") json) (IsTypeReference a.body.type) (IsTypeReference b.body.type) p.3 q.3 (same_type a.body.type b.body.type) in
+    let type =
+    both_some (member_of (codes "type") json) (IsTypeReference a.body.type) (IsTypeReference b.body.type) p.3 q.3
+    (same_type a.body.type b.body.type) in
     let value = same_optional IsValue same_value a.body.default_value b.body.default_value (member_of (codes "defaultValue") json) p.4 q.4 in
-    let directives = both_some (items_or_none (member_of (codes "directives") json)) (Each IsDirective a.body.directives) (Each IsDirective b.body.directives) p.5 q.5
+    let directives =
+    both_some (items_or_none (member_of (codes "directives") json)) (Each IsDirective a.body.directives)
+    (Each IsDirective b.body.directives) p.5 q.5
     (same_each IsDirective same_directive a.body.directives b.body.directives) in
     λ i. record { description = description i; body = record { name = name i; type = type i; default_value = value i; directives = directives i } }
 
@@ -33,7 +43,8 @@ location_among (location ∷ more) name = elim (pointwise nat_eq (location_name 
 
 locations : List DirectiveLocationTree
 locations =
-    Query ∷ Mutation ∷ Subscription ∷ Field ∷ FragmentDefinition ∷ FragmentSpread ∷ InlineFragment ∷ VariableDefinition ∷ Schema ∷ Scalar ∷ Object ∷ FieldDefinition
+    Query ∷ Mutation ∷ Subscription ∷ Field ∷ FragmentDefinition ∷ FragmentSpread ∷ InlineFragment ∷ VariableDefinition ∷ Schema ∷ Scalar
+    ∷ Object ∷ FieldDefinition
     ∷ ArgumentDefinition ∷ Interface ∷ Union ∷ Enum ∷ EnumValue ∷ InputObject ∷ InputFieldDefinition ∷ []
 
 location_is_found : (location : DirectiveLocationTree) → location_among locations (location_name location) ≡ Some location
@@ -70,10 +81,14 @@ pub same_directive_definition : (a b : directive_definition_kind.Tree) (json : D
 same_directive_definition a b json p q =
     let description = same_optional IsStringValue same_string_value a.description b.description (member_of (codes "description") json) p.1 q.1 in
     let name = both_some (member_of (codes "name") json) (IsName a.body.name) (IsName b.body.name) p.2 q.2 (same_name a.body.name b.body.name) in
-    let arguments = both_some (items_or_none (member_of (codes "arguments") json)) (Each IsInputValueDefinition a.body.arguments) (Each IsInputValueDefinition b.body.arguments) p.3 q.3
+    let arguments =
+    both_some (items_or_none (member_of (codes "arguments") json)) (Each IsInputValueDefinition a.body.arguments)
+    (Each IsInputValueDefinition b.body.arguments) p.3 q.3
     (same_each IsInputValueDefinition same_input_value_definition a.body.arguments b.body.arguments) in
     let repeatable = same_boolean (codes "repeatable") json a.body.repeatable b.body.repeatable p.4 q.4 in
-    let places = both_some (option_and_then as_array (member_of (codes "locations") json)) (Each IsDirectiveLocation a.body.locations) (Each IsDirectiveLocation b.body.locations) p.5 q.5
+    let places =
+    both_some (option_and_then as_array (member_of (codes "locations") json)) (Each IsDirectiveLocation a.body.locations)
+    (Each IsDirectiveLocation b.body.locations) p.5 q.5
     (same_each IsDirectiveLocation same_location a.body.locations b.body.locations) in
     λ i. record { description = description i; body = record { name = name i; arguments = arguments i; repeatable = repeatable i; locations = places i } }
 

@@ -1,13 +1,13 @@
 -- Lemmas, no definitions of the product: the JSON of arguments and directives is of one of them, and is a node.
 use Rattle.std.proofs.Common.{◌≡◌, List, codes}
-use Rattle.graphql_values.specs.Arguments.{ArgumentTree}
-use Rattle.graphql_values.specs.Directives.{DirectiveTree}
+use Rattle.graphql_values.specs.kinds.Arguments.{ArgumentTree}
+use Rattle.graphql_values.specs.kinds.Directives.{DirectiveTree}
 use Rattle.serde_json.specs.Data.{Data}
 use Rattle.serde_json.specs.Find.{as_array}
-use Rattle.graphql_ast_json.specs.DirectiveJson.{IsArgument, IsDirective, AreDirectives}
-use Rattle.graphql_ast_json.specs.Nodes.{Anywhere, Each, IsLocated, IsName, items_or_none, member_of}
-use Rattle.graphql_ast_json.specs.OneTree.{IsNeverNull}
-use Rattle.graphql_ast_json.specs.ValueJson.{IsValue}
+use Rattle.graphql_ast_json.specs.kinds.DirectiveJson.{IsArgument, IsDirective, AreDirectives}
+use Rattle.graphql_ast_json.specs.nodes.Nodes.{Anywhere, Each, IsLocated, IsName, items_or_none, member_of}
+use Rattle.graphql_ast_json.specs.nodes.OneTree.{IsNeverNull}
+use Rattle.graphql_ast_json.specs.kinds.ValueJson.{IsValue}
 use Rattle.graphql_ast_json.specs.lemmas.Leaves.{both_some, no_null, same_each, same_name}
 use Rattle.graphql_ast_json.specs.lemmas.ValueNodes.{same_value}
 

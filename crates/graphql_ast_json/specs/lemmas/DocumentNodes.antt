@@ -3,16 +3,24 @@ use Rattle.std.proofs.Common.{ℕ, ◌≡◌, refl, sym, ap, subst, ◌∙◌, L
 use Rattle.std.specs.Cmp.Lexicographic.{pointwise}
 use Rattle.serde_json.specs.Data.{Data}
 use Rattle.serde_json.specs.Find.{as_array}
-use Rattle.graphql_ast.specs.Definitions.{DefinitionName, kind_named, DefinitionTree, OperationDefinition, FragmentDefinition, DirectiveDefinition, SchemaDefinition, ScalarTypeDefinition, ObjectTypeDefinition, InterfaceTypeDefinition, UnionTypeDefinition, EnumTypeDefinition, InputObjectTypeDefinition, SchemaExtension, ScalarTypeExtension, ObjectTypeExtension, InterfaceTypeExtension, UnionTypeExtension, EnumTypeExtension, InputObjectTypeExtension}
-use Rattle.graphql_ast_json.specs.DocumentJson.{IsNamed, IsAnyDefinition, IsDocument}
-use Rattle.graphql_ast_json.specs.ExecutableJson.{HasFragmentDefinition, HasOperationDefinition, fragment_definition_members, operation_definition_members}
-use Rattle.graphql_ast_json.specs.Nodes.{Anywhere, Each, IsLocated, member_of}
-use Rattle.graphql_ast_json.specs.OneTree.{IsNeverNull, IsOfOneTree}
-use Rattle.graphql_ast_json.specs.TypeSystemJson.{HasEnumType, HasImplementingType, HasInputObjectType, HasScalarType, HasSchema, HasUnionType, enum_type_members, implementing_type_members, input_object_type_members, scalar_type_members, schema_members, union_type_members}
+use Rattle.graphql_ast.specs.Definitions.{DefinitionName, kind_named, DefinitionTree, OperationDefinition, FragmentDefinition}
+use Rattle.graphql_ast.specs.Definitions.{DirectiveDefinition, SchemaDefinition, ScalarTypeDefinition, ObjectTypeDefinition}
+use Rattle.graphql_ast.specs.Definitions.{InterfaceTypeDefinition, UnionTypeDefinition, EnumTypeDefinition, InputObjectTypeDefinition}
+use Rattle.graphql_ast.specs.Definitions.{SchemaExtension, ScalarTypeExtension, ObjectTypeExtension, InterfaceTypeExtension}
+use Rattle.graphql_ast.specs.Definitions.{UnionTypeExtension, EnumTypeExtension, InputObjectTypeExtension}
+use Rattle.graphql_ast_json.specs.kinds.DocumentJson.{IsNamed, IsAnyDefinition, IsDocument}
+use Rattle.graphql_ast_json.specs.kinds.ExecutableJson.{HasFragmentDefinition, HasOperationDefinition, fragment_definition_members}
+use Rattle.graphql_ast_json.specs.kinds.ExecutableJson.{operation_definition_members}
+use Rattle.graphql_ast_json.specs.nodes.Nodes.{Anywhere, Each, IsLocated, member_of}
+use Rattle.graphql_ast_json.specs.nodes.OneTree.{IsNeverNull, IsOfOneTree}
+use Rattle.graphql_ast_json.specs.kinds.TypeSystemJson.{HasEnumType, HasImplementingType, HasInputObjectType, HasScalarType, HasSchema}
+use Rattle.graphql_ast_json.specs.kinds.TypeSystemJson.{HasUnionType, enum_type_members, implementing_type_members}
+use Rattle.graphql_ast_json.specs.kinds.TypeSystemJson.{input_object_type_members, scalar_type_members, schema_members, union_type_members}
 use Rattle.graphql_ast_json.specs.lemmas.DefinitionNodes.{same_directive_definition}
 use Rattle.graphql_ast_json.specs.lemmas.ExecutableNodes.{same_fragment_definition, same_operation_definition}
 use Rattle.graphql_ast_json.specs.lemmas.Leaves.{IsOfKind, both_some, no_null, same_each, same_string}
-use Rattle.graphql_ast_json.specs.lemmas.TypeSystemNodes.{same_definition, same_enum_type, same_extension, same_implementing_type, same_input_object_type, same_scalar_type, same_schema, same_union_type}
+use Rattle.graphql_ast_json.specs.lemmas.TypeSystemNodes.{same_definition, same_enum_type, same_extension, same_implementing_type}
+use Rattle.graphql_ast_json.specs.lemmas.TypeSystemNodes.{same_input_object_type, same_scalar_type, same_schema, same_union_type}
 
 -- WHICH DEFINITION A NODE IS
 
@@ -62,7 +70,10 @@ first_of_kind kind (name ∷ names) = elim (pointwise nat_eq (node_kind name) ki
 
 name_of_kind : List ℕ → Option DefinitionName
 name_of_kind kind =
-    first_of_kind kind (OperationDefinition ∷ FragmentDefinition ∷ DirectiveDefinition ∷ SchemaDefinition ∷ ScalarTypeDefinition ∷ ObjectTypeDefinition ∷ InterfaceTypeDefinition ∷ UnionTypeDefinition ∷ EnumTypeDefinition ∷ InputObjectTypeDefinition ∷ SchemaExtension ∷ ScalarTypeExtension ∷ ObjectTypeExtension ∷ InterfaceTypeExtension ∷ UnionTypeExtension ∷ EnumTypeExtension ∷ InputObjectTypeExtension ∷ [])
+    first_of_kind kind (OperationDefinition ∷ FragmentDefinition ∷ DirectiveDefinition ∷ SchemaDefinition ∷ ScalarTypeDefinition
+    ∷ ObjectTypeDefinition ∷ InterfaceTypeDefinition ∷ UnionTypeDefinition ∷ EnumTypeDefinition ∷ InputObjectTypeDefinition
+    ∷ SchemaExtension ∷ ScalarTypeExtension ∷ ObjectTypeExtension ∷ InterfaceTypeExtension ∷ UnionTypeExtension ∷ EnumTypeExtension
+    ∷ InputObjectTypeExtension ∷ [])
 
 name_is_found : (name : DefinitionName) → name_of_kind (node_kind name) ≡ Some name
 unfolding name_of_kind
@@ -111,10 +122,13 @@ same_named UnionTypeExtension = same_extension (codes "UnionTypeExtension") unio
 same_named EnumTypeExtension = same_extension (codes "EnumTypeExtension") enum_type_members HasEnumType same_enum_type
 same_named InputObjectTypeExtension = same_extension (codes "InputObjectTypeExtension") input_object_type_members HasInputObjectType same_input_object_type
 
-same_at : (a b : DefinitionName) → a ≡ b → (tree : (kind_named a).Tree) (other : (kind_named b).Tree) (json : Data) → IsNamed a tree json → IsNamed b other json →
+same_at : (a b : DefinitionName) → a ≡ b → (tree : (kind_named a).Tree) (other : (kind_named b).Tree) (json : Data) → IsNamed a tree json →
+    IsNamed b other json →
     ◌≡◌ {A = DefinitionTree} (record { name = a; tree = tree }) (record { name = b; tree = other })
 same_at a b e tree other json p =
-    subst (λ c. (there : (kind_named c).Tree) → IsNamed c there json → ◌≡◌ {A = DefinitionTree} (record { name = a; tree = tree }) (record { name = c; tree = there })) e
+    subst (λ c.
+    (there : (kind_named c).Tree) → IsNamed c there json →
+    ◌≡◌ {A = DefinitionTree} (record { name = a; tree = tree }) (record { name = c; tree = there })) e
     (λ there q. let same = same_named a tree there json p q in λ i. record { name = a; tree = same i }) other
 
 pub same_any_definition : IsOfOneTree IsAnyDefinition

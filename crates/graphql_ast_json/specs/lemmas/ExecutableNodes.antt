@@ -2,21 +2,26 @@
 -- and is a node.
 use Rattle.std.proofs.Common.{◌≡◌, ℕ, List, [], ◌∷◌, Option, Some, None, MatchOption, option_and_then, codes, nat_eq, refl, ap, false}
 use Rattle.std.specs.Cmp.Lexicographic.{pointwise}
-use Rattle.graphql_text.specs.Literals.{NameText}
-use Rattle.graphql_values.specs.OperationTypes.{operation_type_name}
-use Rattle.graphql_values.specs.Values.{ValueTree, variable}
-use Rattle.graphql_executable.specs.Fields.{FieldTree, selection_of_field}
-use Rattle.graphql_executable.specs.FragmentSpreads.{FragmentSpreadTree}
-use Rattle.graphql_executable.specs.InlineFragments.{InlineFragmentTree, selection_of_inline_fragment}
-use Rattle.graphql_executable.specs.Selections.{SelectionTree, field_selection, spread_selection, inline_selection, SelectionTrees, no_selections, more_selections}
+use Rattle.graphql_text.specs.lexical.Literals.{NameText}
+use Rattle.graphql_values.specs.kinds.OperationTypes.{operation_type_name}
+use Rattle.graphql_values.specs.kinds.Values.{ValueTree, variable}
+use Rattle.graphql_executable.specs.kinds.Fields.{FieldTree, selection_of_field}
+use Rattle.graphql_executable.specs.kinds.FragmentSpreads.{FragmentSpreadTree}
+use Rattle.graphql_executable.specs.kinds.InlineFragments.{InlineFragmentTree, selection_of_inline_fragment}
+use Rattle.graphql_executable.specs.kinds.Selections.{SelectionTree, field_selection, spread_selection, inline_selection, SelectionTrees}
+use Rattle.graphql_executable.specs.kinds.Selections.{no_selections, more_selections}
 use Rattle.serde_json.specs.Data.{Data, Items, no_items, item}
 use Rattle.serde_json.specs.Find.{as_array}
-use Rattle.graphql_ast_json.specs.DirectiveJson.{IsArgument}
-use Rattle.graphql_ast_json.specs.ExecutableJson.{IsVariable, HasVariableDefinition, IsVariableDefinition, variable_definition_members, IsSetOf, HasSetOf, field_members, HasFieldHead, IsFragmentSpread, inline_fragment_members, HasInlineFragmentHead, IsSelection, AreSelections, IsSelectionSet, IsField, IsInlineFragment, HasOperationDefinition, HasFragmentDefinition}
-use Rattle.graphql_ast_json.specs.Nodes.{Anywhere, IsLocated, IsName, member_of}
-use Rattle.graphql_ast_json.specs.OneTree.{IsNeverNull, IsOfOneTree}
-use Rattle.graphql_ast_json.specs.TypeJson.{IsNamedType, IsTypeReference}
-use Rattle.graphql_ast_json.specs.ValueJson.{IsValue}
+use Rattle.graphql_ast_json.specs.kinds.DirectiveJson.{IsArgument}
+use Rattle.graphql_ast_json.specs.kinds.ExecutableJson.{IsVariable, HasVariableDefinition, IsVariableDefinition}
+use Rattle.graphql_ast_json.specs.kinds.ExecutableJson.{variable_definition_members, IsSetOf, HasSetOf, field_members, HasFieldHead}
+use Rattle.graphql_ast_json.specs.kinds.ExecutableJson.{IsFragmentSpread, inline_fragment_members, HasInlineFragmentHead, IsSelection}
+use Rattle.graphql_ast_json.specs.kinds.ExecutableJson.{AreSelections, IsSelectionSet, IsField, IsInlineFragment, HasOperationDefinition}
+use Rattle.graphql_ast_json.specs.kinds.ExecutableJson.{HasFragmentDefinition}
+use Rattle.graphql_ast_json.specs.nodes.Nodes.{Anywhere, IsLocated, IsName, member_of}
+use Rattle.graphql_ast_json.specs.nodes.OneTree.{IsNeverNull, IsOfOneTree}
+use Rattle.graphql_ast_json.specs.kinds.TypeJson.{IsNamedType, IsTypeReference}
+use Rattle.graphql_ast_json.specs.kinds.ValueJson.{IsValue}
 use Rattle.graphql_ast_json.specs.lemmas.DirectiveNodes.{same_argument}
 use Rattle.graphql_ast_json.specs.lemmas.Leaves.{IsNodeOf, both_some, different, no_null, same_name, same_optional, same_string}
 use Rattle.graphql_ast_json.specs.lemmas.TypeNodes.{same_named_type, same_type}
@@ -87,14 +92,17 @@ selection_located selection json is = (selection_node selection json is).is.2
 pub selection_never_null : IsNeverNull IsSelection
 selection_never_null selection is = no_null (kind_of_selection selection) (selection_node selection _ is).is.0
 
-other_selection : (a b : SelectionTree) (json : Data) → IsSelection a json → IsSelection b json → pointwise nat_eq (kind_of_selection a) (kind_of_selection b) ≡ false → a ≡ b
+other_selection : (a b : SelectionTree) (json : Data) → IsSelection a json → IsSelection b json →
+    pointwise nat_eq (kind_of_selection a) (kind_of_selection b) ≡ false → a ≡ b
 other_selection a b json p q apart =
     absurd (different (kind_of_selection a) (kind_of_selection b) json (selection_node a json p).is.0 (selection_node b json q).is.0 apart)
 
-both_sets : {R : Type 0} (json : Data) (Are Those : Items → Type 0) → IsSetOf Are json → IsSetOf Those json → ((items : Items) → Are items → Those items → R) → R
+both_sets : {R : Type 0} (json : Data) (Are Those : Items → Type 0) → IsSetOf Are json → IsSetOf Those json →
+    ((items : Items) → Are items → Those items → R) → R
 both_sets json Are Those p q then = both_some (option_and_then as_array (member_of (codes "selections") json)) Are Those p.1 q.1 then
 
-both_optional_sets : {R : Type 0} (found : Option Data) (Are Those : Items → Type 0) → MatchOption found (Are no_items) (IsSetOf Are) → MatchOption found (Those no_items) (IsSetOf Those) →
+both_optional_sets : {R : Type 0} (found : Option Data) (Are Those : Items → Type 0) → MatchOption found (Are no_items) (IsSetOf Are) →
+    MatchOption found (Those no_items) (IsSetOf Those) →
     ((items : Items) → Are items → Those items → R) → R
 both_optional_sets None Are Those p q then = then no_items p q
 both_optional_sets (Some json) Are Those p q then = both_sets json Are Those p q then
@@ -172,7 +180,8 @@ same_operation_definition a b json p q =
     let operation_type = same_operation_type a.operation_type b.operation_type word in
     let name = same_optional IsName same_name a.name b.name (member_of (codes "name") json) p.1 q.1 in
     let variables = has_list (codes "variableDefinitions") IsVariableDefinition
-    (same_definition (codes "VariableDefinition") variable_definition_members HasVariableDefinition same_variable_definition) a.variables b.variables json p.2 q.2 in
+    (same_definition (codes "VariableDefinition") variable_definition_members HasVariableDefinition same_variable_definition) a.variables
+    b.variables json p.2 q.2 in
     let directives = has_directives a.directives b.directives json p.3 q.3 in
     let selections = same_set a.selections b.selections json p.4 q.4 in
     λ i. record { operation_type = operation_type i; name = name i; variables = variables i; directives = directives i; selections = selections i }

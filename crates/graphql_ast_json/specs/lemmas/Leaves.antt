@@ -3,10 +3,10 @@ use Rattle.std.proofs.Common.{◌≡◌, ℕ, Bool, false, List, [], ◌∷◌, 
 use Rattle.std.proofs.lemmas.Slice.Eq.{bytes_eq-Decides}
 use Rattle.std.proofs.lemmas.Str.{encodes_same}
 use Rattle.std.specs.Cmp.Lexicographic.{pointwise}
-use Rattle.graphql_text.proofs.Checked.{same_text}
+use Rattle.graphql_text.proofs.lexical.CheckedTexts.{same_text}
 use Rattle.serde_json.specs.Data.{Data, null, boolean, number, string, array, object, Items, no_items, item}
-use Rattle.graphql_ast_json.specs.Nodes.{Anywhere, Each, IsName, IsNode, IsOptional, IsStringValue, member_of, present}
-use Rattle.graphql_ast_json.specs.OneTree.{IsNeverNull, IsOfOneTree}
+use Rattle.graphql_ast_json.specs.nodes.Nodes.{Anywhere, Each, IsName, IsNode, IsOptional, IsStringValue, member_of, present}
+use Rattle.graphql_ast_json.specs.nodes.OneTree.{IsNeverNull, IsOfOneTree}
 
 -- JSON
 
@@ -47,7 +47,8 @@ same_each Is same [] (y ∷ ys) no_items p q = absurd q
 same_each Is same (x ∷ xs) ys no_items p q = absurd p
 same_each Is same (x ∷ xs) [] (item json rest) p q = absurd q
 
-pub same_optional : {A : Type 0} (Is : A → Data → Type 0) → IsOfOneTree Is → (x y : Option A) (json : Option Data) → IsOptional Is x json → IsOptional Is y json → x ≡ y
+pub same_optional : {A : Type 0} (Is : A → Data → Type 0) → IsOfOneTree Is → (x y : Option A) (json : Option Data) → IsOptional Is x json →
+    IsOptional Is y json → x ≡ y
 same_optional Is same None None None p q = refl
 same_optional Is same (Some a) (Some b) (Some json) p q = ap Some (same a b json p q)
 same_optional Is same None y (Some json) p q = absurd p

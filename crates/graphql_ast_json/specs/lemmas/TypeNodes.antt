@@ -1,12 +1,12 @@
 -- Lemmas, no definitions of the product: the JSON of a type is a node, of a kind that tells the kind of the type, and of one type.
 use Rattle.std.proofs.Common.{◌≡◌, ℕ, List, [], ◌∷◌, codes, nat_eq, refl, ap, false}
 use Rattle.std.specs.Cmp.Lexicographic.{pointwise}
-use Rattle.graphql_text.specs.Literals.{NameText}
-use Rattle.graphql_values.specs.TypeReferences.{TypeTree, named_type, non_null_named_type, list_type, non_null_list_type}
+use Rattle.graphql_text.specs.lexical.Literals.{NameText}
+use Rattle.graphql_values.specs.kinds.TypeReferences.{TypeTree, named_type, non_null_named_type, list_type, non_null_list_type}
 use Rattle.serde_json.specs.Data.{Data}
-use Rattle.graphql_ast_json.specs.Nodes.{Anywhere, IsLocated, IsName, member_of}
-use Rattle.graphql_ast_json.specs.OneTree.{IsNeverNull}
-use Rattle.graphql_ast_json.specs.TypeJson.{IsNamedType, IsTypeAround, IsTypeReference}
+use Rattle.graphql_ast_json.specs.nodes.Nodes.{Anywhere, IsLocated, IsName, member_of}
+use Rattle.graphql_ast_json.specs.nodes.OneTree.{IsNeverNull}
+use Rattle.graphql_ast_json.specs.kinds.TypeJson.{IsNamedType, IsTypeAround, IsTypeReference}
 use Rattle.graphql_ast_json.specs.lemmas.Leaves.{IsNodeOf, both_some, different, no_null, same_name}
 
 abbrev pub type_kind : TypeTree → List ℕ
@@ -47,7 +47,8 @@ same_type (non_null_named_type n) (non_null_named_type m) json p q =
 same_type (list_type a) (list_type b) json p q =
     ap list_type (both_some (member_of (codes "type") json) (IsTypeReference a) (IsTypeReference b) p.1 q.1 (same_type a b))
 same_type (non_null_list_type a) (non_null_list_type b) json p q =
-    ap non_null_list_type (both_some (member_of (codes "type") json) (IsTypeAround (codes "ListType") (IsTypeReference a)) (IsTypeAround (codes "ListType") (IsTypeReference b)) p.1 q.1
+    ap non_null_list_type (both_some (member_of (codes "type") json) (IsTypeAround (codes "ListType") (IsTypeReference a))
+    (IsTypeAround (codes "ListType") (IsTypeReference b)) p.1 q.1
     (λ inner p' q'. both_some (member_of (codes "type") inner) (IsTypeReference a) (IsTypeReference b) p'.1 q'.1 (same_type a b)))
 same_type (non_null_named_type n) (non_null_list_type b) json p q =
     absurd (both_some (member_of (codes "type") json) (IsNamedType n) (IsTypeAround (codes "ListType") (IsTypeReference b)) p.1 q.1 (name_or_list n b))

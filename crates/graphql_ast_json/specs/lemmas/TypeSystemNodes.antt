@@ -2,16 +2,19 @@
 use Rattle.std.proofs.Common.{◌≡◌, ℕ, List, Some, codes, refl, sym, ap, ◌∙◌, nat_eq, Option, true, false}
 use Rattle.std.specs.Cmp.Lexicographic.{pointwise}
 use Rattle.serde_json.specs.Data.{Data}
-use Rattle.graphql_text.specs.Descriptions.{Described}
-use Rattle.graphql_values.specs.OperationTypes.{OperationTypeTree, operation_type_name}
-use Rattle.graphql_values.specs.OperationTypes as operation
-use Rattle.graphql_type_system.specs.Schemas.{RootOperationTree}
-use Rattle.graphql_ast_json.specs.DefinitionJson.{IsInputValueDefinition}
-use Rattle.graphql_ast_json.specs.DirectiveJson.{HasDirectives, IsDirective}
-use Rattle.graphql_ast_json.specs.Nodes.{Anywhere, Each, HasName, IsLocated, IsName, IsStringValue, OptionalListMember, items_or_none, member_of}
-use Rattle.graphql_ast_json.specs.OneTree.{IsNeverNull, IsOfOneTree}
-use Rattle.graphql_ast_json.specs.TypeJson.{IsNamedType, IsTypeReference}
-use Rattle.graphql_ast_json.specs.TypeSystemJson.{IsDefinition, IsExtension, enum_value_members, field_members, HasField, IsFieldDefinition, HasEnumValue, IsEnumValueDefinition, IsRootOperation, HasSchema, HasScalarType, HasImplementingType, HasUnionType, HasBracedType, HasEnumType, HasInputObjectType}
+use Rattle.graphql_text.specs.parts.Descriptions.{Described}
+use Rattle.graphql_values.specs.kinds.OperationTypes.{OperationTypeTree, operation_type_name}
+use Rattle.graphql_values.specs.kinds.OperationTypes as operation
+use Rattle.graphql_type_system.specs.kinds.Schemas.{RootOperationTree}
+use Rattle.graphql_ast_json.specs.kinds.DefinitionJson.{IsInputValueDefinition}
+use Rattle.graphql_ast_json.specs.kinds.DirectiveJson.{HasDirectives, IsDirective}
+use Rattle.graphql_ast_json.specs.nodes.Nodes.{Anywhere, Each, HasName, IsLocated, IsName, IsStringValue, OptionalListMember, items_or_none, member_of}
+use Rattle.graphql_ast_json.specs.nodes.OneTree.{IsNeverNull, IsOfOneTree}
+use Rattle.graphql_ast_json.specs.kinds.TypeJson.{IsNamedType, IsTypeReference}
+use Rattle.graphql_ast_json.specs.kinds.TypeSystemJson.{IsDefinition, IsExtension, enum_value_members, field_members, HasField}
+use Rattle.graphql_ast_json.specs.kinds.TypeSystemJson.{IsFieldDefinition, HasEnumValue, IsEnumValueDefinition, IsRootOperation, HasSchema}
+use Rattle.graphql_ast_json.specs.kinds.TypeSystemJson.{HasScalarType, HasImplementingType, HasUnionType, HasBracedType, HasEnumType}
+use Rattle.graphql_ast_json.specs.kinds.TypeSystemJson.{HasInputObjectType}
 use Rattle.graphql_ast_json.specs.lemmas.DefinitionNodes.{same_input_value_definition}
 use Rattle.graphql_ast_json.specs.lemmas.DirectiveNodes.{same_directive}
 use Rattle.graphql_ast_json.specs.lemmas.Leaves.{both_some, no_null, same_each, same_name, same_optional, same_string, same_string_value}
@@ -19,7 +22,8 @@ use Rattle.graphql_ast_json.specs.lemmas.TypeNodes.{same_named_type, same_type}
 
 -- ANY DEFINITION AND EXTENSION
 
-pub same_definition : {Body : Type 0} (kind : List ℕ) (names : List (List ℕ)) (Has : Body → Data → Type 0) → IsOfOneTree Has → IsOfOneTree (IsDefinition kind names Has)
+pub same_definition : {Body : Type 0} (kind : List ℕ) (names : List (List ℕ)) (Has : Body → Data → Type 0) → IsOfOneTree Has →
+    IsOfOneTree (IsDefinition kind names Has)
 same_definition kind names Has same a b json p q =
     let description = same_optional IsStringValue same_string_value a.description b.description (member_of (codes "description") json) p.1 q.1 in
     let body = same a.body b.body json p.2 q.2 in
@@ -28,16 +32,20 @@ same_definition kind names Has same a b json p q =
 pub definition_never_null : {Body : Type 0} (kind : List ℕ) (names : List (List ℕ)) (Has : Body → Data → Type 0) → IsNeverNull (IsDefinition kind names Has)
 definition_never_null kind names Has definition is = no_null kind is.0.0
 
-pub definition_located : {Body : Type 0} (kind : List ℕ) (names : List (List ℕ)) (Has : Body → Data → Type 0) (definition : Described Body) (json : Data) → IsDefinition kind names Has definition json → IsLocated Anywhere json
+pub definition_located :
+    {Body : Type 0} (kind : List ℕ) (names : List (List ℕ)) (Has : Body → Data → Type 0) (definition : Described Body) (json : Data) →
+    IsDefinition kind names Has definition json → IsLocated Anywhere json
 definition_located kind names Has definition json is = is.0.2
 
-pub same_extension : {Body : Type 0} (kind : List ℕ) (names : List (List ℕ)) (Has : Body → Data → Type 0) → IsOfOneTree Has → IsOfOneTree (IsExtension kind names Has)
+pub same_extension : {Body : Type 0} (kind : List ℕ) (names : List (List ℕ)) (Has : Body → Data → Type 0) → IsOfOneTree Has →
+    IsOfOneTree (IsExtension kind names Has)
 same_extension kind names Has same a b json p q = same a b json p.1 q.1
 
 pub extension_never_null : {Body : Type 0} (kind : List ℕ) (names : List (List ℕ)) (Has : Body → Data → Type 0) → IsNeverNull (IsExtension kind names Has)
 extension_never_null kind names Has body is = no_null kind is.0.0
 
-pub extension_located : {Body : Type 0} (kind : List ℕ) (names : List (List ℕ)) (Has : Body → Data → Type 0) (body : Body) (json : Data) → IsExtension kind names Has body json → IsLocated Anywhere json
+pub extension_located : {Body : Type 0} (kind : List ℕ) (names : List (List ℕ)) (Has : Body → Data → Type 0) (body : Body) (json : Data) →
+    IsExtension kind names Has body json → IsLocated Anywhere json
 extension_located kind names Has body json is = is.0.2
 
 -- MEMBERS THAT MANY HAVE

@@ -1,13 +1,15 @@
 -- Lemmas, no definitions of the product: the JSON of a value is a node, of a kind that tells the kind of the value, and of one value.
 use Rattle.std.proofs.Common.{◌≡◌, ℕ, List, [], ◌∷◌, option_and_then, codes, nat_eq, refl, ap, false}
 use Rattle.std.specs.Cmp.Lexicographic.{pointwise}
-use Rattle.graphql_text.proofs.Checked.{same_text}
-use Rattle.graphql_values.specs.Values.{ValueTree, null_value, enum_value, variable, string_value, float_value, int_value, boolean_value, list_value, object_value, ValueTrees, no_values, more_values, ObjectFieldTrees, no_fields, more_fields}
+use Rattle.graphql_text.proofs.lexical.CheckedTexts.{same_text}
+use Rattle.graphql_values.specs.kinds.Values.{ValueTree, null_value, enum_value, variable, string_value, float_value, int_value}
+use Rattle.graphql_values.specs.kinds.Values.{boolean_value, list_value, object_value, ValueTrees, no_values, more_values, ObjectFieldTrees}
+use Rattle.graphql_values.specs.kinds.Values.{no_fields, more_fields}
 use Rattle.serde_json.specs.Data.{Data, Items, no_items, item}
 use Rattle.serde_json.specs.Find.{as_array}
-use Rattle.graphql_ast_json.specs.Nodes.{Anywhere, IsLocated, IsName, member_of}
-use Rattle.graphql_ast_json.specs.OneTree.{IsNeverNull}
-use Rattle.graphql_ast_json.specs.ValueJson.{IsValue, AreValues, AreObjectFields}
+use Rattle.graphql_ast_json.specs.nodes.Nodes.{Anywhere, IsLocated, IsName, member_of}
+use Rattle.graphql_ast_json.specs.nodes.OneTree.{IsNeverNull}
+use Rattle.graphql_ast_json.specs.kinds.ValueJson.{IsValue, AreValues, AreObjectFields}
 use Rattle.graphql_ast_json.specs.lemmas.Leaves.{IsNodeOf, both_some, different, no_null, same_boolean, same_name, same_string, same_string_value}
 
 abbrev pub value_kind : ValueTree → List ℕ
@@ -53,7 +55,8 @@ mutual
   same_value (list_value xs) (list_value ys) json p q =
       ap list_value (both_some (option_and_then as_array (member_of (codes "values") json)) (AreValues xs) (AreValues ys) p.1 q.1 (same_values xs ys))
   same_value (object_value xs) (object_value ys) json p q =
-      ap object_value (both_some (option_and_then as_array (member_of (codes "fields") json)) (AreObjectFields xs) (AreObjectFields ys) p.1 q.1 (same_object_fields xs ys))
+      ap object_value (both_some (option_and_then as_array (member_of (codes "fields") json)) (AreObjectFields xs)
+      (AreObjectFields ys) p.1 q.1 (same_object_fields xs ys))
   same_value null_value b json p q = other_value null_value b json p q refl
   same_value (enum_value n) b json p q = other_value (enum_value n) b json p q refl
   same_value (variable n) b json p q = other_value (variable n) b json p q refl

@@ -3,8 +3,8 @@ ghost use Rattle.std.specs.Prelude.{◌≡◌, ◌<◌, ◌+◌, ℕ, Bool, List
 ghost use Rattle.serde_json.specs.Data.{boolean, depth, items_depth, string};
 ghost use Rattle.serde_json.specs.Find.{as_array};
 ghost use Rattle.serde_json.specs.View.{view, items_view};
-ghost use Rattle.graphql_ast_json.specs.Errors.{IsMemory};
-ghost use Rattle.graphql_ast_json.specs.Nodes.{member_of, items_or_none};
+ghost use Rattle.graphql_ast_json.specs.code.Errors.{IsMemory};
+ghost use Rattle.graphql_ast_json.specs.nodes.Nodes.{member_of, items_or_none};
 
 use crate::error::{AstJsonError, AstJsonProblem, JsonType};
 use serde_json::Value as Json;
@@ -114,7 +114,8 @@ pub(crate) fn array_member<'j>(
     name: &str,
 ) -> Result<&'j [Json], AstJsonError>
     ensures ok { IfOk result (λ items.
-        option_and_then as_array (member_of name.now (view json.now)) ≡ Some (items_view items.now)) }
+        option_and_then as_array (member_of name.now (view json.now))
+        ≡ Some (items_view items.now)) }
     ensures inside { IfOk result (λ items.
         items_depth (items_view items.now) + 1 < depth (view json.now)) }
     ensures err { IfErr result (λ error. ¬ IsMemory error

@@ -3,10 +3,10 @@ ghost use Rattle.std.specs.Prelude.{◌≡◌, IfOk, IfErr, OnOk, Some, None, no
 ghost use Rattle.serde_json.specs.Find.{get};
 ghost use Rattle.serde_json.specs.View.{view, members_view};
 ghost use Rattle.graphql_base.specs.Node.{node_at};
-ghost use Rattle.graphql_text.specs.Forms.{is_one_of};
-ghost use Rattle.graphql_ast_json.specs.Errors.{IsMemory};
-ghost use Rattle.graphql_ast_json.specs.Nodes.{names_among, offset_of, HasOnly, IsLocation, IsLocated, Anywhere};
-ghost use Rattle.graphql_ast_json.specs.Reading.{texts_of, span_offsets, IsLocatedAt, IsNodeAt, IsNodeWith};
+ghost use Rattle.graphql_text.specs.grammar.Forms.{is_one_of};
+ghost use Rattle.graphql_ast_json.specs.code.Errors.{IsMemory};
+ghost use Rattle.graphql_ast_json.specs.nodes.Nodes.{names_among, offset_of, HasOnly, IsLocation, IsLocated, Anywhere};
+ghost use Rattle.graphql_ast_json.specs.code.NodeReading.{texts_of, span_offsets, IsLocatedAt, IsNodeAt, IsNodeWith};
 
 use crate::error::{AstJsonError, AstJsonProblem, JsonType};
 use crate::read::members::{member, text_member, wrong_type};
@@ -23,7 +23,8 @@ fn is_one_of(names: &[&str], name: &str) -> bool
 
 /// The first name of a member that is none of these.
 fn unknown_name<'j>(members: &'j Map<String, Json>, names: &[&str]) -> Option<&'j str>
-    ensures { is_some result ≡ not (names_among (texts_of names.now) (members_view members.now.entries)) }
+    ensures { is_some result
+        ≡ not (names_among (texts_of names.now) (members_view members.now.entries)) }
 {
     for (name, _) in members.iter() {
         if !is_one_of(names, name.as_str()) {

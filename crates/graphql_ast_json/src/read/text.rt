@@ -2,7 +2,7 @@
 ghost use Rattle.std.specs.Prelude.{◌≡◌, IfOk, IfErr, Some, None};
 ghost use Rattle.serde_json.specs.Read.{read};
 ghost use Rattle.serde_json.specs.View.{view};
-ghost use Rattle.graphql_ast_json.specs.Errors.{IsMemory};
+ghost use Rattle.graphql_ast_json.specs.code.Errors.{IsMemory};
 
 use crate::error::AstJsonError;
 use serde_json::Value as Json;

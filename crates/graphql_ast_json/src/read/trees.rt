@@ -2,8 +2,8 @@
 ghost use Rattle.std.specs.Prelude.{◌≡◌, List, Option, IfOk, IfErr, IsSomeAnd, map, option_map};
 ghost use Rattle.serde_json.specs.Find.{as_array};
 ghost use Rattle.serde_json.specs.View.{view, items_view};
-ghost use Rattle.graphql_ast_json.specs.Errors.{IsMemory};
-ghost use Rattle.graphql_ast_json.specs.Nodes.{member_of, Each, IsOptional, ListMember, Member, OptionalListMember};
+ghost use Rattle.graphql_ast_json.specs.code.Errors.{IsMemory};
+ghost use Rattle.graphql_ast_json.specs.nodes.Nodes.{member_of, Each, IsOptional, ListMember, Member, OptionalListMember};
 
 use crate::error::AstJsonError;
 use crate::form::Form;
@@ -21,7 +21,8 @@ pub(crate) fn member_tree<F: Form>(
     name: &str,
     source: FileId,
 ) -> Result<F::Value, AstJsonError>
-    ensures ok { IfOk result (λ value. Member name.now (view json.now) (F.is_json_of (F.tree value))) }
+    ensures ok { IfOk result
+        (λ value. Member name.now (view json.now) (F.is_json_of (F.tree value))) }
     ensures err { IfErr result (λ error. ¬ IsMemory error
         → (tree : F.Tree) → ¬ Member name.now (view json.now) (F.is_json_of tree)) }
 {
@@ -103,7 +104,8 @@ pub(crate) fn optional_member_trees<F: Form>(
     ensures ok { IfOk result (λ values.
         OptionalListMember name.now (view json.now) (Each F.is_json_of (map F.tree values.items))) }
     ensures err { IfErr result (λ error. ¬ IsMemory error
-        → (trees : List F.Tree) → ¬ OptionalListMember name.now (view json.now) (Each F.is_json_of trees)) }
+        → (trees : List F.Tree)
+        → ¬ OptionalListMember name.now (view json.now) (Each F.is_json_of trees)) }
 {
     let items = optional_array_member(alloc, json, name)?;
     match trees_of::<F>(alloc, items, source) {
@@ -121,7 +123,8 @@ pub(crate) fn array_trees<F: Form>(
     ensures ok { IfOk result (λ values.
         IsSomeAnd (as_array (view json.now)) (Each F.is_json_of (map F.tree values.items))) }
     ensures err { IfErr result (λ error. ¬ IsMemory error
-        → (trees : List F.Tree) → ¬ IsSomeAnd (as_array (view json.now)) (Each F.is_json_of trees)) }
+        → (trees : List F.Tree)
+        → ¬ IsSomeAnd (as_array (view json.now)) (Each F.is_json_of trees)) }
 {
     let items = array_items(alloc, json)?;
     trees_of::<F>(alloc, items, source)

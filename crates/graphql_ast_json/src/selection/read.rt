@@ -2,12 +2,12 @@
 ghost use Rattle.std.specs.Prelude.{IfOk, IfErr};
 ghost use Rattle.serde_json.specs.View.{view, items_view};
 ghost use Rattle.graphql_base.specs.Node.{node_value};
-ghost use Rattle.graphql_executable.specs.ExecutableTrees.{field_tree, inline_fragment_tree, selection_tree, selection_trees};
-ghost use Rattle.graphql_executable.specs.Fields.{FieldTree};
-ghost use Rattle.graphql_executable.specs.InlineFragments.{InlineFragmentTree};
-ghost use Rattle.graphql_executable.specs.Selections.{SelectionTree, SelectionTrees};
-ghost use Rattle.graphql_ast_json.specs.Errors.{IsMemory};
-ghost use Rattle.graphql_ast_json.specs.ExecutableJson.{AreSelections, HasOptionalSetOf, HasSetOf, IsField, IsInlineFragment, IsSelection, IsSelectionSet};
+ghost use Rattle.graphql_executable.specs.trees.ExecutableTrees.{field_tree, inline_fragment_tree, selection_tree, selection_trees};
+ghost use Rattle.graphql_executable.specs.kinds.Fields.{FieldTree};
+ghost use Rattle.graphql_executable.specs.kinds.InlineFragments.{InlineFragmentTree};
+ghost use Rattle.graphql_executable.specs.kinds.Selections.{SelectionTree, SelectionTrees};
+ghost use Rattle.graphql_ast_json.specs.code.Errors.{IsMemory};
+ghost use Rattle.graphql_ast_json.specs.kinds.ExecutableJson.{AreSelections, HasOptionalSetOf, HasSetOf, IsField, IsInlineFragment, IsSelection, IsSelectionSet};
 
 use crate::ast_json::AstJson;
 use crate::error::AstJsonError;
@@ -100,7 +100,8 @@ fn read_inline_fragment_node(
     json: &Json,
     source: FileId,
 ) -> Result<Node<InlineFragment>, AstJsonError>
-    ensures ok { IfOk result (λ node. IsInlineFragment (inline_fragment_tree (node_value node)) (view json.now)) }
+    ensures ok { IfOk result
+        (λ node. IsInlineFragment (inline_fragment_tree (node_value node)) (view json.now)) }
     ensures err { IfErr result (λ error. ¬ IsMemory error
         → (fragment : InlineFragmentTree) → ¬ IsInlineFragment fragment (view json.now)) }
 {
@@ -116,7 +117,8 @@ pub fn read_inline_fragment(
     json: &Json,
     source: FileId,
 ) -> Result<InlineFragment, AstJsonError>
-    ensures ok { IfOk result (λ fragment. IsInlineFragment (inline_fragment_tree fragment) (view json.now)) }
+    ensures ok { IfOk result
+        (λ fragment. IsInlineFragment (inline_fragment_tree fragment) (view json.now)) }
     ensures err { IfErr result (λ error. ¬ IsMemory error
         → (fragment : InlineFragmentTree) → ¬ IsInlineFragment fragment (view json.now)) }
 {
@@ -140,7 +142,8 @@ pub fn read_inline_fragment(
 /// The selections of the set that the node has, or none where it has no set.
 #[cycle(selection)]
 fn optional_set(alloc: Global, json: &Json, source: FileId) -> Result<Vec<Selection>, AstJsonError>
-    ensures ok { IfOk result (λ set. HasOptionalSetOf (AreSelections (selection_trees set.items)) (view json.now)) }
+    ensures ok { IfOk result
+        (λ set. HasOptionalSetOf (AreSelections (selection_trees set.items)) (view json.now)) }
     ensures err { IfErr result (λ error. ¬ IsMemory error
         → (set : SelectionTrees) → ¬ HasOptionalSetOf (AreSelections set) (view json.now)) }
 {
@@ -156,7 +159,8 @@ fn optional_set(alloc: Global, json: &Json, source: FileId) -> Result<Vec<Select
 /// The selections of the set that the node must have.
 #[cycle(selection)]
 fn required_set(alloc: Global, json: &Json, source: FileId) -> Result<Vec<Selection>, AstJsonError>
-    ensures ok { IfOk result (λ set. HasSetOf (AreSelections (selection_trees set.items)) (view json.now)) }
+    ensures ok { IfOk result
+        (λ set. HasSetOf (AreSelections (selection_trees set.items)) (view json.now)) }
     ensures err { IfErr result (λ error. ¬ IsMemory error
         → (set : SelectionTrees) → ¬ HasSetOf (AreSelections set) (view json.now)) }
 {
@@ -194,7 +198,8 @@ pub fn read_selection_set(
 
 #[cycle(selection)]
 fn selections(alloc: Global, items: &[Json], source: FileId) -> Result<Vec<Selection>, AstJsonError>
-    ensures ok { IfOk result (λ selections. AreSelections (selection_trees selections.items) (items_view items.now)) }
+    ensures ok { IfOk result
+        (λ selections. AreSelections (selection_trees selections.items) (items_view items.now)) }
     ensures err { IfErr result (λ error. ¬ IsMemory error
         → (trees : SelectionTrees) → ¬ AreSelections trees (items_view items.now)) }
 {

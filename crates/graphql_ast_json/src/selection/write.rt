@@ -3,8 +3,8 @@ ghost use Rattle.std.specs.Prelude.{IfOk, IsSomeAnd, MatchOption, option_map};
 ghost use Rattle.serde_json.specs.Data.{no_items};
 ghost use Rattle.serde_json.specs.Find.{as_array};
 ghost use Rattle.serde_json.specs.View.{view};
-ghost use Rattle.graphql_executable.specs.ExecutableTrees.{field_tree, inline_fragment_tree, selection_tree, selection_trees};
-ghost use Rattle.graphql_ast_json.specs.ExecutableJson.{AreSelections, IsField, IsInlineFragment, IsSelection, IsSelectionSet};
+ghost use Rattle.graphql_executable.specs.trees.ExecutableTrees.{field_tree, inline_fragment_tree, selection_tree, selection_trees};
+ghost use Rattle.graphql_ast_json.specs.kinds.ExecutableJson.{AreSelections, IsField, IsInlineFragment, IsSelection, IsSelectionSet};
 
 use crate::ast_json::AstNode;
 use crate::form::NamedTypeForm;
@@ -60,7 +60,8 @@ pub fn write_inline_fragment(
     location: Option<SourceSpan>,
     fragment: &InlineFragment,
 ) -> Result<Json, AllocError>
-    ensures { IfOk result (λ json. IsInlineFragment (inline_fragment_tree fragment.now) (view json)) }
+    ensures { IfOk result
+        (λ json. IsInlineFragment (inline_fragment_tree fragment.now) (view json)) }
 {
     let mut node = NodeWriter::new(alloc, "InlineFragment", location)?;
     node.put_optional::<NamedTypeForm>("typeCondition", &fragment.type_condition)?;
@@ -74,7 +75,8 @@ pub fn write_inline_fragment(
 #[cycle(selection)]
 fn write_optional_set(alloc: Global, selections: &[Selection]) -> Result<Option<Json>, AllocError>
     ensures { IfOk result (λ set. MatchOption (option_map view set)
-        (AreSelections (selection_trees selections.now) no_items) (IsSelectionSet (selection_trees selections.now))) }
+        (AreSelections (selection_trees selections.now) no_items)
+        (IsSelectionSet (selection_trees selections.now))) }
 {
     if selections.is_empty() {
         return Ok(None);
@@ -93,7 +95,8 @@ pub fn write_selection_set(alloc: Global, selections: &[Selection]) -> Result<Js
 
 #[cycle(selection)]
 fn write_selections(alloc: Global, selections: &[Selection]) -> Result<Json, AllocError>
-    ensures { IfOk result (λ json. IsSomeAnd (as_array (view json)) (AreSelections (selection_trees selections.now))) }
+    ensures { IfOk result (λ json.
+        IsSomeAnd (as_array (view json)) (AreSelections (selection_trees selections.now))) }
 {
     let mut list = Vec::new(alloc);
     for selection in selections {

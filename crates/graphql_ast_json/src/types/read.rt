@@ -1,13 +1,13 @@
 //! Type references from AST JSON.
 ghost use Rattle.std.specs.Prelude.{◌≡◌, IfOk, IfErr, codes};
 ghost use Rattle.serde_json.specs.View.{view};
-ghost use Rattle.graphql_text.specs.Leaves.{name_tree};
-ghost use Rattle.graphql_text.specs.Literals.{NameText};
-ghost use Rattle.graphql_values.specs.TypeReferences.{TypeTree};
-ghost use Rattle.graphql_values.specs.TypeTrees.{type_tree};
-ghost use Rattle.graphql_ast_json.specs.Errors.{IsMemory};
-ghost use Rattle.graphql_ast_json.specs.ReadingTypes.{IsWithoutNull};
-ghost use Rattle.graphql_ast_json.specs.TypeJson.{IsNamedType, IsTypeAround, IsTypeReference};
+ghost use Rattle.graphql_text.specs.trees.Leaves.{name_tree};
+ghost use Rattle.graphql_text.specs.lexical.Literals.{NameText};
+ghost use Rattle.graphql_values.specs.kinds.TypeReferences.{TypeTree};
+ghost use Rattle.graphql_values.specs.trees.TypeTrees.{type_tree};
+ghost use Rattle.graphql_ast_json.specs.code.Errors.{IsMemory};
+ghost use Rattle.graphql_ast_json.specs.code.TypeReading.{IsWithoutNull};
+ghost use Rattle.graphql_ast_json.specs.kinds.TypeJson.{IsNamedType, IsTypeAround, IsTypeReference};
 
 use crate::error::AstJsonError;
 use crate::read::members::{required_member, text_member};
@@ -58,7 +58,8 @@ fn list_item(alloc: Global, json: &Json, source: FileId) -> Result<Type, AstJson
     ensures ok { IfOk result (λ item.
         IsTypeAround (codes "ListType") (IsTypeReference (type_tree item)) (view json.now)) }
     ensures err { IfErr result (λ error. ¬ IsMemory error
-        → (item : TypeTree) → ¬ IsTypeAround (codes "ListType") (IsTypeReference item) (view json.now)) }
+        → (item : TypeTree)
+        → ¬ IsTypeAround (codes "ListType") (IsTypeReference item) (view json.now)) }
 {
     check_node(alloc, json, "ListType", &["kind", "loc", "type"], source)?;
     let inner = required_member(alloc, json, "type")?;
@@ -73,7 +74,8 @@ fn non_null_type(alloc: Global, json: &Json, source: FileId) -> Result<Type, Ast
     ensures ok { IfOk result (λ ty.
         IsTypeAround (codes "NonNullType") (IsWithoutNull (type_tree ty)) (view json.now)) }
     ensures err { IfErr result (λ error. ¬ IsMemory error
-        → (tree : TypeTree) → ¬ IsTypeAround (codes "NonNullType") (IsWithoutNull tree) (view json.now)) }
+        → (tree : TypeTree)
+        → ¬ IsTypeAround (codes "NonNullType") (IsWithoutNull tree) (view json.now)) }
 {
     check_node(alloc, json, "NonNullType", &["kind", "loc", "type"], source)?;
     let inner = required_member(alloc, json, "type")?;

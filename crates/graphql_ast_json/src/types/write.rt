@@ -1,8 +1,8 @@
 //! Type references are written.
 ghost use Rattle.std.specs.Prelude.{IfOk, codes};
-ghost use Rattle.graphql_ast_json.specs.TypeJson.{IsNamedType, IsTypeReference};
-ghost use Rattle.graphql_text.specs.Leaves.{name_tree};
-ghost use Rattle.graphql_values.specs.TypeTrees.{type_tree};
+ghost use Rattle.graphql_ast_json.specs.kinds.TypeJson.{IsNamedType, IsTypeReference};
+ghost use Rattle.graphql_text.specs.trees.Leaves.{name_tree};
+ghost use Rattle.graphql_values.specs.trees.TypeTrees.{type_tree};
 ghost use Rattle.serde_json.specs.View.{view};
 
 use crate::ast_json::AstJson;

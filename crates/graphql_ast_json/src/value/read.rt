@@ -3,15 +3,15 @@ ghost use Rattle.std.specs.Prelude.{◌≡◌, ℕ, List, Bool, IfOk, IfErr, Som
 ghost use Rattle.serde_json.specs.Data.{boolean, string};
 ghost use Rattle.serde_json.specs.View.{view, items_view};
 ghost use Rattle.graphql_base.specs.Node.{node_location, node_value};
-ghost use Rattle.graphql_text.specs.Leaves.{name_tree};
-ghost use Rattle.graphql_text.specs.Literals.{FloatText, IntText, NameText};
-ghost use Rattle.graphql_values.specs.Literals.{float_tree, int_tree};
-ghost use Rattle.graphql_values.specs.Values.{ValueTree, ValueTrees, ObjectFieldTrees, enum_value, variable, int_value, float_value, boolean_value, list_value, object_value};
-ghost use Rattle.graphql_values.specs.ValueTrees.{value_tree, value_trees, object_field_trees};
-ghost use Rattle.graphql_ast_json.specs.Errors.{IsMemory};
-ghost use Rattle.graphql_ast_json.specs.Nodes.{member_of};
-ghost use Rattle.graphql_ast_json.specs.Reading.{IsLocatedAt};
-ghost use Rattle.graphql_ast_json.specs.ValueJson.{IsValue, AreValues, AreObjectFields, IsNamedValue};
+ghost use Rattle.graphql_text.specs.trees.Leaves.{name_tree};
+ghost use Rattle.graphql_text.specs.lexical.Literals.{FloatText, IntText, NameText};
+ghost use Rattle.graphql_values.specs.trees.Literals.{float_tree, int_tree};
+ghost use Rattle.graphql_values.specs.kinds.Values.{ValueTree, ValueTrees, ObjectFieldTrees, enum_value, variable, int_value, float_value, boolean_value, list_value, object_value};
+ghost use Rattle.graphql_values.specs.trees.ValueTrees.{value_tree, value_trees, object_field_trees};
+ghost use Rattle.graphql_ast_json.specs.code.Errors.{IsMemory};
+ghost use Rattle.graphql_ast_json.specs.nodes.Nodes.{member_of};
+ghost use Rattle.graphql_ast_json.specs.code.NodeReading.{IsLocatedAt};
+ghost use Rattle.graphql_ast_json.specs.kinds.ValueJson.{IsValue, AreValues, AreObjectFields, IsNamedValue};
 
 use crate::error::AstJsonError;
 use crate::name::name_text;
@@ -233,7 +233,8 @@ pub(crate) fn named_value(
     source: FileId,
 ) -> Result<(Name, Node<Value>), AstJsonError>
     ensures ok { IfOk result (λ pair.
-        IsNamedValue kind.now (name_tree pair.0) (IsValue (value_tree (node_value pair.1))) (view json.now)) }
+        IsNamedValue kind.now (name_tree pair.0) (IsValue (value_tree (node_value pair.1)))
+        (view json.now)) }
     ensures err { IfErr result (λ error. ¬ IsMemory error
         → (name : NameText) → (value : ValueTree)
         → ¬ IsNamedValue kind.now name (IsValue value) (view json.now)) }

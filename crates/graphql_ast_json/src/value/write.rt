@@ -1,10 +1,10 @@
 //! Values are written.
 ghost use Rattle.std.specs.Prelude.{◌≡◌, ◌∷◌, [], IfOk, IsSomeAnd, Some, codes};
-ghost use Rattle.graphql_ast_json.specs.Nodes.{Anywhere, IsName, IsNode, Member};
-ghost use Rattle.graphql_ast_json.specs.ValueJson.{AreObjectFields, AreValues, IsValue};
-ghost use Rattle.graphql_text.specs.Leaves.{name_tree};
-ghost use Rattle.graphql_values.specs.ValueTrees.{object_field_trees, value_tree, value_trees};
-ghost use Rattle.graphql_values.specs.Values.{variable};
+ghost use Rattle.graphql_ast_json.specs.nodes.Nodes.{Anywhere, IsName, IsNode, Member};
+ghost use Rattle.graphql_ast_json.specs.kinds.ValueJson.{AreObjectFields, AreValues, IsValue};
+ghost use Rattle.graphql_text.specs.trees.Leaves.{name_tree};
+ghost use Rattle.graphql_values.specs.trees.ValueTrees.{object_field_trees, value_tree, value_trees};
+ghost use Rattle.graphql_values.specs.kinds.Values.{variable};
 ghost use Rattle.serde_json.specs.Find.{as_array, get};
 ghost use Rattle.serde_json.specs.View.{view};
 
@@ -64,7 +64,8 @@ pub fn write_variable(
 
 #[cycle(value)]
 fn write_items(alloc: Global, items: &[Node<Value>]) -> Result<Json, AllocError>
-    ensures { IfOk result (λ json. IsSomeAnd (as_array (view json)) (AreValues (value_trees items.now))) }
+    ensures { IfOk result
+        (λ json. IsSomeAnd (as_array (view json)) (AreValues (value_trees items.now))) }
 {
     let mut values = Vec::new(alloc);
     for item in items {
@@ -96,8 +97,10 @@ pub fn write_named_value(
     name: &Name,
     value: Json,
 ) -> Result<Json, AllocError>
-    ensures node { IfOk result (λ node. IsNode kind.now (codes "name" ∷ codes "value" ∷ []) Anywhere (view node)) }
-    ensures name { IfOk result (λ node. Member (codes "name") (view node) (IsName (name_tree name.now))) }
+    ensures node { IfOk result
+        (λ node. IsNode kind.now (codes "name" ∷ codes "value" ∷ []) Anywhere (view node)) }
+    ensures name { IfOk result
+        (λ node. Member (codes "name") (view node) (IsName (name_tree name.now))) }
     ensures value { IfOk result (λ node. get (codes "value") (view node) ≡ Some (view value)) }
 {
     let mut node = NodeWriter::new(alloc, kind, location)?;

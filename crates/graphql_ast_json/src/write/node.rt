@@ -1,8 +1,8 @@
 //! Nodes are written: objects with a kind, perhaps a location, and members.
 ghost use Rattle.std.specs.Prelude.{◌≡◌, ◌∷◌, [], IfOk, IsSomeAnd, OnErr, OnOk, Some, codes, false, map, option_map};
-ghost use Rattle.graphql_ast_json.specs.Drafts.{IsArrayOf, IsAt, IsBegun, IsGiven, IsLocationJson, beginning, members_so_far, put_optional};
-ghost use Rattle.graphql_ast_json.specs.Nodes.{Anywhere, Each, IsLocated, IsNode, IsOptional, member_of};
-ghost use Rattle.graphql_text.specs.Forms.{is_one_of};
+ghost use Rattle.graphql_ast_json.specs.code.Drafts.{IsArrayOf, IsAt, IsBegun, IsGiven, IsLocationJson, beginning, members_so_far, put_optional};
+ghost use Rattle.graphql_ast_json.specs.nodes.Nodes.{Anywhere, Each, IsLocated, IsNode, IsOptional, member_of};
+ghost use Rattle.graphql_text.specs.grammar.Forms.{is_one_of};
 ghost use Rattle.serde_json.specs.Data.{boolean, object, string, put as with_member};
 ghost use Rattle.serde_json.specs.Find.{get};
 ghost use Rattle.serde_json.specs.View.{view};
@@ -22,7 +22,7 @@ pub struct NodeWriter {
 
 impl NodeWriter {
     /// A node of this kind, at a location if there is one.
-    #[tactic(auto, unfolding(crate::specs::Drafts::beginning))]
+    #[tactic(auto, unfolding(crate::specs::code::Drafts::beginning))]
     pub fn new(
         alloc: Global,
         kind: &str,
@@ -51,7 +51,8 @@ impl NodeWriter {
     /// Gives the node a member, if there is one. After an error it has those that it had.
     pub fn put_optional_json(&mut self, name: &str, json: Option<Json>) -> Result<(), AllocError>
         ensures ok { OnOk result
-            (members_so_far self.new ≡ put_optional name.now (option_map view json) (members_so_far self.old)) }
+            (members_so_far self.new
+            ≡ put_optional name.now (option_map view json) (members_so_far self.old)) }
         ensures err { OnErr result (members_so_far self.new ≡ members_so_far self.old) }
     {
         match json {
@@ -62,7 +63,8 @@ impl NodeWriter {
 
     /// Gives the node a member that is the JSON of this tree.
     pub fn put<F: Form>(&mut self, name: &str, value: &F::Value) -> Result<(), AllocError>
-        ensures { OnOk result (IsGiven name.now (λ json. IsSomeAnd json (F.is_json_of (F.tree value.now)))
+        ensures { OnOk result
+            (IsGiven name.now (λ json. IsSomeAnd json (F.is_json_of (F.tree value.now)))
             (members_so_far self.old) (members_so_far self.new)) }
     {
         let json = F::write(self.alloc, value)?;
@@ -75,7 +77,8 @@ impl NodeWriter {
         name: &str,
         value: &Option<F::Value>,
     ) -> Result<(), AllocError>
-        ensures { OnOk result (IsGiven name.now (IsOptional F.is_json_of (option_map F.tree value.now))
+        ensures { OnOk result
+            (IsGiven name.now (IsOptional F.is_json_of (option_map F.tree value.now))
             (members_so_far self.old) (members_so_far self.new)) }
     {
         match value {
@@ -86,7 +89,8 @@ impl NodeWriter {
 
     /// Gives the node a member that is an array of the JSON of these trees.
     pub fn put_list<F: Form>(&mut self, name: &str, values: &[F::Value]) -> Result<(), AllocError>
-        ensures { OnOk result (IsGiven name.now (IsArrayOf (Each F.is_json_of (map F.tree values.now)))
+        ensures { OnOk result
+            (IsGiven name.now (IsArrayOf (Each F.is_json_of (map F.tree values.now)))
             (members_so_far self.old) (members_so_far self.new)) }
     {
         let json = write_list::<F>(self.alloc, values)?;
@@ -158,7 +162,8 @@ pub fn write_text_node(
 ) -> Result<Json, AllocError>
     ensures node { IfOk result (λ node. IsNode kind.now (codes "value" ∷ []) Anywhere (view node)) }
     ensures location { IfOk result (λ node. IsLocated (IsAt location) (view node)) }
-    ensures text { IfOk result (λ node. member_of (codes "value") (view node) ≡ Some (string text.now)) }
+    ensures text { IfOk result
+        (λ node. member_of (codes "value") (view node) ≡ Some (string text.now)) }
 {
     let value = Json::try_from_str(alloc, text)?;
     write_node_with(alloc, kind, location, "value", value)

@@ -1,21 +1,27 @@
 -- Lemmas, no definitions of the product: selections and their sets as parts, and the laws of selections, fields and inline fragments.
 use Rattle.std.proofs.Common.{ℕ, zero, suc, ◌≤◌, refl, Bool, true, false, List, [], ◌∷◌, IsTrue, arith, le_refl}
-use Rattle.graphql_text.specs.Tokens.{spread, colon, lbrace, rbrace, Token, Punctuation}
-use Rattle.graphql_text.specs.Forms.{TokenClass, a_punctuator, a_name, token, no_tokens, ◌⨟◌, only_if}
-use Rattle.graphql_text.specs.Reading.{Laws}
-use Rattle.graphql_text.proofs.KindParts.{part_laws}
-use Rattle.graphql_text.proofs.Parsing.{Parser, Reads, ◌>>=◌, pure, fail, alt, seq, seq_in, last, alt_0, alt_1, alt_empty, wider, lower, before, via, regroup, accept, mark_reads, checked, checked_reads, only_if_reads, many, many_none, many_more, at_zero, bounded, bounded_reads}
-use Rattle.graphql_text.proofs.Parts.{Part, KindPart, begins_none, excluding, space_then, part_then, retold}
-use Rattle.graphql_text.proofs.PrintedTokens.{Tail}
-use Rattle.graphql_text.proofs.Telling.{Told, Row, no_row, row_more, told_nothing, told_then, told_space, told_weaker, told_curly_group}
-use Rattle.graphql_text.proofs.Tests.{first_holds, second_holds, both_hold}
+use Rattle.graphql_text.specs.lexical.Tokens.{spread, colon, lbrace, rbrace, Token, Punctuation}
+use Rattle.graphql_text.specs.grammar.Forms.{TokenClass, a_punctuator, a_name, token, no_tokens, ◌⨟◌, only_if}
+use Rattle.graphql_text.specs.kinds.Reading.{Laws}
+use Rattle.graphql_text.proofs.parts.KindParts.{part_laws}
+use Rattle.graphql_text.proofs.grammar.FormParsers.{Parser, Reads, ◌>>=◌, pure, fail, alt, seq, seq_in, last, alt_0, alt_1, alt_empty}
+use Rattle.graphql_text.proofs.grammar.FormParsers.{wider, lower, before, via, regroup, accept, mark_reads, checked, checked_reads}
+use Rattle.graphql_text.proofs.grammar.FormParsers.{only_if_reads, many, many_none, many_more, at_zero, bounded, bounded_reads}
+use Rattle.graphql_text.proofs.parts.Parts.{Part, KindPart, begins_none, excluding, space_then, part_then, retold}
+use Rattle.graphql_text.proofs.parts.PartTokens.{Tail}
+use Rattle.graphql_text.proofs.parts.ToldShapes.{Told, Row, no_row, row_more, told_nothing, told_then, told_space, told_weaker, told_curly_group}
+use Rattle.graphql_text.proofs.general.BooleanTests.{first_holds, second_holds, both_hold}
 use Rattle.graphql_values.specs.lemmas.Directives.{excluded_after_directives}
-use Rattle.graphql_executable.specs.Fields.{field_kind}
-use Rattle.graphql_executable.specs.FragmentNames.{not_fragment_names}
-use Rattle.graphql_executable.specs.FragmentSpreads.{fragment_spread_form}
-use Rattle.graphql_executable.specs.InlineFragments.{inline_fragment_kind}
-use Rattle.graphql_executable.specs.SelectionHeads.{inline_fragment_head_form, field_head_obeys, inline_fragment_head_obeys}
-use Rattle.graphql_executable.specs.Selections.{SelectionTree, SelectionTrees, field_selection, spread_selection, inline_selection, no_selections, more_selections, has_selections, optional_braced_form, optional_braced_shape, selection_form, selections_form, selection_shape, selections_shapes, selection_nesting, selections_nestings, selection_obeys, selections_obey, selection_kind, selection_set_form, selection_set_shape, selection_set_nesting, selection_set_obeys}
+use Rattle.graphql_executable.specs.kinds.Fields.{field_kind}
+use Rattle.graphql_executable.specs.kinds.FragmentNames.{not_fragment_names}
+use Rattle.graphql_executable.specs.kinds.InlineFragments.{inline_fragment_kind}
+use Rattle.graphql_executable.specs.kinds.SelectionHeads.{inline_fragment_head_form, field_head_obeys, inline_fragment_head_obeys}
+use Rattle.graphql_executable.specs.kinds.Selections.{SelectionTree, SelectionTrees, field_selection, spread_selection, inline_selection}
+use Rattle.graphql_executable.specs.kinds.Selections.{no_selections, more_selections, has_selections, optional_braced_form}
+use Rattle.graphql_executable.specs.kinds.Selections.{optional_braced_shape, selection_form, selections_form, selection_shape}
+use Rattle.graphql_executable.specs.kinds.Selections.{selections_shapes, selection_nesting, selections_nestings, selection_obeys}
+use Rattle.graphql_executable.specs.kinds.Selections.{selections_obey, selection_kind, selection_set_form, selection_set_shape}
+use Rattle.graphql_executable.specs.kinds.Selections.{selection_set_nesting, selection_set_obeys}
 use Rattle.graphql_executable.specs.lemmas.Heads.{spread_rest_part, fragment_spread_part, inline_fragment_rest_part, inline_fragment_head_part, field_head_part}
 
 -- THE TOKENS OF SELECTIONS AS THEY ARE PRINTED, IN FRONT OF THOSE THAT FOLLOW
@@ -40,7 +46,8 @@ unfoldable mutual
 -- THEIR LAYOUT HAS THESE TOKENS
 
 pub optional_told : (set : SelectionTrees) → Row (selections_shapes set) (selections_tokens set) (selections_nestings set) →
-    Told 0 (optional_braced_shape (selections_shapes set)) (optional_braced_tokens (has_selections set) (selections_tokens set)) true (selection_set_nesting set)
+    Told 0 (optional_braced_shape (selections_shapes set)) (optional_braced_tokens (has_selections set) (selections_tokens set)) true
+    (selection_set_nesting set)
 unfolding selection_shape
 optional_told no_selections row = told_nothing
 optional_told (more_selections selection more) row = told_space (told_curly_group row)
@@ -51,7 +58,8 @@ mutual
   pub selection_told : (selection : SelectionTree) → Told 0 (selection_shape selection) (selection_tokens selection) false (selection_nesting selection)
   selection_told (field_selection head set) = told_then (field_head_part.told true head) (optional_told set (selections_told set))
   selection_told (spread_selection fragment) = told_weaker (fragment_spread_part.told true fragment)
-  selection_told (inline_selection head set) = told_weaker (told_then (inline_fragment_head_part.told true head) (told_space (told_curly_group (selections_told set))))
+  selection_told (inline_selection head set) =
+      told_weaker (told_then (inline_fragment_head_part.told true head) (told_space (told_curly_group (selections_told set))))
 
   pub selections_told : (set : SelectionTrees) → Row (selections_shapes set) (selections_tokens set) (selections_nestings set)
   selections_told no_selections = no_row
@@ -77,7 +85,8 @@ optional_written (more_selections selection more) written rest = set_written (mo
 mutual
   unfolding selection_form selection_tokens no_tokens ◌⨟◌ AreWritten
 
-  pub selection_written : (selection : SelectionTree) → IsTrue (selection_obeys selection) → (rest : List Token) → selection_form selection (selection_tokens selection rest) rest
+  pub selection_written : (selection : SelectionTree) → IsTrue (selection_obeys selection) → (rest : List Token) →
+      selection_form selection (selection_tokens selection rest) rest
   selection_written (field_selection head set) holds rest = (
     _,
     field_head_part.written head (first_holds (field_head_obeys head) (selections_obey set) holds) _ (begins_none _),
@@ -87,7 +96,8 @@ mutual
   selection_written (inline_selection head set) holds rest =
       let set_holds = second_holds (inline_fragment_head_obeys head) (selection_set_obeys set) holds in (
         _,
-        inline_fragment_head_part.written head (first_holds (inline_fragment_head_obeys head) (selection_set_obeys set) holds) _ (begins_none (braced_tokens (selections_tokens set) rest)),
+        inline_fragment_head_part.written head (first_holds (inline_fragment_head_obeys head) (selection_set_obeys set) holds) _
+            (begins_none (braced_tokens (selections_tokens set) rest)),
         set_written set (first_holds (has_selections set) (selections_obey set) set_holds)
             (selections_written set (second_holds (has_selections set) (selections_obey set) set_holds)) rest,
       )
@@ -109,7 +119,8 @@ pub set_obeyed : (set : SelectionTrees) → AreObeyed set → (ts rest : List To
 unfolding AreObeyed only_if ◌⨟◌
 set_obeyed set obeyed ts rest d = both_hold (has_selections set) (selections_obey set) d.2.1.0 (obeyed _ _ d.2.1.1)
 
-pub optional_obeyed : (set : SelectionTrees) → AreObeyed set → (ts rest : List Token) → optional_braced_form (has_selections set) (selections_form set) ts rest → IsTrue (selections_obey set)
+pub optional_obeyed : (set : SelectionTrees) → AreObeyed set → (ts rest : List Token) →
+    optional_braced_form (has_selections set) (selections_form set) ts rest → IsTrue (selections_obey set)
 optional_obeyed no_selections obeyed ts rest d = refl
 optional_obeyed (more_selections selection more) obeyed ts rest d = set_obeyed (more_selections selection more) obeyed ts rest d
 
@@ -121,7 +132,8 @@ mutual
       both_hold (field_head_obeys head) (selections_obey set) (field_head_part.obeyed head _ _ d.1) (optional_obeyed set (selections_obeyed set) _ _ d.2)
   selection_obeyed (spread_selection fragment) ts rest d = fragment_spread_part.obeyed fragment _ _ d
   selection_obeyed (inline_selection head set) ts rest d =
-      both_hold (inline_fragment_head_obeys head) (selection_set_obeys set) (inline_fragment_head_part.obeyed head _ _ d.1) (set_obeyed set (selections_obeyed set) _ _ d.2)
+      both_hold (inline_fragment_head_obeys head) (selection_set_obeys set) (inline_fragment_head_part.obeyed head _ _ d.1)
+      (set_obeyed set (selections_obeyed set) _ _ d.2)
 
   pub selections_obeyed : (set : SelectionTrees) (ts rest : List Token) → selections_form set ts rest → IsTrue (selections_obey set)
   selections_obeyed no_selections ts rest d = refl
@@ -165,35 +177,52 @@ selections_in (suc k) = selections_reader k (selection_step (selections_in k))
 pub AreRead : SelectionTrees → Type 0
 AreRead set = (k : ℕ) → Reads k (selections_in (suc k)) set (selections_form set) excluded_after_selections selection_first_tokens true
 
-pub set_reads : (k : ℕ) (set : SelectionTrees) → AreRead set → Reads k (set_reader (selections_in k)) set (selection_set_form set) [] (a_punctuator lbrace ∷ []) false
+pub set_reads : (k : ℕ) (set : SelectionTrees) → AreRead set →
+    Reads k (set_reader (selections_in k)) set (selection_set_form set) [] (a_punctuator lbrace ∷ []) false
 unfolding set_reader AreRead
 set_reads zero set inner =
-    at_zero (mark_reads lbrace) (seq (λ ss. accept (a_punctuator rbrace) >>= λ u. pure ss) (only_if_reads (λ some. checked_reads has_selections some (inner 0))) (last _ (mark_reads rbrace)) refl)
+    at_zero (mark_reads lbrace) (seq (λ ss. accept (a_punctuator rbrace) >>= λ u. pure ss)
+    (only_if_reads (λ some. checked_reads has_selections some (inner 0))) (last _ (mark_reads rbrace)) refl)
 set_reads (suc k) set inner =
     seq_in _ (mark_reads lbrace) (seq _ (only_if_reads (λ some. checked_reads has_selections some (inner k))) (last _ (mark_reads rbrace)) refl) refl
 
 pub optional_set_reads : (k : ℕ) (set : SelectionTrees) → AreRead set →
-    Reads k (optional_set_reader (selections_in k)) set (optional_braced_form (has_selections set) (selections_form set)) (a_punctuator lbrace ∷ []) (a_punctuator lbrace ∷ []) true
+    Reads k (optional_set_reader (selections_in k)) set (optional_braced_form (has_selections set) (selections_form set))
+    (a_punctuator lbrace ∷ []) (a_punctuator lbrace ∷ []) true
 unfolding optional_set_reader
 optional_set_reads k no_selections inner = alt_empty _ _ _ _ refl
 optional_set_reads k (more_selections selection more) inner = wider (alt_0 _ _ (set_reads k (more_selections selection more) inner) refl) refl refl (λ z. refl)
 
 mutual
-  unfolding selection_form fragment_spread_form inline_fragment_head_form selection_step selections_reader AreRead
+  unfolding selection_form inline_fragment_head_form selection_step selections_reader AreRead
 
-  pub selection_reads : (k : ℕ) (selection : SelectionTree) → Reads k (selection_step (selections_in k)) selection (selection_form selection) excluded_after_field selection_first_tokens false
+  pub selection_reads : (k : ℕ) (selection : SelectionTree) →
+      Reads k (selection_step (selections_in k)) selection (selection_form selection) excluded_after_field selection_first_tokens false
   selection_reads k (field_selection head set) =
-      wider (alt_1 _ _ (seq _ (field_head_part.read k head) (last _ (before excluded_after_field (optional_set_reads k set (λ j. selections_read j j (le_refl j) set)) refl)) refl) refl) refl refl (λ z. z)
-  selection_reads k (spread_selection fragment) = wider (alt_0 _ _ (seq _ (mark_reads spread) (alt_0 _ _ (last _ (spread_rest_part.read k fragment)) refl) refl) refl) refl refl (λ z. z)
+      wider
+      (alt_1 _ _ (seq _ (field_head_part.read k head)
+      (last _ (before excluded_after_field (optional_set_reads k set (λ j. selections_read j j (le_refl j) set)) refl)) refl)
+      refl) refl refl
+      (λ z. z)
+  selection_reads k (spread_selection fragment) =
+      wider (alt_0 _ _ (seq _ (mark_reads spread) (alt_0 _ _ (last _ (spread_rest_part.read k fragment)) refl) refl) refl) refl refl
+      (λ z. z)
   selection_reads k (inline_selection head set) =
-      wider (via (regroup _ _ _) (alt_0 _ _ (seq _ (mark_reads spread) (alt_1 _ _ (seq _ (inline_fragment_rest_part.read k head) (last _ (set_reads k set (λ j. selections_read j j (le_refl j) set))) refl) refl) refl) refl)) refl refl (λ z. z)
+      wider
+      (via (regroup _ _ _) (alt_0 _ _ (seq _ (mark_reads spread) (alt_1 _ _ (seq _ (inline_fragment_rest_part.read k head)
+      (last _ (set_reads k set (λ j. selections_read j j (le_refl j) set))) refl) refl) refl) refl)) refl refl
+      (λ z. z)
 
   pub selections_read : (k j : ℕ) → j ≤ k → (set : SelectionTrees) →
       Reads j (selections_reader j (selection_step (selections_in k))) set (selections_form set) excluded_after_selections selection_first_tokens true
   selections_read k j le no_selections = wider (many_none _ _ selection_first_tokens j _) refl refl (λ z. z)
-  selections_read k zero le (more_selections selection more) = wider (at_zero (lower le (selection_reads k selection)) (selections_read k zero le more)) refl refl (λ z. refl)
+  selections_read k zero le (more_selections selection more) =
+      wider (at_zero (lower le (selection_reads k selection)) (selections_read k zero le more)) refl refl (λ z. refl)
   selections_read k (suc j) le (more_selections selection more) =
-      wider (many_more _ _ selection_first_tokens _ (lower le (selection_reads k selection)) (selections_read k j (omega (arith, le)) more) refl refl) refl refl (λ z. refl)
+      wider
+      (many_more _ _ selection_first_tokens _ (lower le (selection_reads k selection))
+      (selections_read k j (omega (arith, le)) more) refl refl) refl refl
+      (λ z. refl)
 
 -- THE PARTS
 
@@ -209,7 +238,8 @@ selection_part = record {
 }
 
 -- SelectionSet, section 2.4
-unfoldable pub selection_set_part : Part selection_set_form (λ broken. selection_set_shape) selection_set_nesting selection_set_obeys [] (a_punctuator lbrace ∷ []) false [] true
+unfoldable pub selection_set_part : Part selection_set_form (λ broken. selection_set_shape) selection_set_nesting selection_set_obeys []
+    (a_punctuator lbrace ∷ []) false [] true
 unfolding AreRead AreWritten AreObeyed
 selection_set_part = record {
   tokens = λ set. braced_tokens (selections_tokens set);
@@ -222,7 +252,8 @@ selection_set_part = record {
 }
 
 -- SelectionSet, section 2.4, after a space, or nothing
-unfoldable pub optional_selection_set_part : Part (λ set. optional_braced_form (has_selections set) (selections_form set)) (λ broken set. optional_braced_shape (selections_shapes set))
+unfoldable pub optional_selection_set_part : Part (λ set. optional_braced_form (has_selections set) (selections_form set))
+    (λ broken set. optional_braced_shape (selections_shapes set))
     selection_set_nesting selections_obey (a_punctuator lbrace ∷ []) (a_punctuator lbrace ∷ []) true [] true
 unfolding AreRead AreWritten AreObeyed
 optional_selection_set_part = record {

@@ -1,16 +1,16 @@
-//! Fields are printed: the writer of a field up to its selection set, and its `Syntax`.
+//! Fields are printed.
 ghost use Rattle.std.specs.Prelude.{◌≡◌, Some, option_copied};
 ghost use Rattle.std.specs.Option.{option_map};
-ghost use Rattle.graphql_text.specs.Leaves.{name_tree};
-ghost use Rattle.graphql_text.specs.Levels.{IsCount};
-ghost use Rattle.graphql_text.specs.Optional.{optional_shape};
-ghost use Rattle.graphql_text.specs.Printing.{IsDefaultPrint, default_bytes};
-ghost use Rattle.graphql_text.specs.Stack.{CanWrite, IsKept};
-ghost use Rattle.graphql_text.specs.Writing.{Writes, WritesAnywhere, WritesPart};
-ghost use Rattle.graphql_executable.specs.ExecutableStacks.{AreAllKept, CanWriteExecutable};
-ghost use Rattle.graphql_executable.specs.ExecutableTrees.{field_tree};
-ghost use Rattle.graphql_executable.specs.Fields.{field_kind};
-ghost use Rattle.graphql_executable.specs.SelectionHeads.{alias_shape, field_head_nesting, field_head_obeys, field_head_shape};
+ghost use Rattle.graphql_text.specs.trees.Leaves.{name_tree};
+ghost use Rattle.graphql_text.specs.layout.Levels.{IsCount};
+ghost use Rattle.graphql_text.specs.parts.Optional.{optional_shape};
+ghost use Rattle.graphql_text.specs.kinds.PrintedKinds.{no_types};
+ghost use Rattle.graphql_text.specs.kinds.Printing.{IsDefaultPrint, default_bytes};
+ghost use Rattle.graphql_text.specs.code.Stack.{CanWrite, IsKept};
+ghost use Rattle.graphql_text.specs.code.Writing.{Writes, WritesAnywhere};
+ghost use Rattle.graphql_executable.specs.trees.ExecutableTrees.{field_tree};
+ghost use Rattle.graphql_executable.specs.kinds.Fields.{field_kind};
+ghost use Rattle.graphql_executable.specs.kinds.SelectionHeads.{alias_shape, field_head_nesting, field_head_obeys, field_head_shape};
 ghost use Rattle.graphql_executable.specs.lemmas.Selections.{field_laws};
 
 use crate::field::Field;
@@ -20,32 +20,34 @@ use crate::selection::print::{
 };
 use crate::stacks::ExecutableStacks;
 use graphql_base::name::Name;
-use graphql_text::engine::{Serialize, Syntax};
-use graphql_text::writers::{Place, Stack, Target, write_first_indent, write_name, write_words};
+use graphql_text::engine::{Serialize, Syntax, SyntaxTree};
+use graphql_text::writers::{
+    Place, Stack, Start, Target, Written, write_name, write_whole, write_words,
+};
 use graphql_values::writers::{
     Constness, ValueEntry, are_arguments_well_formed, are_directives_well_formed,
-    find_arguments_nesting, find_directives_nesting,
+    find_arguments_nesting,
 };
 use std::alloc::AllocError;
 use std::fmt;
 
 /// Whether the arguments and the directives of a field are well formed.
-#[tactic(auto, using(crate::proofs::SelectionShapes::field_head_is))]
+#[tactic(auto, using(crate::proofs::layout::SelectionShapes::field_head_is))]
 pub(crate) fn is_field_head_well_formed(field: &Field) -> bool
     ensures { result ≡ field_head_obeys (field_tree field.now).head }
 {
     are_arguments_well_formed(&field.arguments, Constness::NonConst)
-        && are_directives_well_formed(&field.directives.0, Constness::NonConst)
+        && are_directives_well_formed(&field.directives, Constness::NonConst)
 }
 
 /// How deep the groups in the arguments and the directives of a field stand in one another. `None` if it is above
 /// `usize::MAX`.
-#[tactic(auto, using(crate::proofs::SelectionShapes::field_head_is))]
+#[tactic(auto, using(crate::proofs::layout::SelectionShapes::field_head_is))]
 pub(crate) fn find_field_head_nesting(field: &Field) -> Option<usize>
     ensures { IsCount result (field_head_nesting (field_tree field.now).head) }
 {
     let arguments = find_arguments_nesting(&field.arguments)?;
-    Some(arguments.max(find_directives_nesting(&field.directives.0)?))
+    Some(arguments.max(field.directives.find_nesting()?))
 }
 
 /// Writes an alias and `:`; nothing where there is none.
@@ -62,37 +64,29 @@ fn write_alias<O: Target>(out: &mut O, alias: Option<&Name>)
 
 /// Writes a field without its selection set.
 #[inline(always)]
-#[tactic(auto, using(crate::proofs::SelectionShapes::field_head_is))]
-pub(crate) fn write_field_head<'a, O: Target>(
+#[tactic(auto, using(crate::proofs::layout::SelectionShapes::field_head_is))]
+pub(crate) fn write_field_head<'t, O: Target>(
     out: &mut O,
     place: &Place<'_>,
-    stack: &mut Stack<ValueEntry<'a>>,
-    field: &'a Field,
+    stack: &mut Stack<ValueEntry<'t>>,
+    field: &'t Field,
 )
     requires { CanWrite place.now stack.old (field_head_nesting (field_tree field.now).head) }
     ensures kept { IsKept stack.old stack.new }
-    ensures written { Writes O.wrote out.old out.new place.now (field_head_shape (field_tree field.now).head) }
+    ensures written { Writes O.wrote out.old out.new place.now
+        (field_head_shape (field_tree field.now).head) }
 {
-    write_alias(out, field.alias.as_ref());
-    write_name(out, &field.name);
-    write_optional_arguments(out, place, stack, &field.arguments);
-    write_optional_directives(out, place, stack, &field.directives.0);
-}
-
-/// Writes a field.
-pub fn write_field<'a, O: Target>(
-    out: &mut O,
-    place: &Place<'_>,
-    stacks: &mut ExecutableStacks<'a>,
-    field: &'a Field,
-)
-    requires { CanWriteExecutable place.now stacks.old (field_kind.nesting (field_tree field.now)) 0 }
-    ensures kept { AreAllKept stacks.old stacks.new }
-    ensures written { WritesPart O.wrote out.old out.new place.now field_kind (field_tree field.now) }
-{
-    let mut here = *place;
-    open_field(out, &mut here, stacks, field);
-    finish_sets(out, &mut here, stacks);
+    let Field {
+        alias,
+        name,
+        arguments,
+        directives,
+        selection_set: _,
+    } = field;
+    write_alias(out, alias.as_ref());
+    write_name(out, name);
+    write_optional_arguments(out, place, stack, arguments);
+    write_optional_directives(out, place, stack, directives);
 }
 
 impl Field {
@@ -105,7 +99,7 @@ impl Field {
 
     /// Whether no fragment spread in it is named `on`, each inline fragment in it has a selection, and no enum value in
     /// its arguments and directives is `true`, `false` or `null`. Variables are allowed.
-    #[tactic(auto, using(crate::proofs::SelectionShapes::field_selections_are))]
+    #[tactic(auto, using(crate::proofs::layout::SelectionShapes::field_selections_are))]
     pub fn is_well_formed(&self) -> bool
         ensures { result ≡ field_kind.obeys (field_tree self.now) }
     {
@@ -113,34 +107,46 @@ impl Field {
     }
 }
 
-impl Syntax for Field {
+impl SyntaxTree for Field {
     ghost kind = { field_kind };
 
     ghost tree = { field_tree };
 
     ghost laws = { field_laws };
 
+    ghost list_depth = { no_types };
+
     fn is_well_formed(&self) -> bool {
         Field::is_well_formed(self)
     }
 
-    #[tactic(auto, using(crate::proofs::SelectionShapes::field_selections_are))]
+    #[tactic(auto, using(crate::proofs::layout::SelectionShapes::field_selections_are))]
     fn find_nesting(&self) -> Option<usize> {
         let head = find_field_head_nesting(self)?;
         Some(head.max(find_selection_set_nesting(&self.selection_set)?))
     }
+}
 
-    fn write<O: Target>(
-        &self,
+impl Syntax for Field {
+    fn write<O: Target>(&self, out: &mut O, start: &Start<'_>) -> Result<(), AllocError> {
+        write_whole(self, out, start)
+    }
+}
+
+impl<'t> Written<'t, ExecutableStacks<'t>> for Field {
+    fn reserve(&'t self, depth: usize) -> Result<ExecutableStacks<'t>, AllocError> {
+        ExecutableStacks::reserve(self.directives.allocator(), depth, Some(0))
+    }
+
+    fn write_at<O: Target>(
+        &'t self,
         out: &mut O,
         place: &Place<'_>,
-        depth: usize,
-    ) -> Result<(), AllocError> {
-        let alloc = *self.directives.0.allocator();
-        let mut stacks = ExecutableStacks::reserve(alloc, depth, 0)?;
-        write_first_indent(out, place);
-        write_field(out, place, &mut stacks, self);
-        Ok(())
+        stacks: &mut ExecutableStacks<'t>,
+    ) {
+        let mut here = *place;
+        open_field(out, &mut here, stacks, self);
+        finish_sets(out, &mut here, stacks);
     }
 }
 

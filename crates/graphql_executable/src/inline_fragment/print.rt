@@ -1,17 +1,17 @@
-//! Inline fragments are printed: the writer of one up to its selection set, and its `Syntax`.
+//! Inline fragments are printed.
 ghost use Rattle.std.specs.Prelude.{◌≡◌, Some, option_copied};
 ghost use Rattle.std.specs.Option.{option_map};
-ghost use Rattle.graphql_text.specs.Leaves.{name_tree};
-ghost use Rattle.graphql_text.specs.Levels.{IsCount};
-ghost use Rattle.graphql_text.specs.Optional.{optional_shape};
-ghost use Rattle.graphql_text.specs.Printing.{IsDefaultPrint, default_bytes};
-ghost use Rattle.graphql_text.specs.Stack.{CanWrite, IsKept};
-ghost use Rattle.graphql_text.specs.Writing.{Writes, WritesAnywhere, WritesPart};
-ghost use Rattle.graphql_executable.specs.ExecutableStacks.{AreAllKept, CanWriteExecutable};
-ghost use Rattle.graphql_executable.specs.ExecutableTrees.{inline_fragment_tree};
-ghost use Rattle.graphql_executable.specs.FragmentNames.{type_condition_shape};
-ghost use Rattle.graphql_executable.specs.InlineFragments.{inline_fragment_kind};
-ghost use Rattle.graphql_executable.specs.SelectionHeads.{inline_fragment_head_nesting, inline_fragment_head_obeys, inline_fragment_head_shape};
+ghost use Rattle.graphql_text.specs.trees.Leaves.{name_tree};
+ghost use Rattle.graphql_text.specs.layout.Levels.{IsCount};
+ghost use Rattle.graphql_text.specs.parts.Optional.{optional_shape};
+ghost use Rattle.graphql_text.specs.kinds.PrintedKinds.{no_types};
+ghost use Rattle.graphql_text.specs.kinds.Printing.{IsDefaultPrint, default_bytes};
+ghost use Rattle.graphql_text.specs.code.Stack.{CanWrite, IsKept};
+ghost use Rattle.graphql_text.specs.code.Writing.{Writes, WritesAnywhere};
+ghost use Rattle.graphql_executable.specs.trees.ExecutableTrees.{inline_fragment_tree};
+ghost use Rattle.graphql_executable.specs.kinds.FragmentNames.{type_condition_shape};
+ghost use Rattle.graphql_executable.specs.kinds.InlineFragments.{inline_fragment_kind};
+ghost use Rattle.graphql_executable.specs.kinds.SelectionHeads.{inline_fragment_head_nesting, inline_fragment_head_obeys, inline_fragment_head_shape};
 ghost use Rattle.graphql_executable.specs.lemmas.Selections.{inline_fragment_laws};
 
 use crate::inline_fragment::InlineFragment;
@@ -21,35 +21,37 @@ use crate::selection::print::{
 };
 use crate::stacks::ExecutableStacks;
 use graphql_base::name::NamedType;
-use graphql_text::engine::{Serialize, Syntax};
-use graphql_text::writers::{Place, Stack, Target, write_first_indent, write_name, write_words};
-use graphql_values::writers::{
-    Constness, ValueEntry, are_directives_well_formed, find_directives_nesting,
+use graphql_text::engine::{Serialize, Syntax, SyntaxTree};
+use graphql_text::writers::{
+    Place, Stack, Start, Target, Written, write_name, write_whole, write_words,
 };
+use graphql_values::writers::{Constness, ValueEntry, are_directives_well_formed};
 use std::alloc::AllocError;
 use std::fmt;
 
 /// Whether the directives of an inline fragment are well formed.
-#[tactic(auto, using(crate::proofs::SelectionShapes::inline_fragment_head_is))]
+#[tactic(auto, using(crate::proofs::layout::SelectionShapes::inline_fragment_head_is))]
 pub(crate) fn is_inline_fragment_head_well_formed(fragment: &InlineFragment) -> bool
     ensures { result ≡ inline_fragment_head_obeys (inline_fragment_tree fragment.now).head }
 {
-    are_directives_well_formed(&fragment.directives.0, Constness::NonConst)
+    are_directives_well_formed(&fragment.directives, Constness::NonConst)
 }
 
 /// How deep the groups in the directives of an inline fragment stand in one another. `None` if it is above
 /// `usize::MAX`.
-#[tactic(auto, using(crate::proofs::SelectionShapes::inline_fragment_head_is))]
+#[tactic(auto, using(crate::proofs::layout::SelectionShapes::inline_fragment_head_is))]
 pub(crate) fn find_inline_fragment_head_nesting(fragment: &InlineFragment) -> Option<usize>
-    ensures { IsCount result (inline_fragment_head_nesting (inline_fragment_tree fragment.now).head) }
+    ensures { IsCount result
+        (inline_fragment_head_nesting (inline_fragment_tree fragment.now).head) }
 {
-    find_directives_nesting(&fragment.directives.0)
+    fragment.directives.find_nesting()
 }
 
 /// Writes `on` and a type; nothing where there is none.
 pub(crate) fn write_type_condition<O: Target>(out: &mut O, type_condition: Option<&NamedType>)
     ensures { WritesAnywhere O.wrote out.old out.new
-        (optional_shape type_condition_shape (option_map name_tree (option_copied type_condition.entry))) }
+        (optional_shape type_condition_shape
+        (option_map name_tree (option_copied type_condition.entry))) }
 {
     if let Some(name) = type_condition {
         write_words(out, " on ");
@@ -58,12 +60,12 @@ pub(crate) fn write_type_condition<O: Target>(out: &mut O, type_condition: Optio
 }
 
 /// Writes an inline fragment without its selection set.
-#[tactic(auto, using(crate::proofs::SelectionShapes::inline_fragment_head_is))]
-pub(crate) fn write_inline_fragment_head<'a, O: Target>(
+#[tactic(auto, using(crate::proofs::layout::SelectionShapes::inline_fragment_head_is))]
+pub(crate) fn write_inline_fragment_head<'t, O: Target>(
     out: &mut O,
     place: &Place<'_>,
-    stack: &mut Stack<ValueEntry<'a>>,
-    fragment: &'a InlineFragment,
+    stack: &mut Stack<ValueEntry<'t>>,
+    fragment: &'t InlineFragment,
 )
     requires { CanWrite place.now stack.old
         (inline_fragment_head_nesting (inline_fragment_tree fragment.now).head) }
@@ -71,27 +73,14 @@ pub(crate) fn write_inline_fragment_head<'a, O: Target>(
     ensures written { Writes O.wrote out.old out.new place.now
         (inline_fragment_head_shape (inline_fragment_tree fragment.now).head) }
 {
+    let InlineFragment {
+        type_condition,
+        directives,
+        selection_set: _,
+    } = fragment;
     write_words(out, "...");
-    write_type_condition(out, fragment.type_condition.as_ref());
-    write_optional_directives(out, place, stack, &fragment.directives.0);
-}
-
-/// Writes an inline fragment.
-pub fn write_inline_fragment<'a, O: Target>(
-    out: &mut O,
-    place: &Place<'_>,
-    stacks: &mut ExecutableStacks<'a>,
-    fragment: &'a InlineFragment,
-)
-    requires { CanWriteExecutable place.now stacks.old
-        (inline_fragment_kind.nesting (inline_fragment_tree fragment.now)) 0 }
-    ensures kept { AreAllKept stacks.old stacks.new }
-    ensures written { WritesPart O.wrote out.old out.new place.now
-        inline_fragment_kind (inline_fragment_tree fragment.now) }
-{
-    let mut here = *place;
-    open_inline_fragment(out, &mut here, stacks, fragment);
-    finish_sets(out, &mut here, stacks);
+    write_type_condition(out, type_condition.as_ref());
+    write_optional_directives(out, place, stack, directives);
 }
 
 impl InlineFragment {
@@ -104,7 +93,7 @@ impl InlineFragment {
 
     /// Whether it has a selection, and so has each inline fragment in it; no fragment spread in it is named `on`; and
     /// no enum value in its arguments and directives is `true`, `false` or `null`. Variables are allowed.
-    #[tactic(auto, using(crate::proofs::SelectionShapes::inline_selections_are))]
+    #[tactic(auto, using(crate::proofs::layout::SelectionShapes::inline_selections_are))]
     pub fn is_well_formed(&self) -> bool
         ensures { result ≡ inline_fragment_kind.obeys (inline_fragment_tree self.now) }
     {
@@ -113,39 +102,52 @@ impl InlineFragment {
     }
 }
 
-impl Syntax for InlineFragment {
+impl SyntaxTree for InlineFragment {
     ghost kind = { inline_fragment_kind };
 
     ghost tree = { inline_fragment_tree };
 
     ghost laws = { inline_fragment_laws };
 
+    ghost list_depth = { no_types };
+
     fn is_well_formed(&self) -> bool {
         InlineFragment::is_well_formed(self)
     }
 
-    #[tactic(auto, using(crate::proofs::SelectionShapes::inline_selections_are))]
+    #[tactic(auto, using(crate::proofs::layout::SelectionShapes::inline_selections_are))]
     fn find_nesting(&self) -> Option<usize> {
         let head = find_inline_fragment_head_nesting(self)?;
         Some(head.max(find_selection_set_nesting(&self.selection_set)?))
     }
+}
 
-    fn write<O: Target>(
-        &self,
+impl Syntax for InlineFragment {
+    fn write<O: Target>(&self, out: &mut O, start: &Start<'_>) -> Result<(), AllocError> {
+        write_whole(self, out, start)
+    }
+}
+
+impl<'t> Written<'t, ExecutableStacks<'t>> for InlineFragment {
+    fn reserve(&'t self, depth: usize) -> Result<ExecutableStacks<'t>, AllocError> {
+        ExecutableStacks::reserve(self.directives.allocator(), depth, Some(0))
+    }
+
+    fn write_at<O: Target>(
+        &'t self,
         out: &mut O,
         place: &Place<'_>,
-        depth: usize,
-    ) -> Result<(), AllocError> {
-        let alloc = *self.directives.0.allocator();
-        let mut stacks = ExecutableStacks::reserve(alloc, depth, 0)?;
-        write_first_indent(out, place);
-        write_inline_fragment(out, place, &mut stacks, self);
-        Ok(())
+        stacks: &mut ExecutableStacks<'t>,
+    ) {
+        let mut here = *place;
+        open_inline_fragment(out, &mut here, stacks, self);
+        finish_sets(out, &mut here, stacks);
     }
 }
 
 impl fmt::Display for InlineFragment {
-    ghost output = { λ fragment. Some (default_bytes inline_fragment_kind (inline_fragment_tree fragment)) };
+    ghost output = { λ fragment.
+        Some (default_bytes inline_fragment_kind (inline_fragment_tree fragment)) };
 
     fn fmt<W: fmt::Write>(&self, f: &mut fmt::Formatter<W>) -> fmt::Result {
         self.serialize().fmt(f)

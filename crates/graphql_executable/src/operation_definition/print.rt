@@ -1,17 +1,16 @@
-//! Operations are printed: the writers of one, and its `Syntax`.
+//! Operations are printed.
 ghost use Rattle.std.specs.Prelude.{◌≡◌, ◌&&◌, Some, option_copied};
 ghost use Rattle.std.specs.Option.{option_map};
-ghost use Rattle.graphql_text.specs.Layout.{is_front};
-ghost use Rattle.graphql_text.specs.Leaves.{name_tree};
-ghost use Rattle.graphql_text.specs.Levels.{IsCount};
-ghost use Rattle.graphql_text.specs.Optional.{optional_shape};
-ghost use Rattle.graphql_text.specs.Place.{breaks, mode_of};
-ghost use Rattle.graphql_text.specs.Printing.{IsDefaultPrint, default_bytes};
-ghost use Rattle.graphql_text.specs.Writing.{Writes, WritesAnywhere, WritesPart};
-ghost use Rattle.graphql_executable.specs.ExecutableStacks.{AreAllKept, CanWriteExecutable};
-ghost use Rattle.graphql_executable.specs.ExecutableTrees.{operation_definition_tree};
-ghost use Rattle.graphql_executable.specs.OperationDefinitions.{is_bare_query, operation_definition_kind, operation_name_shape};
-ghost use Rattle.graphql_executable.specs.VariableDefinitions.{variables_list_depth};
+ghost use Rattle.graphql_text.specs.layout.Layout.{is_front};
+ghost use Rattle.graphql_text.specs.trees.Leaves.{name_tree};
+ghost use Rattle.graphql_text.specs.parts.Optional.{optional_shape};
+ghost use Rattle.graphql_text.specs.code.Place.{breaks, mode_of};
+ghost use Rattle.graphql_text.specs.kinds.Printing.{IsDefaultPrint, default_bytes};
+ghost use Rattle.graphql_text.specs.code.Writing.{Writes, WritesAnywhere};
+ghost use Rattle.graphql_executable.specs.code.ExecutableStacks.{AreAllKept, CanWriteExecutable};
+ghost use Rattle.graphql_executable.specs.trees.ExecutableTrees.{operation_definition_tree};
+ghost use Rattle.graphql_executable.specs.kinds.OperationDefinitions.{is_bare_query, operation_definition_kind, operation_name_shape};
+ghost use Rattle.graphql_executable.specs.kinds.VariableDefinitions.{variables_list_depth};
 ghost use Rattle.graphql_executable.specs.lemmas.Definitions.{operation_definition_laws};
 
 use crate::operation_definition::OperationDefinition;
@@ -20,17 +19,15 @@ use crate::selection::print::{
     find_selection_set_nesting, is_selection_set_well_formed, write_selection_set,
 };
 use crate::stacks::ExecutableStacks;
-use crate::variable_definition::print::find_variables_list_depth;
+use crate::variable_definition::print::some_variables_want_lines;
 use graphql_base::name::Name;
-use graphql_text::engine::{Serialize, Syntax};
+use graphql_text::engine::{Serialize, Syntax, SyntaxTree};
 use graphql_text::writers::{
-    Place, Target, write_first_indent, write_leading_description, write_name, write_words,
+    HasTypes, Place, Start, Target, Written, are_parts_well_formed, find_parts_list_depth,
+    find_parts_nesting, write_first_indent, write_leading_description, write_name, write_words,
 };
 use graphql_values::operation_type::OperationType;
-use graphql_values::writers::{
-    Constness, are_directives_well_formed, are_parameters_well_formed, find_directives_nesting,
-    find_parameters_nesting, write_parameters,
-};
+use graphql_values::writers::{Constness, are_directives_well_formed, write_parameters};
 use std::alloc::AllocError;
 use std::fmt;
 
@@ -42,7 +39,7 @@ fn is_bare_query(operation: &OperationDefinition) -> bool
         && matches!(operation.operation_type, OperationType::Query)
         && operation.name.is_none()
         && operation.variables.is_empty()
-        && operation.directives.0.is_empty()
+        && operation.directives.is_empty()
 }
 
 /// Whether nothing is written before what begins a print: there is no prefix, or the level is 0.
@@ -74,54 +71,27 @@ fn write_operation_name<O: Target>(out: &mut O, name: Option<&Name>)
     }
 }
 
-/// Writes an operation behind something else, and so not in shorthand.
-pub fn write_operation_definition<'a, O: Target>(
-    out: &mut O,
-    place: &Place<'_>,
-    stacks: &mut ExecutableStacks<'a>,
-    operation: &'a OperationDefinition,
-)
-    requires { CanWriteExecutable place.now stacks.old
-        (operation_definition_kind.nesting (operation_definition_tree operation.now))
-        (variables_list_depth (operation_definition_tree operation.now).body.variables) }
-    ensures kept { AreAllKept stacks.old stacks.new }
-    ensures written { WritesPart O.wrote out.old out.new place.now
-        operation_definition_kind (operation_definition_tree operation.now) }
-{
-    write_leading_description(out, place, operation.description.as_ref());
-    write_words(out, operation.operation_type.name());
-    write_operation_name(out, operation.name.as_ref());
-    write_parameters(out, place, &mut stacks.definitions, &operation.variables);
-    write_optional_directives(
-        out,
-        place,
-        &mut stacks.definitions.values,
-        &operation.directives.0,
-    );
-    write_words(out, " ");
-    write_selection_set(out, place, stacks, &operation.selection_set);
-}
-
 /// Writes an operation that a print begins with: in shorthand, where it is a query that has nothing but a selection
 /// set and nothing is written before it.
-pub fn write_first_operation_definition<'a, O: Target>(
+pub fn write_first_operation_definition<'t, O: Target>(
     out: &mut O,
     place: &Place<'_>,
-    stacks: &mut ExecutableStacks<'a>,
-    operation: &'a OperationDefinition,
+    stacks: &mut ExecutableStacks<'t>,
+    operation: &'t OperationDefinition,
 )
     requires { CanWriteExecutable place.now stacks.old
         (operation_definition_kind.nesting (operation_definition_tree operation.now))
         (variables_list_depth (operation_definition_tree operation.now).body.variables) }
     ensures kept { AreAllKept stacks.old stacks.new }
     ensures written { Writes O.wrote out.old out.new place.now
-        (operation_definition_kind.shape (breaks place.now) (is_front (mode_of place.now.prefix) place.now.level)
+        (operation_definition_kind.shape (breaks place.now)
+        (is_front (mode_of place.now.prefix) place.now.level)
         (operation_definition_tree operation.now)) }
 {
     if is_in_shorthand(place, operation) {
         write_selection_set(out, place, stacks, &operation.selection_set);
     } else {
-        write_operation_definition(out, place, stacks, operation);
+        operation.write_at(out, place, stacks);
     }
 }
 
@@ -138,42 +108,81 @@ impl OperationDefinition {
     pub fn is_well_formed(&self) -> bool
         ensures { result ≡ operation_definition_kind.obeys (operation_definition_tree self.now) }
     {
-        are_parameters_well_formed(&self.variables)
-            && are_directives_well_formed(&self.directives.0, Constness::NonConst)
+        are_parts_well_formed(&self.variables)
+            && are_directives_well_formed(&self.directives, Constness::NonConst)
             && is_selection_set_well_formed(&self.selection_set)
     }
 }
 
-impl Syntax for OperationDefinition {
+impl SyntaxTree for OperationDefinition {
     ghost kind = { operation_definition_kind };
 
     ghost tree = { operation_definition_tree };
 
     ghost laws = { operation_definition_laws };
 
+    ghost list_depth = { λ operation. variables_list_depth operation.body.variables };
+
     fn is_well_formed(&self) -> bool {
         OperationDefinition::is_well_formed(self)
     }
 
     fn find_nesting(&self) -> Option<usize> {
-        let variables = find_parameters_nesting(&self.variables)?;
-        let directives = find_directives_nesting(&self.directives.0)?;
+        let variables = find_parts_nesting(&self.variables)?;
+        let directives = self.directives.find_nesting()?;
         let selections = find_selection_set_nesting(&self.selection_set)?;
         Some(variables.max(directives.max(selections)))
     }
+}
 
-    fn write<O: Target>(
-        &self,
+impl HasTypes for OperationDefinition {
+    fn find_list_depth(&self) -> Option<usize> {
+        find_parts_list_depth(&self.variables)
+    }
+}
+
+impl Syntax for OperationDefinition {
+    fn write<O: Target>(&self, out: &mut O, start: &Start<'_>) -> Result<(), AllocError> {
+        let mut stacks = self.reserve(start.depth)?;
+        write_first_indent(out, &start.place);
+        write_first_operation_definition(out, &start.place, &mut stacks, self);
+        Ok(())
+    }
+}
+
+impl<'t> Written<'t, ExecutableStacks<'t>> for OperationDefinition {
+    fn reserve(&'t self, depth: usize) -> Result<ExecutableStacks<'t>, AllocError> {
+        ExecutableStacks::reserve(self.directives.allocator(), depth, self.find_list_depth())
+    }
+
+    /// Not in shorthand, since something stands before it.
+    fn write_at<O: Target>(
+        &'t self,
         out: &mut O,
         place: &Place<'_>,
-        depth: usize,
-    ) -> Result<(), AllocError> {
-        let alloc = *self.directives.0.allocator();
-        let list_depth = find_variables_list_depth(&self.variables).ok_or(AllocError)?;
-        let mut stacks = ExecutableStacks::reserve(alloc, depth, list_depth)?;
-        write_first_indent(out, place);
-        write_first_operation_definition(out, place, &mut stacks, self);
-        Ok(())
+        stacks: &mut ExecutableStacks<'t>,
+    ) {
+        let OperationDefinition {
+            description,
+            operation_type,
+            name,
+            variables,
+            directives,
+            selection_set,
+        } = self;
+        write_leading_description(out, place, description.as_ref());
+        write_words(out, operation_type.name());
+        write_operation_name(out, name.as_ref());
+        write_parameters(
+            out,
+            place,
+            &mut stacks.definitions,
+            variables,
+            some_variables_want_lines(variables),
+        );
+        write_optional_directives(out, place, &mut stacks.definitions.values, directives);
+        write_words(out, " ");
+        write_selection_set(out, place, stacks, selection_set);
     }
 }
 

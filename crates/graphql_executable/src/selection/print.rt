@@ -1,23 +1,23 @@
-//! Selections are printed: the loop that writes selection sets, and the `Syntax` of a selection.
+//! Selections are printed, and selection sets.
 ghost use Rattle.std.specs.Prelude.{◌≡◌, ◌+◌, ◌≤◌, ◌^◌, ◌∷◌, Some, false};
-ghost use Rattle.graphql_text.specs.Groups.{curly_rest};
-ghost use Rattle.graphql_text.specs.Layout.{Space};
-ghost use Rattle.graphql_text.specs.Levels.{Fits, IsCount};
-ghost use Rattle.graphql_text.specs.Place.{mode_of};
-ghost use Rattle.graphql_text.specs.Printing.{IsDefaultPrint, default_bytes};
-ghost use Rattle.graphql_text.specs.Stack.{CanWrite, IsKept, IsReady, stack_entries, stack_room};
-ghost use Rattle.graphql_text.specs.Writing.{Writes, WritesBeginning, WritesPart};
-ghost use Rattle.graphql_executable.specs.ExecutableStacks.{AreAllKept, CanWriteExecutable};
-ghost use Rattle.graphql_executable.specs.ExecutableTrees.{field_tree, inline_fragment_tree, selection_tree, selection_trees};
-ghost use Rattle.graphql_executable.specs.Fields.{selection_of_field};
-ghost use Rattle.graphql_executable.specs.InlineFragments.{selection_of_inline_fragment};
-ghost use Rattle.graphql_executable.specs.SelectionWalk.{CanFinish, CanGoOn, CanOpen, Finishes, GoesOn, LoseNoRoom, Opens, OpensSelection, has_set, need_with, set_level, stack_items};
-ghost use Rattle.graphql_executable.specs.Selections.{optional_braced_shape, selection_kind, selection_nesting, selection_obeys, selection_set_nesting, selection_set_obeys, selection_set_shape, selection_shape, selections_obey, selections_shapes};
+ghost use Rattle.graphql_text.specs.code.Groups.{curly_rest};
+ghost use Rattle.graphql_text.specs.layout.Layout.{Space};
+ghost use Rattle.graphql_text.specs.layout.Levels.{Fits, IsCount};
+ghost use Rattle.graphql_text.specs.code.Place.{mode_of};
+ghost use Rattle.graphql_text.specs.kinds.PrintedKinds.{no_types};
+ghost use Rattle.graphql_text.specs.kinds.Printing.{IsDefaultPrint, default_bytes};
+ghost use Rattle.graphql_text.specs.code.Stack.{CanWrite, IsKept, IsReady, stack_entries, stack_room};
+ghost use Rattle.graphql_text.specs.code.Writing.{Writes, WritesBeginning};
+ghost use Rattle.graphql_executable.specs.code.ExecutableStacks.{AreAllKept, CanWriteExecutable};
+ghost use Rattle.graphql_executable.specs.trees.ExecutableTrees.{field_tree, inline_fragment_tree, selection_tree, selection_trees};
+ghost use Rattle.graphql_executable.specs.kinds.Fields.{selection_of_field};
+ghost use Rattle.graphql_executable.specs.kinds.InlineFragments.{selection_of_inline_fragment};
+ghost use Rattle.graphql_executable.specs.code.SelectionWalk.{CanFinish, CanGoOn, CanOpen, Finishes, GoesOn, LoseNoRoom, Opens, OpensSelection, has_set, need_with, set_level, stack_items};
+ghost use Rattle.graphql_executable.specs.kinds.Selections.{optional_braced_shape, selection_kind, selection_nesting, selection_obeys, selection_set_nesting, selection_set_obeys, selection_set_shape, selection_shape, selections_obey, selections_shapes};
 ghost use Rattle.graphql_executable.specs.lemmas.Selections.{selection_laws};
 
 use crate::field::Field;
 use crate::field::print::{find_field_head_nesting, is_field_head_well_formed, write_field_head};
-use crate::fragment_spread::print::write_fragment_spread;
 use crate::inline_fragment::InlineFragment;
 use crate::inline_fragment::print::{
     find_inline_fragment_head_nesting, is_inline_fragment_head_well_formed,
@@ -25,17 +25,19 @@ use crate::inline_fragment::print::{
 };
 use crate::selection::Selection;
 use crate::stacks::{ExecutableStacks, SelectionEntry};
-use graphql_text::engine::{Serialize, Syntax};
-use graphql_text::writers::{Place, Stack, Target, write_first_indent, write_soft, write_words};
-use graphql_values::writers::{ValueEntry, find_directives_nesting};
+use graphql_text::engine::{Serialize, Syntax, SyntaxTree};
+use graphql_text::writers::{
+    Place, Stack, Start, Target, Written, write_soft, write_whole, write_words,
+};
+use graphql_values::writers::ValueEntry;
 use std::alloc::{AllocError, Global};
 use std::fmt;
 
 /// Whether a selection is well formed: no fragment spread in it is named `on`, each inline fragment in it has a
 /// selection, and no enum value in its arguments and directives is `true`, `false` or `null`.
 #[cycle(selection_is_well_formed)]
-#[tactic(auto, using(crate::proofs::SelectionShapes::obeys_field, crate::proofs::SelectionShapes::obeys_spread, crate::proofs::SelectionShapes::obeys_inline))]
-pub fn is_selection_well_formed(selection: &Selection) -> bool
+#[tactic(auto, using(crate::proofs::layout::SelectionShapes::obeys_field, crate::proofs::layout::SelectionShapes::obeys_spread, crate::proofs::layout::SelectionShapes::obeys_inline))]
+fn is_selection_well_formed(selection: &Selection) -> bool
     ensures { result ≡ selection_obeys (selection_tree selection.now) }
 {
     match selection {
@@ -49,7 +51,7 @@ pub fn is_selection_well_formed(selection: &Selection) -> bool
 
 /// Whether each selection is well formed.
 #[cycle(selection_is_well_formed)]
-pub fn are_selections_well_formed(selections: &[Selection]) -> bool
+pub(crate) fn are_selections_well_formed(selections: &[Selection]) -> bool
     ensures { result ≡ selections_obey (selection_trees selections.now) }
 {
     for selection in selections {
@@ -62,8 +64,8 @@ pub fn are_selections_well_formed(selections: &[Selection]) -> bool
 
 /// Whether there is a selection, and each is well formed.
 #[cycle(selection_is_well_formed)]
-#[tactic(auto, using(crate::proofs::SelectionShapes::has_selections_is))]
-pub fn is_selection_set_well_formed(selections: &[Selection]) -> bool
+#[tactic(auto, using(crate::proofs::layout::SelectionShapes::has_selections_is))]
+pub(crate) fn is_selection_set_well_formed(selections: &[Selection]) -> bool
     ensures { result ≡ selection_set_obeys (selection_trees selections.now) }
 {
     !selections.is_empty() && are_selections_well_formed(selections)
@@ -71,8 +73,8 @@ pub fn is_selection_set_well_formed(selections: &[Selection]) -> bool
 
 /// How deep the groups of a selection stand in one another. `None` if it is above `usize::MAX`.
 #[cycle(nesting)]
-#[tactic(auto, using(crate::proofs::SelectionShapes::nesting_field, crate::proofs::SelectionShapes::nesting_spread, crate::proofs::SelectionShapes::nesting_inline))]
-pub fn find_selection_nesting(selection: &Selection) -> Option<usize>
+#[tactic(auto, using(crate::proofs::layout::SelectionShapes::nesting_field, crate::proofs::layout::SelectionShapes::nesting_spread, crate::proofs::layout::SelectionShapes::nesting_inline))]
+fn find_selection_nesting(selection: &Selection) -> Option<usize>
     ensures { IsCount result (selection_nesting (selection_tree selection.now)) }
 {
     match selection {
@@ -80,7 +82,7 @@ pub fn find_selection_nesting(selection: &Selection) -> Option<usize>
             let head = find_field_head_nesting(field)?;
             Some(head.max(find_selection_set_nesting(&field.selection_set)?))
         }
-        Selection::FragmentSpread(spread) => find_directives_nesting(&spread.directives.0),
+        Selection::FragmentSpread(spread) => spread.find_nesting(),
         Selection::InlineFragment(fragment) => {
             let head = find_inline_fragment_head_nesting(fragment)?;
             Some(head.max(find_selection_set_nesting(&fragment.selection_set)?))
@@ -91,7 +93,7 @@ pub fn find_selection_nesting(selection: &Selection) -> Option<usize>
 /// How deep the groups of a selection set stand in one another: one more than the selection that nests most, and 0
 /// without selections. `None` if it is above `usize::MAX`.
 #[cycle(nesting)]
-pub fn find_selection_set_nesting(selections: &[Selection]) -> Option<usize>
+pub(crate) fn find_selection_set_nesting(selections: &[Selection]) -> Option<usize>
     ensures { IsCount result (selection_set_nesting (selection_trees selections.now)) }
 {
     let mut most = 0;
@@ -110,13 +112,17 @@ fn open_set<'a, O: Target>(
     selections: &'a [Selection],
 )
     requires fits { Fits here.old.level (selection_set_nesting (selection_trees selections.now)) }
-    requires room { need_with (selection_set_nesting (selection_trees selections.now)) (stack_entries stack.old)
+    requires room { need_with (selection_set_nesting (selection_trees selections.now))
+        (stack_entries stack.old)
         ≤ stack_room stack.old }
     ensures prefix { here.new.prefix ≡ here.old.prefix }
     ensures room { stack_room stack.old ≤ stack_room stack.new }
-    ensures opened { Opens O.wrote out.old out.new (mode_of here.old.prefix) here.old.level here.new.level
-        (selection_set_shape (selection_trees selections.now)) (set_level (selection_trees selections.now))
-        (selection_set_nesting (selection_trees selections.now)) (stack_entries stack.old) (stack_entries stack.new) }
+    ensures opened { Opens O.wrote out.old out.new
+        (mode_of here.old.prefix) here.old.level here.new.level
+        (selection_set_shape (selection_trees selections.now))
+        (set_level (selection_trees selections.now))
+        (selection_set_nesting (selection_trees selections.now)) (stack_entries stack.old)
+        (stack_entries stack.new) }
 {
     if selections.is_empty() {
         write_words(out, "{}");
@@ -136,14 +142,17 @@ fn open_optional_set<'a, O: Target>(
     selections: &'a [Selection],
 )
     requires fits { Fits here.old.level (selection_set_nesting (selection_trees selections.now)) }
-    requires room { need_with (selection_set_nesting (selection_trees selections.now)) (stack_entries stack.old)
+    requires room { need_with (selection_set_nesting (selection_trees selections.now))
+        (stack_entries stack.old)
         ≤ stack_room stack.old }
     ensures prefix { here.new.prefix ≡ here.old.prefix }
     ensures room { stack_room stack.old ≤ stack_room stack.new }
-    ensures opened { Opens O.wrote out.old out.new (mode_of here.old.prefix) here.old.level here.new.level
+    ensures opened { Opens O.wrote out.old out.new
+        (mode_of here.old.prefix) here.old.level here.new.level
         (optional_braced_shape (selections_shapes (selection_trees selections.now)))
         (set_level (selection_trees selections.now))
-        (selection_set_nesting (selection_trees selections.now)) (stack_entries stack.old) (stack_entries stack.new) }
+        (selection_set_nesting (selection_trees selections.now)) (stack_entries stack.old)
+        (stack_entries stack.new) }
 {
     if selections.is_empty() {
         return;
@@ -160,10 +169,12 @@ pub(crate) fn open_field<'a, O: Target>(
     stacks: &mut ExecutableStacks<'a>,
     field: &'a Field,
 )
-    requires { CanOpen here.old.level stacks.old (selection_nesting (selection_of_field (field_tree field.now))) }
+    requires { CanOpen here.old.level stacks.old
+        (selection_nesting (selection_of_field (field_tree field.now))) }
     ensures prefix { here.new.prefix ≡ here.old.prefix }
     ensures kept { LoseNoRoom stacks.old stacks.new }
-    ensures opened { OpensSelection O.wrote out.old out.new (mode_of here.old.prefix) here.old.level here.new.level
+    ensures opened { OpensSelection O.wrote out.old out.new
+        (mode_of here.old.prefix) here.old.level here.new.level
         (selection_of_field (field_tree field.now))
         (stack_entries stacks.old.selections) (stack_entries stacks.new.selections) }
 {
@@ -183,7 +194,8 @@ pub(crate) fn open_inline_fragment<'a, O: Target>(
         (selection_nesting (selection_of_inline_fragment (inline_fragment_tree fragment.now))) }
     ensures prefix { here.new.prefix ≡ here.old.prefix }
     ensures kept { LoseNoRoom stacks.old stacks.new }
-    ensures opened { OpensSelection O.wrote out.old out.new (mode_of here.old.prefix) here.old.level here.new.level
+    ensures opened { OpensSelection O.wrote out.old out.new
+        (mode_of here.old.prefix) here.old.level here.new.level
         (selection_of_inline_fragment (inline_fragment_tree fragment.now))
         (stack_entries stacks.old.selections) (stack_entries stacks.new.selections) }
 {
@@ -200,17 +212,19 @@ fn open_selection<'a, O: Target>(
     stacks: &mut ExecutableStacks<'a>,
     selection: &'a Selection,
 )
-    requires { CanOpen here.old.level stacks.old (selection_nesting (selection_tree selection.now)) }
+    requires { CanOpen here.old.level stacks.old
+        (selection_nesting (selection_tree selection.now)) }
     ensures prefix { here.new.prefix ≡ here.old.prefix }
     ensures kept { LoseNoRoom stacks.old stacks.new }
-    ensures opened { OpensSelection O.wrote out.old out.new (mode_of here.old.prefix) here.old.level here.new.level
+    ensures opened { OpensSelection O.wrote out.old out.new
+        (mode_of here.old.prefix) here.old.level here.new.level
         (selection_tree selection.now)
         (stack_entries stacks.old.selections) (stack_entries stacks.new.selections) }
 {
     match selection {
         Selection::Field(field) => open_field(out, here, stacks, field),
         Selection::FragmentSpread(spread) => {
-            write_fragment_spread(out, here, &mut stacks.definitions.values, spread);
+            spread.write_at(out, here, &mut stacks.definitions.values);
         }
         Selection::InlineFragment(fragment) => open_inline_fragment(out, here, stacks, fragment),
     }
@@ -218,7 +232,7 @@ fn open_selection<'a, O: Target>(
 
 /// Whether there are selections within a selection. Any other is written whole at once.
 #[inline(always)]
-#[tactic(auto, using(crate::proofs::SelectionShapes::has_set_field, crate::proofs::SelectionShapes::has_set_spread, crate::proofs::SelectionShapes::has_set_inline))]
+#[tactic(auto, using(crate::proofs::layout::SelectionShapes::has_set_field, crate::proofs::layout::SelectionShapes::has_set_spread, crate::proofs::layout::SelectionShapes::has_set_inline))]
 fn has_set(selection: &Selection) -> bool
     ensures { result ≡ has_set (selection_tree selection.now) }
 {
@@ -231,7 +245,7 @@ fn has_set(selection: &Selection) -> bool
 
 /// Writes a selection without selections of its own.
 #[inline(always)]
-#[tactic(auto, using(crate::proofs::SelectionShapes::nesting_field, crate::proofs::SelectionShapes::nesting_spread, crate::proofs::SelectionShapes::nesting_inline))]
+#[tactic(auto, using(crate::proofs::layout::SelectionShapes::nesting_field, crate::proofs::layout::SelectionShapes::nesting_spread, crate::proofs::layout::SelectionShapes::nesting_inline))]
 fn write_leaf<'a, O: Target>(
     out: &mut O,
     place: &Place<'_>,
@@ -239,13 +253,15 @@ fn write_leaf<'a, O: Target>(
     selection: &'a Selection,
 )
     requires leaf { has_set (selection_tree selection.now) ≡ false }
-    requires ready { CanWrite place.now stack.old (selection_nesting (selection_tree selection.now)) }
+    requires ready { CanWrite place.now stack.old
+        (selection_nesting (selection_tree selection.now)) }
     ensures kept { IsKept stack.old stack.new }
-    ensures written { Writes O.wrote out.old out.new place.now (selection_shape (selection_tree selection.now)) }
+    ensures written { Writes O.wrote out.old out.new place.now
+        (selection_shape (selection_tree selection.now)) }
 {
     match selection {
         Selection::Field(field) => write_field_head(out, place, stack, field),
-        Selection::FragmentSpread(spread) => write_fragment_spread(out, place, stack, spread),
+        Selection::FragmentSpread(spread) => spread.write_at(out, place, stack),
         Selection::InlineFragment(fragment) => {
             write_inline_fragment_head(out, place, stack, fragment);
             write_words(out, " {}");
@@ -261,12 +277,14 @@ fn write_leaves<'a, O: Target>(
     stack: &mut Stack<ValueEntry<'a>>,
     selections: &'a [Selection],
 ) -> &'a [Selection]
-    requires fits { place.now.level + selection_set_nesting (selection_trees selections.now) ≤ 2 ^ 64 }
+    requires fits { place.now.level + selection_set_nesting (selection_trees selections.now)
+        ≤ 2 ^ 64 }
     requires ready { IsReady stack.old (selection_set_nesting (selection_trees selections.now)) }
     ensures kept { IsKept stack.old stack.new }
     ensures nesting { selection_set_nesting (selection_trees result.now)
         ≤ selection_set_nesting (selection_trees selections.now) }
-    ensures written { WritesBeginning O.wrote out.old out.new (mode_of place.now.prefix) place.now.level
+    ensures written { WritesBeginning O.wrote out.old out.new
+        (mode_of place.now.prefix) place.now.level
         (curly_rest (selections_shapes (selection_trees selections.now)))
         place.now.level (curly_rest (selections_shapes (selection_trees result.now))) }
 {
@@ -294,7 +312,8 @@ fn write_next<'a, O: Target>(
     requires { CanGoOn here.old.level stacks.old entry }
     ensures prefix { here.new.prefix ≡ here.old.prefix }
     ensures kept { LoseNoRoom stacks.old stacks.new }
-    ensures written { GoesOn O.wrote out.old out.new (mode_of here.old.prefix) here.old.level here.new.level
+    ensures written { GoesOn O.wrote out.old out.new
+        (mode_of here.old.prefix) here.old.level here.new.level
         entry.entry (stack_entries stacks.old.selections) (stack_entries stacks.new.selections) }
 {
     match entry.rest.split_first() {
@@ -323,7 +342,8 @@ fn write_entry<'a, O: Target>(
     requires { CanGoOn here.old.level stacks.old entry }
     ensures prefix { here.new.prefix ≡ here.old.prefix }
     ensures kept { LoseNoRoom stacks.old stacks.new }
-    ensures written { GoesOn O.wrote out.old out.new (mode_of here.old.prefix) here.old.level here.new.level
+    ensures written { GoesOn O.wrote out.old out.new
+        (mode_of here.old.prefix) here.old.level here.new.level
         entry.entry (stack_entries stacks.old.selections) (stack_entries stacks.new.selections) }
 {
     let rest = write_leaves(out, here, &mut stacks.definitions.values, entry.rest);
@@ -351,34 +371,20 @@ pub(crate) fn finish_sets<'a, O: Target>(
 }
 
 /// Writes a selection set. The stacks are empty before and after, and have room for what waits meanwhile.
-pub fn write_selection_set<'a, O: Target>(
+pub(crate) fn write_selection_set<'a, O: Target>(
     out: &mut O,
     place: &Place<'_>,
     stacks: &mut ExecutableStacks<'a>,
     selections: &'a [Selection],
 )
-    requires { CanWriteExecutable place.now stacks.old (selection_set_nesting (selection_trees selections.now)) 0 }
+    requires { CanWriteExecutable place.now stacks.old
+        (selection_set_nesting (selection_trees selections.now)) 0 }
     ensures kept { AreAllKept stacks.old stacks.new }
-    ensures written { Writes O.wrote out.old out.new place.now (selection_set_shape (selection_trees selections.now)) }
+    ensures written { Writes O.wrote out.old out.new place.now
+        (selection_set_shape (selection_trees selections.now)) }
 {
     let mut here = *place;
     open_set(out, &mut here, &mut stacks.selections, selections);
-    finish_sets(out, &mut here, stacks);
-}
-
-/// Writes a selection.
-pub fn write_selection<'a, O: Target>(
-    out: &mut O,
-    place: &Place<'_>,
-    stacks: &mut ExecutableStacks<'a>,
-    selection: &'a Selection,
-)
-    requires { CanWriteExecutable place.now stacks.old (selection_nesting (selection_tree selection.now)) 0 }
-    ensures kept { AreAllKept stacks.old stacks.new }
-    ensures written { WritesPart O.wrote out.old out.new place.now selection_kind (selection_tree selection.now) }
-{
-    let mut here = *place;
-    open_selection(out, &mut here, stacks, selection);
     finish_sets(out, &mut here, stacks);
 }
 
@@ -401,19 +407,21 @@ impl Selection {
     /// The allocator of its directives.
     fn allocator(&self) -> Global {
         match self {
-            Selection::Field(field) => *field.directives.0.allocator(),
-            Selection::FragmentSpread(spread) => *spread.directives.0.allocator(),
-            Selection::InlineFragment(fragment) => *fragment.directives.0.allocator(),
+            Selection::Field(field) => field.directives.allocator(),
+            Selection::FragmentSpread(spread) => spread.directives.allocator(),
+            Selection::InlineFragment(fragment) => fragment.directives.allocator(),
         }
     }
 }
 
-impl Syntax for Selection {
+impl SyntaxTree for Selection {
     ghost kind = { selection_kind };
 
     ghost tree = { selection_tree };
 
     ghost laws = { selection_laws };
+
+    ghost list_depth = { no_types };
 
     fn is_well_formed(&self) -> bool {
         Selection::is_well_formed(self)
@@ -422,17 +430,28 @@ impl Syntax for Selection {
     fn find_nesting(&self) -> Option<usize> {
         find_selection_nesting(self)
     }
+}
 
-    fn write<O: Target>(
-        &self,
+impl Syntax for Selection {
+    fn write<O: Target>(&self, out: &mut O, start: &Start<'_>) -> Result<(), AllocError> {
+        write_whole(self, out, start)
+    }
+}
+
+impl<'t> Written<'t, ExecutableStacks<'t>> for Selection {
+    fn reserve(&'t self, depth: usize) -> Result<ExecutableStacks<'t>, AllocError> {
+        ExecutableStacks::reserve(self.allocator(), depth, Some(0))
+    }
+
+    fn write_at<O: Target>(
+        &'t self,
         out: &mut O,
         place: &Place<'_>,
-        depth: usize,
-    ) -> Result<(), AllocError> {
-        let mut stacks = ExecutableStacks::reserve(self.allocator(), depth, 0)?;
-        write_first_indent(out, place);
-        write_selection(out, place, &mut stacks, self);
-        Ok(())
+        stacks: &mut ExecutableStacks<'t>,
+    ) {
+        let mut here = *place;
+        open_selection(out, &mut here, stacks, self);
+        finish_sets(out, &mut here, stacks);
     }
 }
 

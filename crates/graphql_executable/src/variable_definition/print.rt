@@ -1,71 +1,38 @@
-//! Variable definitions are printed: the writer of one, and its `Syntax`.
+//! Variable definitions are printed.
 ghost use Rattle.std.specs.Prelude.{◌≡◌, Some};
-ghost use Rattle.graphql_text.specs.Levels.{IsCount};
-ghost use Rattle.graphql_text.specs.Printing.{IsDefaultPrint, default_bytes};
-ghost use Rattle.graphql_text.specs.Writing.{WritesPart};
-ghost use Rattle.graphql_values.specs.Stacks.{AreKept, CanWriteDefinition};
-ghost use Rattle.graphql_values.specs.TypeReferences.{list_depth};
-ghost use Rattle.graphql_executable.specs.ExecutableTrees.{variable_definition_tree, variable_definition_trees};
-ghost use Rattle.graphql_executable.specs.VariableDefinitions.{variable_definition_kind, variables_list_depth, wants_lines};
-ghost use Rattle.graphql_executable.specs.lemmas.VariableDefinitions.{variable_definition_balanced, variable_definition_laws};
+ghost use Rattle.std.specs.List.{list_any};
+ghost use Rattle.graphql_text.specs.kinds.Printing.{IsDefaultPrint, default_bytes};
+ghost use Rattle.graphql_values.specs.kinds.TypeReferences.{list_depth};
+ghost use Rattle.graphql_executable.specs.trees.ExecutableTrees.{variable_definition_tree, variable_definition_trees};
+ghost use Rattle.graphql_executable.specs.kinds.VariableDefinitions.{variable_definition_kind, wants_lines};
+ghost use Rattle.graphql_executable.specs.lemmas.VariableDefinitions.{variable_definition_laws};
 
 use crate::optional_parts::write_optional_directives;
 use crate::variable_definition::VariableDefinition;
 use graphql_base::node::Node;
-use graphql_text::engine::{Serialize, Syntax};
+use graphql_text::engine::{Serialize, Syntax, SyntaxTree};
 use graphql_text::writers::{
-    Place, Target, write_first_indent, write_leading_description, write_name, write_words,
+    HasTypes, Place, Start, Target, Written, write_leading_description, write_name, write_whole,
+    write_words,
 };
 use graphql_values::writers::{
-    Constness, Parameter, Stacks, are_directives_well_formed, find_default_value_nesting,
-    find_directives_nesting, find_list_depth, find_parameters_list_depth,
+    Constness, Stacks, are_directives_well_formed, find_default_value_nesting, find_list_depth,
     is_default_value_well_formed, write_default_value, write_type,
 };
 use std::alloc::AllocError;
 use std::fmt;
 
-/// Whether the default value and the directives are well formed, each at a constant place.
-pub fn is_variable_definition_well_formed(variable: &VariableDefinition) -> bool
-    ensures { result ≡ variable_definition_kind.obeys (variable_definition_tree variable.now) }
+/// Whether one of the variables has a description, and so wants lines of its own.
+#[inline(always)]
+pub(crate) fn some_variables_want_lines(variables: &[Node<VariableDefinition>]) -> bool
+    ensures { result ≡ list_any wants_lines (variable_definition_trees variables.now) }
 {
-    is_default_value_well_formed(variable.default_value.as_ref())
-        && are_directives_well_formed(&variable.directives.0, Constness::Const)
-}
-
-/// How deep the groups of a variable definition stand in one another. `None` if it is above `usize::MAX`.
-pub fn find_variable_definition_nesting(variable: &VariableDefinition) -> Option<usize>
-    ensures { IsCount result (variable_definition_kind.nesting (variable_definition_tree variable.now)) }
-{
-    let value = find_default_value_nesting(variable.default_value.as_ref())?;
-    Some(value.max(find_directives_nesting(&variable.directives.0)?))
-}
-
-/// Writes a variable definition.
-pub fn write_variable_definition<'a, O: Target>(
-    out: &mut O,
-    place: &Place<'_>,
-    stacks: &mut Stacks<'a>,
-    variable: &'a VariableDefinition,
-)
-    requires { CanWriteDefinition place.now stacks.old
-        (variable_definition_kind.nesting (variable_definition_tree variable.now))
-        (list_depth (variable_definition_tree variable.now).body.type) }
-    ensures kept { AreKept stacks.old stacks.new }
-    ensures written { WritesPart O.wrote out.old out.new place.now
-        variable_definition_kind (variable_definition_tree variable.now) }
-{
-    write_leading_description(out, place, variable.description.as_ref());
-    write_words(out, "$");
-    write_name(out, &variable.name);
-    write_words(out, ": ");
-    write_type(out, &mut stacks.types, &variable.ty);
-    write_default_value(
-        out,
-        place,
-        &mut stacks.values,
-        variable.default_value.as_ref(),
-    );
-    write_optional_directives(out, place, &mut stacks.values, &variable.directives.0);
+    for variable in variables {
+        if variable.description.is_some() {
+            return true;
+        }
+    }
+    false
 }
 
 impl VariableDefinition {
@@ -81,88 +48,70 @@ impl VariableDefinition {
     pub fn is_well_formed(&self) -> bool
         ensures { result ≡ variable_definition_kind.obeys (variable_definition_tree self.now) }
     {
-        is_variable_definition_well_formed(self)
+        is_default_value_well_formed(self.default_value.as_ref())
+            && are_directives_well_formed(&self.directives, Constness::Const)
     }
 }
 
-impl Syntax for VariableDefinition {
+impl SyntaxTree for VariableDefinition {
     ghost kind = { variable_definition_kind };
 
     ghost tree = { variable_definition_tree };
 
     ghost laws = { variable_definition_laws };
 
+    ghost list_depth = { λ variable. list_depth variable.body.type };
+
     fn is_well_formed(&self) -> bool {
         VariableDefinition::is_well_formed(self)
     }
 
     fn find_nesting(&self) -> Option<usize> {
-        find_variable_definition_nesting(self)
+        let value = find_default_value_nesting(self.default_value.as_ref())?;
+        Some(value.max(self.directives.find_nesting()?))
+    }
+}
+
+impl HasTypes for VariableDefinition {
+    fn find_list_depth(&self) -> Option<usize> {
+        find_list_depth(&self.ty)
+    }
+}
+
+impl Syntax for VariableDefinition {
+    fn write<O: Target>(&self, out: &mut O, start: &Start<'_>) -> Result<(), AllocError> {
+        write_whole(self, out, start)
+    }
+}
+
+impl<'t> Written<'t, Stacks<'t>> for VariableDefinition {
+    fn reserve(&'t self, depth: usize) -> Result<Stacks<'t>, AllocError> {
+        Stacks::reserve(self.directives.allocator(), depth, self.find_list_depth())
     }
 
-    fn write<O: Target>(
-        &self,
-        out: &mut O,
-        place: &Place<'_>,
-        depth: usize,
-    ) -> Result<(), AllocError> {
-        let alloc = *self.directives.0.allocator();
-        let list_depth = find_list_depth(&self.ty).ok_or(AllocError)?;
-        let mut stacks = Stacks::reserve(alloc, depth, list_depth)?;
-        write_first_indent(out, place);
-        write_variable_definition(out, place, &mut stacks, self);
-        Ok(())
+    fn write_at<O: Target>(&'t self, out: &mut O, place: &Place<'_>, stacks: &mut Stacks<'t>) {
+        let VariableDefinition {
+            description,
+            name,
+            ty,
+            default_value,
+            directives,
+        } = self;
+        write_leading_description(out, place, description.as_ref());
+        write_words(out, "$");
+        write_name(out, name);
+        write_words(out, ": ");
+        write_type(out, &mut stacks.types, ty);
+        write_default_value(out, place, &mut stacks.values, default_value.as_ref());
+        write_optional_directives(out, place, &mut stacks.values, directives);
     }
 }
 
 impl fmt::Display for VariableDefinition {
-    ghost output = { λ variable. Some (default_bytes variable_definition_kind (variable_definition_tree variable)) };
+    ghost output = { λ variable.
+        Some (default_bytes variable_definition_kind (variable_definition_tree variable)) };
 
     fn fmt<W: fmt::Write>(&self, f: &mut fmt::Formatter<W>) -> fmt::Result {
         self.serialize().fmt(f)
     }
-}
-
-impl Parameter for VariableDefinition {
-    ghost kind = { variable_definition_kind };
-
-    ghost tree = { variable_definition_tree };
-
-    ghost list_depth = { λ variable. list_depth variable.body.type };
-
-    ghost wants_line = { wants_lines };
-
-    fn is_parameter_well_formed(variable: &VariableDefinition) -> bool {
-        is_variable_definition_well_formed(variable)
-    }
-
-    fn find_parameter_nesting(variable: &VariableDefinition) -> Option<usize> {
-        find_variable_definition_nesting(variable)
-    }
-
-    fn find_parameter_list_depth(variable: &VariableDefinition) -> Option<usize> {
-        find_list_depth(&variable.ty)
-    }
-
-    fn wants_line(variable: &VariableDefinition) -> bool {
-        variable.description.is_some()
-    }
-
-    fn write_parameter<'a, O: Target>(
-        out: &mut O,
-        place: &Place<'_>,
-        stacks: &mut Stacks<'a>,
-        variable: &'a VariableDefinition,
-    ) {
-        write_variable_definition(out, place, stacks, variable);
-    }
-
-    ghost balanced = { variable_definition_balanced };
-}
-
-/// How many lists stand around the name in the type of a variable that has most. `None` if it is above `usize::MAX`.
-pub fn find_variables_list_depth(variables: &[Node<VariableDefinition>]) -> Option<usize>
-    ensures { IsCount result (variables_list_depth (variable_definition_trees variables.now)) }
-{
-    find_parameters_list_depth(variables)
 }

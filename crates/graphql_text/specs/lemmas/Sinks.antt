@@ -1,7 +1,8 @@
 -- Lemmas, no definitions: how what was done to a sink follows on.
-use Rattle.std.proofs.Common.{◌≡◌, ℕ, ◌+◌, List, [], ◌++◌, Option, Some, None, refl, ap, sym, ◌∙◌, append_assoc, append-nil, arith, length-append, Bool, true, false, subst}
+use Rattle.std.proofs.Common.{◌≡◌, ℕ, ◌+◌, List, [], ◌++◌, Option, Some, None, refl, ap, sym, ◌∙◌, append_assoc, append-nil, arith}
+use Rattle.std.proofs.Common.{length-append, Bool, true, false, subst}
 use Rattle.std.specs.Io.KnownBytes.{Appends}
-use Rattle.graphql_text.specs.Sinks.{SinkTook, SinkFaulted, SinkTookBeginning, SendsBuffered}
+use Rattle.graphql_text.specs.code.Sinks.{SinkTook, SinkFaulted, SinkTookBeginning, SendsBuffered}
 
 pub appends_nothing : (x : Option (List ℕ)) → Appends x x []
 appends_nothing None = tt
@@ -18,7 +19,10 @@ module _ {S : Type 0} {taken : S → Option (List ℕ)} {faults : S → ℕ} whe
   took_nothing a = record { appended = appends_nothing (taken a); counted = refl }
 
   pub took_more : {a b c : S} {x y : List ℕ} → SinkTook taken faults a x b → SinkTook taken faults b y c → SinkTook taken faults a (x ++ y) c
-  took_more {a} {b} {c} {x} {y} h k = record { appended = appends_more (taken a) (taken b) (taken c) x y h.appended k.appended; counted = k.counted ∙ h.counted }
+  took_more {a} {b} {c} {x} {y} h k = record {
+    appended = appends_more (taken a) (taken b) (taken c) x y h.appended k.appended;
+    counted = k.counted ∙ h.counted;
+  }
 
   pub faulted_later : {a b c : S} {x y : List ℕ} → SinkTook taken faults a x b → SinkFaulted taken faults b y c → SinkFaulted taken faults a (x ++ y) c
   faulted_later {a} {b} {c} {x} {y} h k = record {
@@ -50,14 +54,16 @@ module _ {S : Type 0} {taken : S → Option (List ℕ)} {faults : S → ℕ} whe
     counted = k.counted ∙ h.counted;
   }
 
-  beginning_more : {a b c : S} {q r : List ℕ} (p x y : List ℕ) → SinkTookBeginning taken faults a (p ++ x) b q → SinkTookBeginning taken faults b (q ++ y) c r → SinkTookBeginning taken faults a (p ++ (x ++ y)) c r
+  beginning_more : {a b c : S} {q r : List ℕ} (p x y : List ℕ) → SinkTookBeginning taken faults a (p ++ x) b q →
+      SinkTookBeginning taken faults b (q ++ y) c r → SinkTookBeginning taken faults a (p ++ (x ++ y)) c r
   beginning_more {a} {b} {c} {q} {r} p x y h k = record {
     sent = h.sent ++ k.sent;
     whole = sym (append_assoc p x y) ∙ ap (λ t. t ++ y) h.whole ∙ append_assoc h.sent q y ∙ ap (λ t. h.sent ++ t) k.whole ∙ sym (append_assoc h.sent k.sent r);
     took = took_more h.took k.took;
   }
 
-  beginning_faulted : {a b c : S} {q : List ℕ} (p x y : List ℕ) → SinkTookBeginning taken faults a (p ++ x) b q → SinkFaulted taken faults b (q ++ y) c → SinkFaulted taken faults a (p ++ (x ++ y)) c
+  beginning_faulted : {a b c : S} {q : List ℕ} (p x y : List ℕ) → SinkTookBeginning taken faults a (p ++ x) b q →
+      SinkFaulted taken faults b (q ++ y) c → SinkFaulted taken faults a (p ++ (x ++ y)) c
   beginning_faulted {a} {b} {c} {q} p x y h k =
       subst (λ t. SinkFaulted taken faults a t c) (sym (append_assoc h.sent q y) ∙ ap (λ t. t ++ y) (sym h.whole) ∙ append_assoc p x y) (faulted_later h.took k)
 
@@ -70,11 +76,13 @@ module _ {S : Type 0} (taken : S → Option (List ℕ)) (faults : S → ℕ) whe
   buffered_idle a true p x e = took_nothing a
   buffered_idle a false p x e = absurd cc
 
-  pub buffered_more : (a b c : S) (s t u : Bool) (p q r x y : List ℕ) → SendsBuffered taken faults a s p x b t q → SendsBuffered taken faults b t q y c u r → SendsBuffered taken faults a s p (x ++ y) c u r
+  pub buffered_more : (a b c : S) (s t u : Bool) (p q r x y : List ℕ) → SendsBuffered taken faults a s p x b t q →
+      SendsBuffered taken faults b t q y c u r → SendsBuffered taken faults a s p (x ++ y) c u r
   buffered_more a b c true true true p q r x y h k = took_more h k
   buffered_more a b c true true false p q r x y h k = absurd k
   buffered_more a b c true false u p q r x y h k = absurd h
-  buffered_more a b c false true true p q r x y h k = λ few. subst (λ t. SinkFaulted taken faults a t c) (append_assoc p x y) (faulted_before y (faulted_quiet (h few) k))
+  buffered_more a b c false true true p q r x y h k =
+      λ few. subst (λ t. SinkFaulted taken faults a t c) (append_assoc p x y) (faulted_before y (faulted_quiet (h few) k))
   buffered_more a b c false true false p q r x y h k = absurd k
   buffered_more a b c false false true p q r x y h k = λ few. let e = (h few).took.counted in beginning_faulted p x y (h few) (k (omega (arith, few, e)))
   buffered_more a b c false false false p q r x y h k = λ few. let e = (h few).took.counted in beginning_more p x y (h few) (k (omega (arith, few, e)))

@@ -2,7 +2,7 @@
 use Rattle.std.proofs.Common.{◌≡◌, ℕ, List, [], ◌++◌, refl, ap, sym, ◌∙◌, append_assoc, append-nil, Bool, true, false}
 use Rattle.std.specs.declared.fmt.Formatter.{Formatter}
 use Rattle.std.proofs.lemmas.Grind.{put_two}
-use Rattle.graphql_text.specs.Targets.{TextGrew, FormatterTook}
+use Rattle.graphql_text.specs.code.Targets.{TextGrew, FormatterTook}
 
 pub grew_nothing : (a : List ℕ) (s : Bool) → TextGrew a s [] a s
 grew_nothing a true = tt
@@ -29,7 +29,8 @@ module _ {W : Type 0} (took : W → List ℕ → W → Type 0) where
   formatted_idle a true x e = tt
   formatted_idle a false x e = absurd cc
 
-  pub formatted_more : (a b c : Formatter W) (s t u : Bool) (x y : List ℕ) → FormatterTook took a s x b t → FormatterTook took b t y c u → FormatterTook took a s (x ++ y) c u
+  pub formatted_more : (a b c : Formatter W) (s t u : Bool) (x y : List ℕ) → FormatterTook took a s x b t → FormatterTook took b t y c u →
+      FormatterTook took a s (x ++ y) c u
   formatted_more a b c true t true x y h k = tt
   formatted_more a b c true true false x y h k = absurd k
   formatted_more a b c true false false x y h k = absurd h

@@ -14,7 +14,7 @@ pub struct StreamSink<W> {
 }
 
 impl<W: Write> StreamSink<W> {
-    ghost use Rattle.graphql_text.specs.Stream.{stream_error, stream_writer};
+    ghost use Rattle.graphql_text.specs.code.Stream.{stream_error, stream_writer};
 
     /// A sink over this writer, which has counted no fault.
     pub fn new(writer: W) -> StreamSink<W>

@@ -1,7 +1,7 @@
 //! A sink that keeps the bytes in memory.
 ghost use Rattle.std.specs.Prelude.{◌≡◌, ◌+◌, [], length, Some, IfOk, OnOk, OnErr};
 ghost use Rattle.std.specs.Io.KnownBytes.{WriteAppends};
-ghost use Rattle.graphql_text.specs.Sinks.{CanFault};
+ghost use Rattle.graphql_text.specs.code.Sinks.{CanFault};
 
 use crate::sink::{SinkFault, TextSink};
 use std::alloc::Global;
@@ -48,7 +48,8 @@ impl TextSink for VecSink {
     fn put(&mut self, bytes: &[u8]) -> Result<usize, SinkFault>
         requires { CanFault self.old.faults }
         ensures whole { IfOk result (λ n. n ≡ length bytes.now) }
-        ensures bytes { WriteAppends (Some self.old.bytes.items) (Some self.new.bytes.items) result bytes.now }
+        ensures bytes { WriteAppends (Some self.old.bytes.items)
+            (Some self.new.bytes.items) result bytes.now }
         ensures ok { OnOk result (self.new.faults ≡ self.old.faults) }
         ensures err { OnErr result (self.new.faults ≡ self.old.faults + 1) }
     {

@@ -1,73 +1,21 @@
-//! Enum types are printed: the writers of definitions and extensions, and their `Syntax`.
+//! Enum types are printed.
 ghost use Rattle.std.specs.Prelude.{◌≡◌, Some};
-ghost use Rattle.graphql_text.specs.Printing.{IsDefaultPrint, default_bytes};
-ghost use Rattle.graphql_type_system.specs.EnumTypes.{enum_type_definition_kind, enum_type_extension_kind};
-ghost use Rattle.graphql_type_system.specs.TypeSystemTrees.{enum_type_definition_tree, enum_type_extension_tree};
+ghost use Rattle.graphql_text.specs.kinds.PrintedKinds.{no_types};
+ghost use Rattle.graphql_text.specs.kinds.Printing.{IsDefaultPrint, default_bytes};
+ghost use Rattle.graphql_type_system.specs.kinds.EnumTypes.{enum_type_definition_kind, enum_type_extension_kind};
+ghost use Rattle.graphql_type_system.specs.trees.TypeSystemTrees.{enum_type_definition_tree, enum_type_extension_tree};
 ghost use Rattle.graphql_type_system.specs.lemmas.Kinds.{enum_type_definition_laws, enum_type_extension_laws};
-ghost use Rattle.graphql_text.specs.Writing.{WritesPart};
-ghost use Rattle.graphql_values.specs.Stacks.{AreKept, CanWriteDefinition};
 
-use crate::braced_type::write_braced_type;
 use crate::enum_type::{EnumTypeDefinition, EnumTypeExtension};
-use crate::members::{are_directives_and_members_well_formed, find_directives_and_members_nesting};
-use graphql_text::engine::{Serialize, Syntax};
+use crate::members::write_directives_and_members;
+use graphql_text::engine::{Serialize, Syntax, SyntaxTree};
 use graphql_text::writers::{
-    Place, Target, write_first_indent, write_leading_description, write_words,
+    Place, Start, Target, Written, are_parts_well_formed, find_parts_nesting,
+    write_leading_description, write_name, write_whole, write_words,
 };
-use graphql_values::writers::Stacks;
+use graphql_values::writers::{Constness, Stacks, are_directives_well_formed};
 use std::alloc::AllocError;
 use std::fmt;
-
-/// Writes a definition of an enum type.
-pub fn write_enum_type_definition<'a, O: Target>(
-    out: &mut O,
-    place: &Place<'_>,
-    stacks: &mut Stacks<'a>,
-    definition: &'a EnumTypeDefinition,
-)
-    requires { CanWriteDefinition place.now stacks.old
-        (enum_type_definition_kind.nesting (enum_type_definition_tree definition.now))
-        0 }
-    ensures kept { AreKept stacks.old stacks.new }
-    ensures written { WritesPart O.wrote out.old out.new place.now
-        enum_type_definition_kind (enum_type_definition_tree definition.now) }
-{
-    write_leading_description(out, place, definition.description.as_ref());
-    write_words(out, "enum ");
-    write_braced_type(
-        out,
-        place,
-        stacks,
-        &definition.name,
-        &definition.directives,
-        &definition.values,
-    );
-}
-
-/// Writes an extension of an enum type.
-pub fn write_enum_type_extension<'a, O: Target>(
-    out: &mut O,
-    place: &Place<'_>,
-    stacks: &mut Stacks<'a>,
-    definition: &'a EnumTypeExtension,
-)
-    requires { CanWriteDefinition place.now stacks.old
-        (enum_type_extension_kind.nesting (enum_type_extension_tree definition.now))
-        0 }
-    ensures kept { AreKept stacks.old stacks.new }
-    ensures written { WritesPart O.wrote out.old out.new place.now
-        enum_type_extension_kind (enum_type_extension_tree definition.now) }
-{
-    write_words(out, "extend enum ");
-    write_braced_type(
-        out,
-        place,
-        stacks,
-        &definition.name,
-        &definition.directives,
-        &definition.values,
-    );
-}
 
 impl EnumTypeDefinition {
     /// The definition in the default layout, for `print_to`, `to_text` or another layout.
@@ -81,36 +29,52 @@ impl EnumTypeDefinition {
     pub fn is_well_formed(&self) -> bool
         ensures { result ≡ enum_type_definition_kind.obeys (enum_type_definition_tree self.now) }
     {
-        are_directives_and_members_well_formed(&self.directives, &self.values)
+        are_directives_well_formed(&self.directives, Constness::Const)
+            && are_parts_well_formed(&self.values)
     }
 }
 
-impl Syntax for EnumTypeDefinition {
+impl SyntaxTree for EnumTypeDefinition {
     ghost kind = { enum_type_definition_kind };
 
     ghost tree = { enum_type_definition_tree };
 
     ghost laws = { enum_type_definition_laws };
 
+    ghost list_depth = { no_types };
+
     fn is_well_formed(&self) -> bool {
         EnumTypeDefinition::is_well_formed(self)
     }
 
     fn find_nesting(&self) -> Option<usize> {
-        find_directives_and_members_nesting(&self.directives, &self.values)
+        let directives = self.directives.find_nesting()?;
+        Some(directives.max(find_parts_nesting(&self.values)?))
+    }
+}
+
+impl Syntax for EnumTypeDefinition {
+    fn write<O: Target>(&self, out: &mut O, start: &Start<'_>) -> Result<(), AllocError> {
+        write_whole(self, out, start)
+    }
+}
+
+impl<'t> Written<'t, Stacks<'t>> for EnumTypeDefinition {
+    fn reserve(&'t self, depth: usize) -> Result<Stacks<'t>, AllocError> {
+        Stacks::reserve(self.directives.allocator(), depth, Some(0))
     }
 
-    fn write<O: Target>(
-        &self,
-        out: &mut O,
-        place: &Place<'_>,
-        depth: usize,
-    ) -> Result<(), AllocError> {
-        let alloc = *self.directives.0.allocator();
-        let mut stacks = Stacks::reserve(alloc, depth, 0)?;
-        write_first_indent(out, place);
-        write_enum_type_definition(out, place, &mut stacks, self);
-        Ok(())
+    fn write_at<O: Target>(&'t self, out: &mut O, place: &Place<'_>, stacks: &mut Stacks<'t>) {
+        let EnumTypeDefinition {
+            description,
+            name,
+            directives,
+            values,
+        } = self;
+        write_leading_description(out, place, description.as_ref());
+        write_words(out, "enum ");
+        write_name(out, name);
+        write_directives_and_members(out, place, stacks, directives, values);
     }
 }
 
@@ -135,37 +99,51 @@ impl EnumTypeExtension {
     pub fn is_well_formed(&self) -> bool
         ensures { result ≡ enum_type_extension_kind.obeys (enum_type_extension_tree self.now) }
     {
-        (!self.directives.0.is_empty() || !self.values.is_empty())
-            && are_directives_and_members_well_formed(&self.directives, &self.values)
+        (!self.directives.is_empty() || !self.values.is_empty())
+            && are_directives_well_formed(&self.directives, Constness::Const)
+            && are_parts_well_formed(&self.values)
     }
 }
 
-impl Syntax for EnumTypeExtension {
+impl SyntaxTree for EnumTypeExtension {
     ghost kind = { enum_type_extension_kind };
 
     ghost tree = { enum_type_extension_tree };
 
     ghost laws = { enum_type_extension_laws };
 
+    ghost list_depth = { no_types };
+
     fn is_well_formed(&self) -> bool {
         EnumTypeExtension::is_well_formed(self)
     }
 
     fn find_nesting(&self) -> Option<usize> {
-        find_directives_and_members_nesting(&self.directives, &self.values)
+        let directives = self.directives.find_nesting()?;
+        Some(directives.max(find_parts_nesting(&self.values)?))
+    }
+}
+
+impl Syntax for EnumTypeExtension {
+    fn write<O: Target>(&self, out: &mut O, start: &Start<'_>) -> Result<(), AllocError> {
+        write_whole(self, out, start)
+    }
+}
+
+impl<'t> Written<'t, Stacks<'t>> for EnumTypeExtension {
+    fn reserve(&'t self, depth: usize) -> Result<Stacks<'t>, AllocError> {
+        Stacks::reserve(self.directives.allocator(), depth, Some(0))
     }
 
-    fn write<O: Target>(
-        &self,
-        out: &mut O,
-        place: &Place<'_>,
-        depth: usize,
-    ) -> Result<(), AllocError> {
-        let alloc = *self.directives.0.allocator();
-        let mut stacks = Stacks::reserve(alloc, depth, 0)?;
-        write_first_indent(out, place);
-        write_enum_type_extension(out, place, &mut stacks, self);
-        Ok(())
+    fn write_at<O: Target>(&'t self, out: &mut O, place: &Place<'_>, stacks: &mut Stacks<'t>) {
+        let EnumTypeExtension {
+            name,
+            directives,
+            values,
+        } = self;
+        write_words(out, "extend enum ");
+        write_name(out, name);
+        write_directives_and_members(out, place, stacks, directives, values);
     }
 }
 

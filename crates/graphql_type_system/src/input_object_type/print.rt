@@ -1,74 +1,21 @@
-//! Input object types are printed: the writers of definitions and extensions, and their `Syntax`.
+//! Input object types are printed.
 ghost use Rattle.std.specs.Prelude.{◌≡◌, Some};
-ghost use Rattle.graphql_text.specs.Printing.{IsDefaultPrint, default_bytes};
-ghost use Rattle.graphql_values.specs.ArgumentsDefinitions.{arguments_list_depth};
-ghost use Rattle.graphql_type_system.specs.InputObjectTypes.{input_object_type_definition_kind, input_object_type_extension_kind};
-ghost use Rattle.graphql_type_system.specs.TypeSystemTrees.{input_object_type_definition_tree, input_object_type_extension_tree};
+ghost use Rattle.graphql_text.specs.kinds.Printing.{IsDefaultPrint, default_bytes};
+ghost use Rattle.graphql_type_system.specs.kinds.InputObjectTypes.{input_object_type_definition_kind, input_object_type_extension_kind};
+ghost use Rattle.graphql_type_system.specs.trees.TypeSystemTrees.{input_object_type_definition_tree, input_object_type_extension_tree};
 ghost use Rattle.graphql_type_system.specs.lemmas.Kinds.{input_object_type_definition_laws, input_object_type_extension_laws};
-ghost use Rattle.graphql_text.specs.Writing.{WritesPart};
-ghost use Rattle.graphql_values.specs.Stacks.{AreKept, CanWriteDefinition};
+ghost use Rattle.graphql_values.specs.kinds.ArgumentsDefinitions.{arguments_list_depth};
 
-use crate::braced_type::write_braced_type;
 use crate::input_object_type::{InputObjectTypeDefinition, InputObjectTypeExtension};
-use crate::members::{are_directives_and_members_well_formed, find_directives_and_members_nesting};
-use graphql_text::engine::{Serialize, Syntax};
+use crate::members::write_directives_and_members;
+use graphql_text::engine::{Serialize, Syntax, SyntaxTree};
 use graphql_text::writers::{
-    Place, Target, write_first_indent, write_leading_description, write_words,
+    HasTypes, Place, Start, Target, Written, are_parts_well_formed, find_parts_list_depth,
+    find_parts_nesting, write_leading_description, write_name, write_whole, write_words,
 };
-use graphql_values::writers::{Stacks, find_arguments_list_depth};
+use graphql_values::writers::{Constness, Stacks, are_directives_well_formed};
 use std::alloc::AllocError;
 use std::fmt;
-
-/// Writes a definition of an input object type.
-pub fn write_input_object_type_definition<'a, O: Target>(
-    out: &mut O,
-    place: &Place<'_>,
-    stacks: &mut Stacks<'a>,
-    input: &'a InputObjectTypeDefinition,
-)
-    requires { CanWriteDefinition place.now stacks.old
-        (input_object_type_definition_kind.nesting (input_object_type_definition_tree input.now))
-        (arguments_list_depth (input_object_type_definition_tree input.now).body.members) }
-    ensures kept { AreKept stacks.old stacks.new }
-    ensures written { WritesPart O.wrote out.old out.new place.now
-        input_object_type_definition_kind (input_object_type_definition_tree input.now) }
-{
-    write_leading_description(out, place, input.description.as_ref());
-    write_words(out, "input ");
-    write_braced_type(
-        out,
-        place,
-        stacks,
-        &input.name,
-        &input.directives,
-        &input.fields,
-    );
-}
-
-/// Writes an extension of an input object type.
-pub fn write_input_object_type_extension<'a, O: Target>(
-    out: &mut O,
-    place: &Place<'_>,
-    stacks: &mut Stacks<'a>,
-    input: &'a InputObjectTypeExtension,
-)
-    requires { CanWriteDefinition place.now stacks.old
-        (input_object_type_extension_kind.nesting (input_object_type_extension_tree input.now))
-        (arguments_list_depth (input_object_type_extension_tree input.now).members) }
-    ensures kept { AreKept stacks.old stacks.new }
-    ensures written { WritesPart O.wrote out.old out.new place.now
-        input_object_type_extension_kind (input_object_type_extension_tree input.now) }
-{
-    write_words(out, "extend input ");
-    write_braced_type(
-        out,
-        place,
-        stacks,
-        &input.name,
-        &input.directives,
-        &input.fields,
-    );
-}
 
 impl InputObjectTypeDefinition {
     /// The definition in the default layout, for `print_to`, `to_text` or another layout.
@@ -80,45 +27,68 @@ impl InputObjectTypeDefinition {
 
     /// Whether the directives and the fields are well formed, each at a constant place.
     pub fn is_well_formed(&self) -> bool
-        ensures { result ≡ input_object_type_definition_kind.obeys (input_object_type_definition_tree self.now) }
+        ensures { result
+            ≡ input_object_type_definition_kind.obeys (input_object_type_definition_tree self.now) }
     {
-        are_directives_and_members_well_formed(&self.directives, &self.fields)
+        are_directives_well_formed(&self.directives, Constness::Const)
+            && are_parts_well_formed(&self.fields)
     }
 }
 
-impl Syntax for InputObjectTypeDefinition {
+impl SyntaxTree for InputObjectTypeDefinition {
     ghost kind = { input_object_type_definition_kind };
 
     ghost tree = { input_object_type_definition_tree };
 
     ghost laws = { input_object_type_definition_laws };
 
+    ghost list_depth = { λ input. arguments_list_depth input.body.members };
+
     fn is_well_formed(&self) -> bool {
         InputObjectTypeDefinition::is_well_formed(self)
     }
 
     fn find_nesting(&self) -> Option<usize> {
-        find_directives_and_members_nesting(&self.directives, &self.fields)
+        let directives = self.directives.find_nesting()?;
+        Some(directives.max(find_parts_nesting(&self.fields)?))
+    }
+}
+
+impl HasTypes for InputObjectTypeDefinition {
+    fn find_list_depth(&self) -> Option<usize> {
+        find_parts_list_depth(&self.fields)
+    }
+}
+
+impl Syntax for InputObjectTypeDefinition {
+    fn write<O: Target>(&self, out: &mut O, start: &Start<'_>) -> Result<(), AllocError> {
+        write_whole(self, out, start)
+    }
+}
+
+impl<'t> Written<'t, Stacks<'t>> for InputObjectTypeDefinition {
+    fn reserve(&'t self, depth: usize) -> Result<Stacks<'t>, AllocError> {
+        Stacks::reserve(self.directives.allocator(), depth, self.find_list_depth())
     }
 
-    fn write<O: Target>(
-        &self,
-        out: &mut O,
-        place: &Place<'_>,
-        depth: usize,
-    ) -> Result<(), AllocError> {
-        let alloc = *self.directives.0.allocator();
-        let list_depth = find_arguments_list_depth(&self.fields).ok_or(AllocError)?;
-        let mut stacks = Stacks::reserve(alloc, depth, list_depth)?;
-        write_first_indent(out, place);
-        write_input_object_type_definition(out, place, &mut stacks, self);
-        Ok(())
+    fn write_at<O: Target>(&'t self, out: &mut O, place: &Place<'_>, stacks: &mut Stacks<'t>) {
+        let InputObjectTypeDefinition {
+            description,
+            name,
+            directives,
+            fields,
+        } = self;
+        write_leading_description(out, place, description.as_ref());
+        write_words(out, "input ");
+        write_name(out, name);
+        write_directives_and_members(out, place, stacks, directives, fields);
     }
 }
 
 impl fmt::Display for InputObjectTypeDefinition {
     ghost output = { λ input.
-        Some (default_bytes input_object_type_definition_kind (input_object_type_definition_tree input)) };
+        Some (default_bytes input_object_type_definition_kind
+        (input_object_type_definition_tree input)) };
 
     fn fmt<W: fmt::Write>(&self, f: &mut fmt::Formatter<W>) -> fmt::Result {
         self.serialize().fmt(f)
@@ -135,46 +105,67 @@ impl InputObjectTypeExtension {
 
     /// Whether it adds something, and the directives and the fields are well formed, each at a constant place.
     pub fn is_well_formed(&self) -> bool
-        ensures { result ≡ input_object_type_extension_kind.obeys (input_object_type_extension_tree self.now) }
+        ensures { result
+            ≡ input_object_type_extension_kind.obeys (input_object_type_extension_tree self.now) }
     {
-        (!self.directives.0.is_empty() || !self.fields.is_empty())
-            && are_directives_and_members_well_formed(&self.directives, &self.fields)
+        (!self.directives.is_empty() || !self.fields.is_empty())
+            && are_directives_well_formed(&self.directives, Constness::Const)
+            && are_parts_well_formed(&self.fields)
     }
 }
 
-impl Syntax for InputObjectTypeExtension {
+impl SyntaxTree for InputObjectTypeExtension {
     ghost kind = { input_object_type_extension_kind };
 
     ghost tree = { input_object_type_extension_tree };
 
     ghost laws = { input_object_type_extension_laws };
 
+    ghost list_depth = { λ input. arguments_list_depth input.members };
+
     fn is_well_formed(&self) -> bool {
         InputObjectTypeExtension::is_well_formed(self)
     }
 
     fn find_nesting(&self) -> Option<usize> {
-        find_directives_and_members_nesting(&self.directives, &self.fields)
+        let directives = self.directives.find_nesting()?;
+        Some(directives.max(find_parts_nesting(&self.fields)?))
+    }
+}
+
+impl HasTypes for InputObjectTypeExtension {
+    fn find_list_depth(&self) -> Option<usize> {
+        find_parts_list_depth(&self.fields)
+    }
+}
+
+impl Syntax for InputObjectTypeExtension {
+    fn write<O: Target>(&self, out: &mut O, start: &Start<'_>) -> Result<(), AllocError> {
+        write_whole(self, out, start)
+    }
+}
+
+impl<'t> Written<'t, Stacks<'t>> for InputObjectTypeExtension {
+    fn reserve(&'t self, depth: usize) -> Result<Stacks<'t>, AllocError> {
+        Stacks::reserve(self.directives.allocator(), depth, self.find_list_depth())
     }
 
-    fn write<O: Target>(
-        &self,
-        out: &mut O,
-        place: &Place<'_>,
-        depth: usize,
-    ) -> Result<(), AllocError> {
-        let alloc = *self.directives.0.allocator();
-        let list_depth = find_arguments_list_depth(&self.fields).ok_or(AllocError)?;
-        let mut stacks = Stacks::reserve(alloc, depth, list_depth)?;
-        write_first_indent(out, place);
-        write_input_object_type_extension(out, place, &mut stacks, self);
-        Ok(())
+    fn write_at<O: Target>(&'t self, out: &mut O, place: &Place<'_>, stacks: &mut Stacks<'t>) {
+        let InputObjectTypeExtension {
+            name,
+            directives,
+            fields,
+        } = self;
+        write_words(out, "extend input ");
+        write_name(out, name);
+        write_directives_and_members(out, place, stacks, directives, fields);
     }
 }
 
 impl fmt::Display for InputObjectTypeExtension {
     ghost output = { λ input.
-        Some (default_bytes input_object_type_extension_kind (input_object_type_extension_tree input)) };
+        Some (default_bytes input_object_type_extension_kind
+        (input_object_type_extension_tree input)) };
 
     fn fmt<W: fmt::Write>(&self, f: &mut fmt::Formatter<W>) -> fmt::Result {
         self.serialize().fmt(f)

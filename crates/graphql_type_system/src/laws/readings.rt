@@ -1,50 +1,61 @@
 //! Texts that are read, and texts that are not. Not all of the first are printed of any tree.
 ghost use Rattle.std.specs.Prelude.{codes};
-ghost use Rattle.graphql_text.specs.Reading.{ReadsAs};
-ghost use Rattle.graphql_type_system.specs.Examples.{bare_enum, bare_input, bare_scalar, bare_type, bare_union, described_field, enum_with_all, enum_with_directive, enum_with_value, input_with_all, input_with_directive, input_with_field, plain, scalar_with_directive, schema_with_all, schema_with_directive, schema_with_operation, type_with_all, type_with_directive, type_with_field, type_with_interfaces, union_with_both, union_with_directive, union_with_member, value_with_directive, with_description};
-ghost use Rattle.graphql_type_system.specs.EnumTypes.{enum_type_definition_kind, enum_type_extension_kind};
-ghost use Rattle.graphql_type_system.specs.EnumValueDefinitions.{enum_value_definition_kind};
-ghost use Rattle.graphql_type_system.specs.FieldDefinitions.{field_definition_kind};
-ghost use Rattle.graphql_type_system.specs.InputObjectTypes.{input_object_type_definition_kind, input_object_type_extension_kind};
-ghost use Rattle.graphql_type_system.specs.InterfaceTypes.{interface_type_definition_kind, interface_type_extension_kind};
-ghost use Rattle.graphql_type_system.specs.ObjectTypes.{object_type_definition_kind, object_type_extension_kind};
-ghost use Rattle.graphql_type_system.specs.ScalarTypes.{scalar_type_definition_kind, scalar_type_extension_kind};
-ghost use Rattle.graphql_type_system.specs.Schemas.{schema_definition_kind, schema_extension_kind};
-ghost use Rattle.graphql_type_system.specs.UnionTypes.{union_type_definition_kind, union_type_extension_kind};
+ghost use Rattle.graphql_text.specs.kinds.Reading.{ReadsAs};
+ghost use Rattle.graphql_type_system.specs.examples.TypeSystemExamples.{bare_enum, bare_input, bare_scalar, bare_type, bare_union, described_field, enum_with_all, enum_with_directive, enum_with_value, input_with_all, input_with_directive, input_with_field, plain, scalar_with_directive, schema_with_all, schema_with_directive, schema_with_operation, type_with_all, type_with_directive, type_with_field, type_with_interfaces, union_with_both, union_with_directive, union_with_member, value_with_directive, with_description};
+ghost use Rattle.graphql_type_system.specs.kinds.EnumTypes.{enum_type_definition_kind, enum_type_extension_kind};
+ghost use Rattle.graphql_type_system.specs.kinds.EnumValueDefinitions.{enum_value_definition_kind};
+ghost use Rattle.graphql_type_system.specs.kinds.FieldDefinitions.{field_definition_kind};
+ghost use Rattle.graphql_type_system.specs.kinds.InputObjectTypes.{input_object_type_definition_kind, input_object_type_extension_kind};
+ghost use Rattle.graphql_type_system.specs.kinds.InterfaceTypes.{interface_type_definition_kind, interface_type_extension_kind};
+ghost use Rattle.graphql_type_system.specs.kinds.ObjectTypes.{object_type_definition_kind, object_type_extension_kind};
+ghost use Rattle.graphql_type_system.specs.kinds.ScalarTypes.{scalar_type_definition_kind, scalar_type_extension_kind};
+ghost use Rattle.graphql_type_system.specs.kinds.Schemas.{schema_definition_kind, schema_extension_kind};
+ghost use Rattle.graphql_type_system.specs.kinds.UnionTypes.{union_type_definition_kind, union_type_extension_kind};
 
 /// Definitions that are read, and as what: with all that they may have, and with nothing but their name. An `&` may
 /// stand before the first interface, and a `|` before the first member, though no layout prints them.
 pub fn definitions_are_read()
-    ensures scalar { ReadsAs scalar_type_definition_kind.form (codes "scalar S") (plain bare_scalar) }
+    ensures scalar { ReadsAs scalar_type_definition_kind.form (codes "scalar S")
+        (plain bare_scalar) }
     ensures described_scalar { ReadsAs scalar_type_definition_kind.form
         (codes "\"d\" scalar S @d") (with_description scalar_with_directive) }
-    ensures field { ReadsAs field_definition_kind.form (codes "\"d\" f(a: Int = 1): [String!]! @e") described_field }
+    ensures field { ReadsAs field_definition_kind.form
+        (codes "\"d\" f(a: Int = 1): [String!]! @e") described_field }
     ensures object { ReadsAs object_type_definition_kind.form
-        (codes "type T implements A & B @d { \"d\" f(a: Int = 1): [String!]! @e }") (plain type_with_all) }
-    ensures bare_object { ReadsAs object_type_definition_kind.form (codes "type T") (plain bare_type) }
+        (codes "type T implements A & B @d { \"d\" f(a: Int = 1): [String!]! @e }")
+        (plain type_with_all) }
+    ensures bare_object { ReadsAs object_type_definition_kind.form (codes "type T")
+        (plain bare_type) }
     ensures interface { ReadsAs interface_type_definition_kind.form
-        (codes "interface T implements A & B @d { \"d\" f(a: Int = 1): [String!]! @e }") (plain type_with_all) }
+        (codes "interface T implements A & B @d { \"d\" f(a: Int = 1): [String!]! @e }")
+        (plain type_with_all) }
     ensures union_type { ReadsAs union_type_definition_kind.form
         (codes "union U @d = A | B") (plain union_with_both) }
-    ensures bare_union { ReadsAs union_type_definition_kind.form (codes "union U") (plain bare_union) }
-    ensures enum_value { ReadsAs enum_value_definition_kind.form (codes "B @e") value_with_directive }
-    ensures enum_type { ReadsAs enum_type_definition_kind.form (codes "enum E @d { A B @e }") (plain enum_with_all) }
+    ensures bare_union { ReadsAs union_type_definition_kind.form (codes "union U")
+        (plain bare_union) }
+    ensures enum_value { ReadsAs enum_value_definition_kind.form
+        (codes "B @e") value_with_directive }
+    ensures enum_type { ReadsAs enum_type_definition_kind.form (codes "enum E @d { A B @e }")
+        (plain enum_with_all) }
     ensures bare_enum { ReadsAs enum_type_definition_kind.form (codes "enum E") (plain bare_enum) }
     ensures input_object { ReadsAs input_object_type_definition_kind.form
         (codes "input I @d { a: Int = 1 b: Int }") (plain input_with_all) }
-    ensures bare_input_object { ReadsAs input_object_type_definition_kind.form (codes "input I") (plain bare_input) }
+    ensures bare_input_object { ReadsAs input_object_type_definition_kind.form (codes "input I")
+        (plain bare_input) }
     ensures schema { ReadsAs schema_definition_kind.form
         (codes "schema @d { query: Q mutation: M }") (plain schema_with_all) }
     ensures described_schema { ReadsAs schema_definition_kind.form
         (codes "\"d\" schema { subscription: S }") (with_description schema_with_operation) }
     ensures leading_ampersand { ReadsAs object_type_definition_kind.form
         (codes "type T implements & A & B") (plain type_with_interfaces) }
-    ensures leading_bar { ReadsAs union_type_definition_kind.form (codes "union U = | A") (plain union_with_member) }
+    ensures leading_bar { ReadsAs union_type_definition_kind.form (codes "union U = | A")
+        (plain union_with_member) }
 {}
 
 /// Extensions that are read: with each thing that one may add, alone.
 pub fn additions_are_read()
-    ensures schema_directive { ReadsAs schema_extension_kind.form (codes "extend schema @d") schema_with_directive }
+    ensures schema_directive { ReadsAs schema_extension_kind.form
+        (codes "extend schema @d") schema_with_directive }
     ensures root_operation { ReadsAs schema_extension_kind.form
         (codes "extend schema { subscription: S }") schema_with_operation }
     ensures scalar_directive { ReadsAs scalar_type_extension_kind.form
@@ -63,9 +74,12 @@ pub fn additions_are_read()
         (codes "extend interface T { f: Int }") type_with_field }
     ensures union_directive { ReadsAs union_type_extension_kind.form
         (codes "extend union U @d") union_with_directive }
-    ensures union_member { ReadsAs union_type_extension_kind.form (codes "extend union U = A") union_with_member }
-    ensures enum_directive { ReadsAs enum_type_extension_kind.form (codes "extend enum E @d") enum_with_directive }
-    ensures enum_value { ReadsAs enum_type_extension_kind.form (codes "extend enum E { A }") enum_with_value }
+    ensures union_member { ReadsAs union_type_extension_kind.form
+        (codes "extend union U = A") union_with_member }
+    ensures enum_directive { ReadsAs enum_type_extension_kind.form
+        (codes "extend enum E @d") enum_with_directive }
+    ensures enum_value { ReadsAs enum_type_extension_kind.form
+        (codes "extend enum E { A }") enum_with_value }
     ensures input_object_directive { ReadsAs input_object_type_extension_kind.form
         (codes "extend input I @d") input_with_directive }
     ensures input_object_field { ReadsAs input_object_type_extension_kind.form

@@ -1,76 +1,22 @@
-//! Object types are printed: the writers of definitions and extensions, and their `Syntax`.
+//! Object types are printed.
 ghost use Rattle.std.specs.Prelude.{◌≡◌, Some};
-ghost use Rattle.graphql_text.specs.Printing.{IsDefaultPrint, default_bytes};
-ghost use Rattle.graphql_type_system.specs.ImplementingTypes.{fields_list_depth};
-ghost use Rattle.graphql_type_system.specs.ObjectTypes.{object_type_definition_kind, object_type_extension_kind};
-ghost use Rattle.graphql_type_system.specs.TypeSystemTrees.{object_type_definition_tree, object_type_extension_tree};
+ghost use Rattle.graphql_text.specs.kinds.Printing.{IsDefaultPrint, default_bytes};
+ghost use Rattle.graphql_type_system.specs.kinds.ImplementingTypes.{fields_list_depth};
+ghost use Rattle.graphql_type_system.specs.kinds.ObjectTypes.{object_type_definition_kind, object_type_extension_kind};
+ghost use Rattle.graphql_type_system.specs.trees.TypeSystemTrees.{object_type_definition_tree, object_type_extension_tree};
 ghost use Rattle.graphql_type_system.specs.lemmas.Kinds.{object_type_definition_laws, object_type_extension_laws};
-ghost use Rattle.graphql_text.specs.Writing.{WritesPart};
-ghost use Rattle.graphql_values.specs.Stacks.{AreKept, CanWriteDefinition};
 
-use crate::implementing_type::{find_fields_list_depth, write_implementing_type};
-use crate::members::{are_directives_and_members_well_formed, find_directives_and_members_nesting};
+use crate::joined_names::write_joined_names;
+use crate::members::write_directives_and_members;
 use crate::object_type::{ObjectTypeDefinition, ObjectTypeExtension};
-use graphql_text::engine::{Serialize, Syntax};
+use graphql_text::engine::{Serialize, Syntax, SyntaxTree};
 use graphql_text::writers::{
-    Place, Target, write_first_indent, write_leading_description, write_words,
+    HasTypes, Place, Start, Target, Written, are_parts_well_formed, find_parts_list_depth,
+    find_parts_nesting, write_leading_description, write_name, write_whole, write_words,
 };
-use graphql_values::writers::Stacks;
+use graphql_values::writers::{Constness, Stacks, are_directives_well_formed};
 use std::alloc::AllocError;
 use std::fmt;
-
-/// Writes a definition of an object type.
-pub fn write_object_type_definition<'a, O: Target>(
-    out: &mut O,
-    place: &Place<'_>,
-    stacks: &mut Stacks<'a>,
-    object: &'a ObjectTypeDefinition,
-)
-    requires { CanWriteDefinition place.now stacks.old
-        (object_type_definition_kind.nesting (object_type_definition_tree object.now))
-        (fields_list_depth (object_type_definition_tree object.now).body.fields) }
-    ensures kept { AreKept stacks.old stacks.new }
-    ensures written { WritesPart O.wrote out.old out.new place.now
-        object_type_definition_kind (object_type_definition_tree object.now) }
-{
-    write_leading_description(out, place, object.description.as_ref());
-    write_words(out, "type ");
-    write_implementing_type(
-        out,
-        place,
-        stacks,
-        &object.name,
-        &object.implements_interfaces,
-        &object.directives,
-        &object.fields,
-    );
-}
-
-/// Writes an extension of an object type.
-pub fn write_object_type_extension<'a, O: Target>(
-    out: &mut O,
-    place: &Place<'_>,
-    stacks: &mut Stacks<'a>,
-    object: &'a ObjectTypeExtension,
-)
-    requires { CanWriteDefinition place.now stacks.old
-        (object_type_extension_kind.nesting (object_type_extension_tree object.now))
-        (fields_list_depth (object_type_extension_tree object.now).fields) }
-    ensures kept { AreKept stacks.old stacks.new }
-    ensures written { WritesPart O.wrote out.old out.new place.now
-        object_type_extension_kind (object_type_extension_tree object.now) }
-{
-    write_words(out, "extend type ");
-    write_implementing_type(
-        out,
-        place,
-        stacks,
-        &object.name,
-        &object.implements_interfaces,
-        &object.directives,
-        &object.fields,
-    );
-}
 
 impl ObjectTypeDefinition {
     /// The definition in the default layout, for `print_to`, `to_text` or another layout.
@@ -82,44 +28,69 @@ impl ObjectTypeDefinition {
 
     /// Whether the directives and the fields are well formed, each at a constant place.
     pub fn is_well_formed(&self) -> bool
-        ensures { result ≡ object_type_definition_kind.obeys (object_type_definition_tree self.now) }
+        ensures { result
+            ≡ object_type_definition_kind.obeys (object_type_definition_tree self.now) }
     {
-        are_directives_and_members_well_formed(&self.directives, &self.fields)
+        are_directives_well_formed(&self.directives, Constness::Const)
+            && are_parts_well_formed(&self.fields)
     }
 }
 
-impl Syntax for ObjectTypeDefinition {
+impl SyntaxTree for ObjectTypeDefinition {
     ghost kind = { object_type_definition_kind };
 
     ghost tree = { object_type_definition_tree };
 
     ghost laws = { object_type_definition_laws };
 
+    ghost list_depth = { λ object. fields_list_depth object.body.fields };
+
     fn is_well_formed(&self) -> bool {
         ObjectTypeDefinition::is_well_formed(self)
     }
 
     fn find_nesting(&self) -> Option<usize> {
-        find_directives_and_members_nesting(&self.directives, &self.fields)
+        let directives = self.directives.find_nesting()?;
+        Some(directives.max(find_parts_nesting(&self.fields)?))
+    }
+}
+
+impl HasTypes for ObjectTypeDefinition {
+    fn find_list_depth(&self) -> Option<usize> {
+        find_parts_list_depth(&self.fields)
+    }
+}
+
+impl Syntax for ObjectTypeDefinition {
+    fn write<O: Target>(&self, out: &mut O, start: &Start<'_>) -> Result<(), AllocError> {
+        write_whole(self, out, start)
+    }
+}
+
+impl<'t> Written<'t, Stacks<'t>> for ObjectTypeDefinition {
+    fn reserve(&'t self, depth: usize) -> Result<Stacks<'t>, AllocError> {
+        Stacks::reserve(self.directives.allocator(), depth, self.find_list_depth())
     }
 
-    fn write<O: Target>(
-        &self,
-        out: &mut O,
-        place: &Place<'_>,
-        depth: usize,
-    ) -> Result<(), AllocError> {
-        let alloc = *self.directives.0.allocator();
-        let list_depth = find_fields_list_depth(&self.fields).ok_or(AllocError)?;
-        let mut stacks = Stacks::reserve(alloc, depth, list_depth)?;
-        write_first_indent(out, place);
-        write_object_type_definition(out, place, &mut stacks, self);
-        Ok(())
+    fn write_at<O: Target>(&'t self, out: &mut O, place: &Place<'_>, stacks: &mut Stacks<'t>) {
+        let ObjectTypeDefinition {
+            description,
+            name,
+            implements_interfaces,
+            directives,
+            fields,
+        } = self;
+        write_leading_description(out, place, description.as_ref());
+        write_words(out, "type ");
+        write_name(out, name);
+        write_joined_names(out, " implements ", " & ", implements_interfaces);
+        write_directives_and_members(out, place, stacks, directives, fields);
     }
 }
 
 impl fmt::Display for ObjectTypeDefinition {
-    ghost output = { λ object. Some (default_bytes object_type_definition_kind (object_type_definition_tree object)) };
+    ghost output = { λ object.
+        Some (default_bytes object_type_definition_kind (object_type_definition_tree object)) };
 
     fn fmt<W: fmt::Write>(&self, f: &mut fmt::Formatter<W>) -> fmt::Result {
         self.serialize().fmt(f)
@@ -139,44 +110,66 @@ impl ObjectTypeExtension {
         ensures { result ≡ object_type_extension_kind.obeys (object_type_extension_tree self.now) }
     {
         (!self.implements_interfaces.is_empty()
-            || !self.directives.0.is_empty()
+            || !self.directives.is_empty()
             || !self.fields.is_empty())
-            && are_directives_and_members_well_formed(&self.directives, &self.fields)
+            && are_directives_well_formed(&self.directives, Constness::Const)
+            && are_parts_well_formed(&self.fields)
     }
 }
 
-impl Syntax for ObjectTypeExtension {
+impl SyntaxTree for ObjectTypeExtension {
     ghost kind = { object_type_extension_kind };
 
     ghost tree = { object_type_extension_tree };
 
     ghost laws = { object_type_extension_laws };
 
+    ghost list_depth = { λ object. fields_list_depth object.fields };
+
     fn is_well_formed(&self) -> bool {
         ObjectTypeExtension::is_well_formed(self)
     }
 
     fn find_nesting(&self) -> Option<usize> {
-        find_directives_and_members_nesting(&self.directives, &self.fields)
+        let directives = self.directives.find_nesting()?;
+        Some(directives.max(find_parts_nesting(&self.fields)?))
+    }
+}
+
+impl HasTypes for ObjectTypeExtension {
+    fn find_list_depth(&self) -> Option<usize> {
+        find_parts_list_depth(&self.fields)
+    }
+}
+
+impl Syntax for ObjectTypeExtension {
+    fn write<O: Target>(&self, out: &mut O, start: &Start<'_>) -> Result<(), AllocError> {
+        write_whole(self, out, start)
+    }
+}
+
+impl<'t> Written<'t, Stacks<'t>> for ObjectTypeExtension {
+    fn reserve(&'t self, depth: usize) -> Result<Stacks<'t>, AllocError> {
+        Stacks::reserve(self.directives.allocator(), depth, self.find_list_depth())
     }
 
-    fn write<O: Target>(
-        &self,
-        out: &mut O,
-        place: &Place<'_>,
-        depth: usize,
-    ) -> Result<(), AllocError> {
-        let alloc = *self.directives.0.allocator();
-        let list_depth = find_fields_list_depth(&self.fields).ok_or(AllocError)?;
-        let mut stacks = Stacks::reserve(alloc, depth, list_depth)?;
-        write_first_indent(out, place);
-        write_object_type_extension(out, place, &mut stacks, self);
-        Ok(())
+    fn write_at<O: Target>(&'t self, out: &mut O, place: &Place<'_>, stacks: &mut Stacks<'t>) {
+        let ObjectTypeExtension {
+            name,
+            implements_interfaces,
+            directives,
+            fields,
+        } = self;
+        write_words(out, "extend type ");
+        write_name(out, name);
+        write_joined_names(out, " implements ", " & ", implements_interfaces);
+        write_directives_and_members(out, place, stacks, directives, fields);
     }
 }
 
 impl fmt::Display for ObjectTypeExtension {
-    ghost output = { λ object. Some (default_bytes object_type_extension_kind (object_type_extension_tree object)) };
+    ghost output = { λ object.
+        Some (default_bytes object_type_extension_kind (object_type_extension_tree object)) };
 
     fn fmt<W: fmt::Write>(&self, f: &mut fmt::Formatter<W>) -> fmt::Result {
         self.serialize().fmt(f)

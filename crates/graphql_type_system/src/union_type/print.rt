@@ -1,96 +1,20 @@
-//! Union types are printed: the writers of definitions and extensions, and their `Syntax`.
+//! Union types are printed.
 ghost use Rattle.std.specs.Prelude.{◌≡◌, Some};
-ghost use Rattle.graphql_text.specs.Printing.{IsDefaultPrint, default_bytes};
-ghost use Rattle.graphql_type_system.specs.UnionTypes.{union_type, union_type_definition_kind, union_type_extension_kind, union_type_nesting};
-ghost use Rattle.graphql_type_system.specs.TypeSystemTrees.{union_type_definition_tree, union_type_extension_tree, union_type_tree};
+ghost use Rattle.graphql_text.specs.kinds.PrintedKinds.{no_types};
+ghost use Rattle.graphql_text.specs.kinds.Printing.{IsDefaultPrint, default_bytes};
+ghost use Rattle.graphql_type_system.specs.trees.TypeSystemTrees.{union_type_definition_tree, union_type_extension_tree};
+ghost use Rattle.graphql_type_system.specs.kinds.UnionTypes.{union_type, union_type_definition_kind, union_type_extension_kind};
 ghost use Rattle.graphql_type_system.specs.lemmas.Kinds.{union_type_definition_laws, union_type_extension_laws};
-ghost use Rattle.graphql_text.specs.Writing.{WritesPart};
-ghost use Rattle.graphql_values.specs.Stacks.{AreKept, CanWriteDefinition};
 
 use crate::joined_names::write_joined_names;
 use crate::union_type::{UnionTypeDefinition, UnionTypeExtension};
-use graphql_base::name::{Name, NamedType};
-use graphql_text::engine::{Serialize, Syntax};
+use graphql_text::engine::{Serialize, Syntax, SyntaxTree};
 use graphql_text::writers::{
-    Place, Target, write_first_indent, write_leading_description, write_name, write_words,
+    Place, Start, Target, Written, write_leading_description, write_name, write_whole, write_words,
 };
-use graphql_values::directive_list::DirectiveList;
-use graphql_values::writers::{
-    Constness, Stacks, are_directives_well_formed, find_directives_nesting, write_directives,
-};
+use graphql_values::writers::{Constness, Stacks, are_directives_well_formed};
 use std::alloc::AllocError;
 use std::fmt;
-
-/// Writes what stands behind `union`.
-fn write_union_type<'a, O: Target>(
-    out: &mut O,
-    place: &Place<'_>,
-    stacks: &mut Stacks<'a>,
-    name: &Name,
-    directives: &'a DirectiveList,
-    members: &[NamedType],
-)
-    requires { CanWriteDefinition place.now stacks.old
-        (union_type_nesting (union_type_tree name.now directives.now members.now)) 0 }
-    ensures kept { AreKept stacks.old stacks.new }
-    ensures written { WritesPart O.wrote out.old out.new place.now union_type
-        (union_type_tree name.now directives.now members.now) }
-{
-    write_name(out, name);
-    write_directives(out, place, &mut stacks.values, &directives.0);
-    write_joined_names(out, " = ", " | ", members);
-}
-
-/// Writes a definition of a union type.
-pub fn write_union_type_definition<'a, O: Target>(
-    out: &mut O,
-    place: &Place<'_>,
-    stacks: &mut Stacks<'a>,
-    union: &'a UnionTypeDefinition,
-)
-    requires { CanWriteDefinition place.now stacks.old
-        (union_type_definition_kind.nesting (union_type_definition_tree union.now))
-        0 }
-    ensures kept { AreKept stacks.old stacks.new }
-    ensures written { WritesPart O.wrote out.old out.new place.now
-        union_type_definition_kind (union_type_definition_tree union.now) }
-{
-    write_leading_description(out, place, union.description.as_ref());
-    write_words(out, "union ");
-    write_union_type(
-        out,
-        place,
-        stacks,
-        &union.name,
-        &union.directives,
-        &union.members,
-    );
-}
-
-/// Writes an extension of a union type.
-pub fn write_union_type_extension<'a, O: Target>(
-    out: &mut O,
-    place: &Place<'_>,
-    stacks: &mut Stacks<'a>,
-    union: &'a UnionTypeExtension,
-)
-    requires { CanWriteDefinition place.now stacks.old
-        (union_type_extension_kind.nesting (union_type_extension_tree union.now))
-        0 }
-    ensures kept { AreKept stacks.old stacks.new }
-    ensures written { WritesPart O.wrote out.old out.new place.now
-        union_type_extension_kind (union_type_extension_tree union.now) }
-{
-    write_words(out, "extend union ");
-    write_union_type(
-        out,
-        place,
-        stacks,
-        &union.name,
-        &union.directives,
-        &union.members,
-    );
-}
 
 impl UnionTypeDefinition {
     /// The definition in the default layout, for `print_to`, `to_text` or another layout.
@@ -105,41 +29,57 @@ impl UnionTypeDefinition {
     pub fn is_well_formed(&self) -> bool
         ensures { result ≡ union_type_definition_kind.obeys (union_type_definition_tree self.now) }
     {
-        are_directives_well_formed(&self.directives.0, Constness::Const)
+        are_directives_well_formed(&self.directives, Constness::Const)
     }
 }
 
-impl Syntax for UnionTypeDefinition {
+impl SyntaxTree for UnionTypeDefinition {
     ghost kind = { union_type_definition_kind };
 
     ghost tree = { union_type_definition_tree };
 
     ghost laws = { union_type_definition_laws };
 
+    ghost list_depth = { no_types };
+
     fn is_well_formed(&self) -> bool {
         UnionTypeDefinition::is_well_formed(self)
     }
 
     fn find_nesting(&self) -> Option<usize> {
-        find_directives_nesting(&self.directives.0)
+        self.directives.find_nesting()
+    }
+}
+
+impl Syntax for UnionTypeDefinition {
+    fn write<O: Target>(&self, out: &mut O, start: &Start<'_>) -> Result<(), AllocError> {
+        write_whole(self, out, start)
+    }
+}
+
+impl<'t> Written<'t, Stacks<'t>> for UnionTypeDefinition {
+    fn reserve(&'t self, depth: usize) -> Result<Stacks<'t>, AllocError> {
+        Stacks::reserve(self.directives.allocator(), depth, Some(0))
     }
 
-    fn write<O: Target>(
-        &self,
-        out: &mut O,
-        place: &Place<'_>,
-        depth: usize,
-    ) -> Result<(), AllocError> {
-        let alloc = *self.directives.0.allocator();
-        let mut stacks = Stacks::reserve(alloc, depth, 0)?;
-        write_first_indent(out, place);
-        write_union_type_definition(out, place, &mut stacks, self);
-        Ok(())
+    fn write_at<O: Target>(&'t self, out: &mut O, place: &Place<'_>, stacks: &mut Stacks<'t>) {
+        let UnionTypeDefinition {
+            description,
+            name,
+            directives,
+            members,
+        } = self;
+        write_leading_description(out, place, description.as_ref());
+        write_words(out, "union ");
+        write_name(out, name);
+        directives.write_at(out, place, &mut stacks.values);
+        write_joined_names(out, " = ", " | ", members);
     }
 }
 
 impl fmt::Display for UnionTypeDefinition {
-    ghost output = { λ union. Some (default_bytes union_type_definition_kind (union_type_definition_tree union)) };
+    ghost output = { λ union_type.
+        Some (default_bytes union_type_definition_kind (union_type_definition_tree union_type)) };
 
     fn fmt<W: fmt::Write>(&self, f: &mut fmt::Formatter<W>) -> fmt::Result {
         self.serialize().fmt(f)
@@ -159,42 +99,56 @@ impl UnionTypeExtension {
     pub fn is_well_formed(&self) -> bool
         ensures { result ≡ union_type_extension_kind.obeys (union_type_extension_tree self.now) }
     {
-        (!self.directives.0.is_empty() || !self.members.is_empty())
-            && are_directives_well_formed(&self.directives.0, Constness::Const)
+        (!self.directives.is_empty() || !self.members.is_empty())
+            && are_directives_well_formed(&self.directives, Constness::Const)
     }
 }
 
-impl Syntax for UnionTypeExtension {
+impl SyntaxTree for UnionTypeExtension {
     ghost kind = { union_type_extension_kind };
 
     ghost tree = { union_type_extension_tree };
 
     ghost laws = { union_type_extension_laws };
 
+    ghost list_depth = { no_types };
+
     fn is_well_formed(&self) -> bool {
         UnionTypeExtension::is_well_formed(self)
     }
 
     fn find_nesting(&self) -> Option<usize> {
-        find_directives_nesting(&self.directives.0)
+        self.directives.find_nesting()
+    }
+}
+
+impl Syntax for UnionTypeExtension {
+    fn write<O: Target>(&self, out: &mut O, start: &Start<'_>) -> Result<(), AllocError> {
+        write_whole(self, out, start)
+    }
+}
+
+impl<'t> Written<'t, Stacks<'t>> for UnionTypeExtension {
+    fn reserve(&'t self, depth: usize) -> Result<Stacks<'t>, AllocError> {
+        Stacks::reserve(self.directives.allocator(), depth, Some(0))
     }
 
-    fn write<O: Target>(
-        &self,
-        out: &mut O,
-        place: &Place<'_>,
-        depth: usize,
-    ) -> Result<(), AllocError> {
-        let alloc = *self.directives.0.allocator();
-        let mut stacks = Stacks::reserve(alloc, depth, 0)?;
-        write_first_indent(out, place);
-        write_union_type_extension(out, place, &mut stacks, self);
-        Ok(())
+    fn write_at<O: Target>(&'t self, out: &mut O, place: &Place<'_>, stacks: &mut Stacks<'t>) {
+        let UnionTypeExtension {
+            name,
+            directives,
+            members,
+        } = self;
+        write_words(out, "extend union ");
+        write_name(out, name);
+        directives.write_at(out, place, &mut stacks.values);
+        write_joined_names(out, " = ", " | ", members);
     }
 }
 
 impl fmt::Display for UnionTypeExtension {
-    ghost output = { λ union. Some (default_bytes union_type_extension_kind (union_type_extension_tree union)) };
+    ghost output = { λ union_type.
+        Some (default_bytes union_type_extension_kind (union_type_extension_tree union_type)) };
 
     fn fmt<W: fmt::Write>(&self, f: &mut fmt::Formatter<W>) -> fmt::Result {
         self.serialize().fmt(f)

@@ -3,19 +3,28 @@ use Rattle.std.proofs.Common.{ℕ, refl, List, [], ◌∷◌, Bool, true, false,
 use Rattle.std.proofs.Math.Dec.{eqb-suc-zero}
 use Rattle.std.specs.Cmp.Lexicographic.{pointwise}
 use Rattle.graphql_base.specs.Names.{is_name}
-use Rattle.graphql_text.specs.Tokens.{at, bar, Token, Punctuation, Name}
-use Rattle.graphql_text.specs.Forms.{a_punctuator, a_keyword, a_name, a_string_value, token, no_tokens, never}
-use Rattle.graphql_text.specs.Members.{has_some}
-use Rattle.graphql_text.specs.Reading.{Laws}
-use Rattle.graphql_text.proofs.KindParts.{described_part, part_laws}
-use Rattle.graphql_text.proofs.Parsing.{Parser, ◌>>=◌, pure, leaf, alt, Reads, seq, last, leaf_reads, alt_0, alt_empty, wider, never_reads, accept, mark_reads, word_reads, parse_optional, optional_reads, parse_each, each_reads}
-use Rattle.graphql_text.proofs.Parts.{Part, KindPart, name_then, word_then, mark_then, space_then, part_then, plain_then, restated, retold}
-use Rattle.graphql_text.proofs.PrintedTokens.{Tail, joined_tokens}
-use Rattle.graphql_text.proofs.RowParts.{told_joined_names, joined_names_written}
-use Rattle.graphql_text.proofs.Telling.{Told, told_nothing, told_word, told_space}
-use Rattle.graphql_text.proofs.Tests.{not_of}
-use Rattle.graphql_values.specs.DirectiveDefinitions.{repeatable_form, directive_locations_form, directive_definition_form, repeatable_shape, directive_locations_shape, directive_definition_shape, directive_definition_body, directive_definition_kind}
-use Rattle.graphql_values.specs.DirectiveLocations.{DirectiveLocationTree, location_name, location_form, Query, Mutation, Subscription, Field, FragmentDefinition, FragmentSpread, InlineFragment, VariableDefinition, Schema, Scalar, Object, FieldDefinition, ArgumentDefinition, Interface, Union, Enum, EnumValue, InputObject, InputFieldDefinition}
+use Rattle.graphql_text.specs.lexical.Tokens.{at, bar, Token, Punctuation, Name}
+use Rattle.graphql_text.specs.grammar.Forms.{a_punctuator, a_keyword, a_name, a_string_value, token, no_tokens, never}
+use Rattle.graphql_text.specs.parts.Members.{has_some}
+use Rattle.graphql_text.specs.kinds.Reading.{Laws}
+use Rattle.graphql_text.proofs.parts.KindParts.{described_part, part_laws}
+use Rattle.graphql_text.proofs.grammar.FormParsers.{Parser, ◌>>=◌, pure, leaf, alt, Reads, seq, last, leaf_reads, alt_0, alt_empty, wider}
+use Rattle.graphql_text.proofs.grammar.FormParsers.{never_reads, accept, mark_reads, word_reads, parse_optional, optional_reads, parse_each}
+use Rattle.graphql_text.proofs.grammar.FormParsers.{each_reads}
+use Rattle.graphql_text.proofs.parts.Parts.{Part, KindPart, name_then, word_then, mark_then, space_then, part_then, plain_then, restated, retold}
+use Rattle.graphql_text.proofs.parts.PartTokens.{Tail, joined_tokens}
+use Rattle.graphql_text.proofs.parts.RowParts.{told_joined_names, joined_names_written}
+use Rattle.graphql_text.proofs.parts.ToldShapes.{Told, told_nothing, told_word, told_space}
+use Rattle.graphql_text.proofs.general.BooleanTests.{not_of}
+use Rattle.graphql_values.specs.kinds.DirectiveDefinitions.{repeatable_form, directive_locations_form, repeatable_shape}
+use Rattle.graphql_values.specs.kinds.DirectiveDefinitions.{directive_locations_shape, directive_definition_body, directive_definition_kind}
+use Rattle.graphql_values.specs.kinds.DirectiveLocations.{DirectiveLocationTree, location_name, location_form}
+use Rattle.graphql_values.specs.declared.directive_location.DirectiveLocation.TheVariants.{Query, Mutation, Subscription, Field}
+use Rattle.graphql_values.specs.declared.directive_location.DirectiveLocation.TheVariants.{FragmentDefinition, FragmentSpread}
+use Rattle.graphql_values.specs.declared.directive_location.DirectiveLocation.TheVariants.{InlineFragment, VariableDefinition, Schema}
+use Rattle.graphql_values.specs.declared.directive_location.DirectiveLocation.TheVariants.{Scalar, Object, FieldDefinition}
+use Rattle.graphql_values.specs.declared.directive_location.DirectiveLocation.TheVariants.{ArgumentDefinition, Interface, Union, Enum}
+use Rattle.graphql_values.specs.declared.directive_location.DirectiveLocation.TheVariants.{EnumValue, InputObject, InputFieldDefinition}
 use Rattle.graphql_values.specs.lemmas.InputValueDefinitions.{arguments_definition_part}
 
 -- READERS OF LOCATIONS AND OF `repeatable` FIND THEM
@@ -65,7 +74,8 @@ location_is_read l = leaf_reads _ (Name (location_name l)) (a_name []) (location
 unfoldable pub repeatable_reader : Parser Bool
 repeatable_reader = alt (a_keyword (codes "repeatable") ∷ []) (accept (a_keyword (codes "repeatable")) >>= λ t. pure true) (pure false)
 
-pub repeatable_is_read : {k : ℕ} (b : Bool) → Reads k repeatable_reader b (repeatable_form b) (a_keyword (codes "repeatable") ∷ []) (a_keyword (codes "repeatable") ∷ []) true
+pub repeatable_is_read : {k : ℕ} (b : Bool) →
+    Reads k repeatable_reader b (repeatable_form b) (a_keyword (codes "repeatable") ∷ []) (a_keyword (codes "repeatable") ∷ []) true
 unfolding repeatable_reader
 repeatable_is_read true = wider (alt_0 _ _ (last _ (word_reads (codes "repeatable"))) refl) refl refl (λ z. refl)
 repeatable_is_read false = alt_empty _ _ _ _ refl
@@ -75,7 +85,8 @@ directive_locations_reader =
     accept (a_keyword (codes "on")) >>= λ t. parse_optional (a_punctuator bar) >>= λ u. location_reader >>= λ l.
     parse_each (a_punctuator bar ∷ []) (accept (a_punctuator bar) >>= λ t. location_reader) >>= λ ls. pure (l ∷ ls)
 
-pub directive_locations_are_read : {k : ℕ} (ls : List DirectiveLocationTree) → Reads k directive_locations_reader ls (directive_locations_form ls) (a_punctuator bar ∷ []) (a_keyword (codes "on") ∷ []) false
+pub directive_locations_are_read : {k : ℕ} (ls : List DirectiveLocationTree) →
+    Reads k directive_locations_reader ls (directive_locations_form ls) (a_punctuator bar ∷ []) (a_keyword (codes "on") ∷ []) false
 unfolding directive_locations_reader
 directive_locations_are_read [] = never_reads
 directive_locations_are_read (l ∷ ls) =
@@ -98,7 +109,8 @@ unfolding token no_tokens repeatable_tokens
 repeatable_written true rest = refl
 repeatable_written false rest = refl
 
-unfoldable pub repeatable_part : Part repeatable_form (λ broken. repeatable_shape) (λ b. 0) (λ b. true) (a_keyword (codes "repeatable") ∷ []) (a_keyword (codes "repeatable") ∷ []) true [] true
+unfoldable pub repeatable_part : Part repeatable_form (λ broken. repeatable_shape) (λ b. 0) (λ b. true)
+    (a_keyword (codes "repeatable") ∷ []) (a_keyword (codes "repeatable") ∷ []) true [] true
 repeatable_part = record {
   tokens = repeatable_tokens;
   parser = repeatable_reader;
@@ -144,7 +156,8 @@ locations_obeyed [] ts rest x = absurd x
 locations_obeyed (l ∷ ls) ts rest x = not_of _ (eqb-suc-zero _)
 
 -- DirectiveLocations, section 3.13, behind `on`
-unfoldable pub directive_locations_part : Part directive_locations_form (λ broken. directive_locations_shape) (λ ls. 0) has_some (a_punctuator bar ∷ []) (a_keyword (codes "on") ∷ []) false [] true
+unfoldable pub directive_locations_part : Part directive_locations_form (λ broken. directive_locations_shape) (λ ls. 0) has_some
+    (a_punctuator bar ∷ []) (a_keyword (codes "on") ∷ []) false [] true
 directive_locations_part = record {
   tokens = joined_tokens (Name (codes "on")) bar (λ l rest. Name (location_name l) ∷ rest);
   parser = directive_locations_reader;
@@ -156,13 +169,15 @@ directive_locations_part = record {
 
 -- DirectiveDefinition, section 3.13, behind its description
 unfoldable pub directive_definition_body_part : KindPart directive_definition_body (a_punctuator bar ∷ []) (a_keyword (codes "directive") ∷ []) false [] false
-unfolding directive_definition_form directive_definition_shape
 directive_definition_body_part = restated (λ definition. omega arith) (λ definition. refl) (retold
-    (λ x. record { name = x.0; arguments = x.1.0; repeatable = x.1.1.0; locations = x.1.1.1 }) (λ definition. (definition.name, (definition.arguments, (definition.repeatable, definition.locations)))) (λ definition. refl)
-    (word_then (codes "directive") refl (space_then (mark_then at refl (name_then [] (part_then arguments_definition_part (plain_then repeatable_part directive_locations_part refl) refl))))))
+    (λ x. record { name = x.0; arguments = x.1.0; repeatable = x.1.1.0; locations = x.1.1.1 })
+    (λ definition. (definition.name, (definition.arguments, (definition.repeatable, definition.locations)))) (λ definition. refl)
+    (word_then (codes "directive") refl (space_then (mark_then at refl
+    (name_then [] (part_then arguments_definition_part (plain_then repeatable_part directive_locations_part refl) refl))))))
 
 -- DirectiveDefinition, section 3.13
-unfoldable pub directive_definition_part : KindPart directive_definition_kind (a_punctuator bar ∷ []) (a_string_value ∷ a_keyword (codes "directive") ∷ []) false [] false
+unfoldable pub directive_definition_part :
+    KindPart directive_definition_kind (a_punctuator bar ∷ []) (a_string_value ∷ a_keyword (codes "directive") ∷ []) false [] false
 directive_definition_part = described_part directive_definition_body directive_definition_body_part refl
 
 pub directive_definition_laws : Laws directive_definition_kind

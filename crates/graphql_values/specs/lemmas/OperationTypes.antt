@@ -1,13 +1,14 @@
 -- Lemmas, no definitions of the product: operation types as a part, and their words.
 use Rattle.std.proofs.Common.{◌≡◌, refl, ℕ, Some, true, false, List, [], ◌∷◌, codes}
 use Rattle.graphql_base.specs.Names.{is_name}
-use Rattle.graphql_text.specs.Tokens.{Name}
-use Rattle.graphql_text.specs.Forms.{TokenClass, a_keyword, token}
-use Rattle.graphql_text.specs.Writing.{fixed_text}
-use Rattle.graphql_text.proofs.Parsing.{Parser, Reads, ◌>>=◌, pure, alt, alt_0, alt_1, wider, accept, word_reads, last}
-use Rattle.graphql_text.proofs.Parts.{Part}
-use Rattle.graphql_text.proofs.Telling.{told_nothing, told_word}
-use Rattle.graphql_values.specs.OperationTypes.{OperationTypeTree, Query, Mutation, Subscription, operation_type_name, operation_type_form, operation_type_shape}
+use Rattle.graphql_text.specs.lexical.Tokens.{Name}
+use Rattle.graphql_text.specs.grammar.Forms.{TokenClass, a_keyword, token}
+use Rattle.graphql_text.specs.code.Writing.{fixed_text}
+use Rattle.graphql_text.proofs.grammar.FormParsers.{Parser, Reads, ◌>>=◌, pure, alt, alt_0, alt_1, wider, accept, word_reads, last}
+use Rattle.graphql_text.proofs.parts.Parts.{Part}
+use Rattle.graphql_text.proofs.parts.ToldShapes.{told_nothing, told_word}
+use Rattle.graphql_values.specs.kinds.OperationTypes.{OperationTypeTree, Query, Mutation, Subscription, operation_type_name}
+use Rattle.graphql_values.specs.kinds.OperationTypes.{operation_type_form, operation_type_shape}
 
 pub operation_type_is_name : (type : OperationTypeTree) → is_name (operation_type_name type) ≡ true
 operation_type_is_name Query = refl
@@ -23,7 +24,8 @@ operation_type_fixed Subscription = refl
 unfoldable pub operation_word_reader : OperationTypeTree → Parser OperationTypeTree
 operation_word_reader type = accept (a_keyword (operation_type_name type)) >>= λ t. pure type
 
-operation_reads : {k : ℕ} (type : OperationTypeTree) → Reads k (operation_word_reader type) type (operation_type_form type) [] (a_keyword (operation_type_name type) ∷ []) false
+operation_reads : {k : ℕ} (type : OperationTypeTree) →
+    Reads k (operation_word_reader type) type (operation_type_form type) [] (a_keyword (operation_type_name type) ∷ []) false
 unfolding operation_word_reader
 operation_reads type = last (λ t. type) (word_reads (operation_type_name type))
 
@@ -31,7 +33,9 @@ abbrev pub operation_type_words : List TokenClass
 operation_type_words = a_keyword (codes "query") ∷ a_keyword (codes "mutation") ∷ a_keyword (codes "subscription") ∷ []
 
 unfoldable pub operation_type_reader : Parser OperationTypeTree
-operation_type_reader = alt (a_keyword (codes "query") ∷ []) (operation_word_reader Query) (alt (a_keyword (codes "mutation") ∷ []) (operation_word_reader Mutation) (operation_word_reader Subscription))
+operation_type_reader =
+    alt (a_keyword (codes "query") ∷ []) (operation_word_reader Query)
+    (alt (a_keyword (codes "mutation") ∷ []) (operation_word_reader Mutation) (operation_word_reader Subscription))
 
 pub operation_type_is_read : (k : ℕ) (type : OperationTypeTree) → Reads k operation_type_reader type (operation_type_form type) [] operation_type_words false
 unfolding operation_type_reader

@@ -1,15 +1,18 @@
 -- Lemmas, no definitions of the product: types as a part, and their laws.
 use Rattle.std.proofs.Common.{ℕ, zero, suc, refl, List, [], ◌∷◌, Bool, true, false}
-use Rattle.graphql_text.specs.Literals.{NameText}
-use Rattle.graphql_text.specs.Tokens.{bang, lbracket, rbracket, Token, Punctuation, Name}
-use Rattle.graphql_text.specs.Forms.{Form, token, no_tokens, ◌⨟◌, name_except, TokenClass, a_punctuator, a_name}
-use Rattle.graphql_text.specs.Reading.{Laws}
-use Rattle.graphql_text.proofs.KindParts.{part_laws}
-use Rattle.graphql_text.proofs.Parsing.{Parser, ◌>>=◌, pure, fail, alt, Reads, seq, seq_in, last, alt_0, alt_1, wider, at_zero, accept, mark_reads, parse_name, name_reads, bounded, bounded_reads, via, add_empty, alt_empty}
-use Rattle.graphql_text.proofs.Parts.{Part}
-use Rattle.graphql_text.proofs.PrintedTokens.{Tail}
-use Rattle.graphql_text.proofs.Telling.{Told, told_nothing, told_weaker, told_mark, told_name, told_type}
-use Rattle.graphql_values.specs.TypeReferences.{TypeTree, named_type, non_null_named_type, list_type, non_null_list_type, type_form, type_shape, type_kind}
+use Rattle.graphql_text.specs.lexical.Literals.{NameText}
+use Rattle.graphql_text.specs.lexical.Tokens.{bang, lbracket, rbracket, Token, Punctuation, Name}
+use Rattle.graphql_text.specs.grammar.Forms.{Form, token, no_tokens, ◌⨟◌, name_except, TokenClass, a_punctuator, a_name}
+use Rattle.graphql_text.specs.kinds.Reading.{Laws}
+use Rattle.graphql_text.proofs.parts.KindParts.{part_laws}
+use Rattle.graphql_text.proofs.grammar.FormParsers.{Parser, ◌>>=◌, pure, fail, alt, Reads, seq, seq_in, last, alt_0, alt_1, wider, at_zero}
+use Rattle.graphql_text.proofs.grammar.FormParsers.{accept, mark_reads, parse_name, name_reads, bounded, bounded_reads, via, add_empty}
+use Rattle.graphql_text.proofs.grammar.FormParsers.{alt_empty}
+use Rattle.graphql_text.proofs.parts.Parts.{Part}
+use Rattle.graphql_text.proofs.parts.PartTokens.{Tail}
+use Rattle.graphql_text.proofs.parts.ToldShapes.{Told, told_nothing, told_weaker, told_mark, told_name, told_type}
+use Rattle.graphql_values.specs.kinds.TypeReferences.{TypeTree, named_type, non_null_named_type, list_type, non_null_list_type, type_form}
+use Rattle.graphql_values.specs.kinds.TypeReferences.{type_shape, type_kind}
 
 -- THE TOKENS OF A TYPE AS IT IS PRINTED, IN FRONT OF THOSE THAT FOLLOW
 
@@ -85,8 +88,10 @@ type_reads k (named_type s) = wider (via (add_empty _) (alt_0 _ _ (seq _ (name_r
 type_reads k (non_null_named_type s) = wider (alt_0 _ _ (seq _ (name_reads [] s) (last _ bang_reads) refl) refl) refl refl (λ z. z)
 type_reads zero (list_type t) = wider (via (add_after _ _ _) (at_zero (mark_reads lbracket) (in_list zero t (type_reads zero t)))) refl refl (λ z. z)
 type_reads zero (non_null_list_type t) = wider (at_zero (mark_reads lbracket) (in_non_null_list zero t (type_reads zero t))) refl refl (λ z. z)
-type_reads (suc k) (list_type t) = wider (via (add_after _ _ _) (alt_1 _ _ (seq_in _ (mark_reads lbracket) (in_list k t (type_reads k t)) refl) refl)) refl refl (λ z. z)
-type_reads (suc k) (non_null_list_type t) = wider (alt_1 _ _ (seq_in _ (mark_reads lbracket) (in_non_null_list k t (type_reads k t)) refl) refl) refl refl (λ z. z)
+type_reads (suc k) (list_type t) =
+    wider (via (add_after _ _ _) (alt_1 _ _ (seq_in _ (mark_reads lbracket) (in_list k t (type_reads k t)) refl) refl)) refl refl (λ z. z)
+type_reads (suc k) (non_null_list_type t) =
+    wider (alt_1 _ _ (seq_in _ (mark_reads lbracket) (in_non_null_list k t (type_reads k t)) refl) refl) refl refl (λ z. z)
 
 unfoldable pub type_reader : Parser TypeTree
 type_reader = bounded (λ k. type_step (type_in k))

@@ -1,18 +1,27 @@
 -- Lemmas, no definitions of the product: values as a part, and their laws.
 use Rattle.std.proofs.Common.{ℕ, zero, suc, ◌≤◌, refl, List, [], ◌∷◌, Bool, true, false, IsTrue, Option, None, arith, le_refl, codes}
-use Rattle.graphql_text.specs.Literals.{NameText, IntText, FloatText}
-use Rattle.graphql_text.specs.Tokens.{dollar, colon, lbracket, rbracket, lbrace, rbrace, Token, Punctuation, Name, IntValue, FloatValue, StringValue}
-use Rattle.graphql_text.specs.Forms.{token, no_tokens, ◌⨟◌, name_except, only_if, TokenClass, a_punctuator, a_keyword, a_name, an_int, a_float, a_string_value}
-use Rattle.graphql_text.specs.Layout.{AsValue}
-use Rattle.graphql_text.specs.Reading.{Laws}
-use Rattle.graphql_text.proofs.Checked.{checked_text, checked_text_found}
-use Rattle.graphql_text.proofs.KindParts.{got_text, text_reads, part_laws}
-use Rattle.graphql_text.proofs.Parsing.{Parser, ◌>>=◌, pure, fail, leaf, alt, Reads, seq, seq_in, last, leaf_reads, alt_0, alt_1, wider, lower, many, many_none, many_more, at_zero, accept, mark_reads, word_reads, parse_name, name_reads, bounded, bounded_reads}
-use Rattle.graphql_text.proofs.Parts.{Part}
-use Rattle.graphql_text.proofs.PrintedTokens.{Tail}
-use Rattle.graphql_text.proofs.Telling.{Told, told_nothing, told_weaker, told_mark, told_word, told_name, told_int, told_float, told_string, told_space, Row, no_row, row_more, told_comma_group}
-use Rattle.graphql_text.proofs.Tests.{first_holds, second_holds, both_hold, false_of, not_of}
-use Rattle.graphql_values.specs.Values.{Constness, Const, NonConst, ValueTree, ValueTrees, ObjectFieldTrees, null_value, enum_value, variable, string_value, float_value, int_value, boolean_value, list_value, object_value, no_values, more_values, no_fields, more_fields, not_enum_values, value_form, values_form, object_fields_form, value_shape, values_shapes, object_fields_shapes, value_nesting, values_nestings, object_fields_nestings, value_obeys, values_obey, object_fields_obey, value_kind}
+use Rattle.graphql_text.specs.lexical.Literals.{NameText, IntText, FloatText}
+use Rattle.graphql_text.specs.lexical.Tokens.{dollar, colon, lbracket, rbracket, lbrace, rbrace, Token, Punctuation, Name, IntValue, FloatValue, StringValue}
+use Rattle.graphql_text.specs.grammar.Forms.{token, no_tokens, ◌⨟◌, name_except, only_if, TokenClass, a_punctuator, a_keyword, a_name}
+use Rattle.graphql_text.specs.grammar.Forms.{an_int, a_float, a_string_value}
+use Rattle.graphql_text.specs.layout.Layout.{AsValue}
+use Rattle.graphql_text.specs.kinds.Reading.{Laws}
+use Rattle.graphql_text.proofs.lexical.CheckedTexts.{checked_text, checked_text_found}
+use Rattle.graphql_text.proofs.parts.KindParts.{got_text, text_reads, part_laws}
+use Rattle.graphql_text.proofs.grammar.FormParsers.{Parser, ◌>>=◌, pure, fail, leaf, alt, Reads, seq, seq_in, last, leaf_reads, alt_0}
+use Rattle.graphql_text.proofs.grammar.FormParsers.{alt_1, wider, lower, many, many_none, many_more, at_zero, accept, mark_reads}
+use Rattle.graphql_text.proofs.grammar.FormParsers.{word_reads, parse_name, name_reads, bounded, bounded_reads}
+use Rattle.graphql_text.proofs.parts.Parts.{Part}
+use Rattle.graphql_text.proofs.parts.PartTokens.{Tail}
+use Rattle.graphql_text.proofs.parts.ToldShapes.{Told, told_nothing, told_weaker, told_mark, told_word, told_name, told_int, told_float}
+use Rattle.graphql_text.proofs.parts.ToldShapes.{told_string, told_space, Row, no_row, row_more, told_comma_group}
+use Rattle.graphql_text.proofs.general.BooleanTests.{first_holds, second_holds, both_hold, false_of, not_of}
+use Rattle.graphql_values.specs.kinds.Values.{Constness, Const, NonConst, ValueTree, ValueTrees, ObjectFieldTrees, null_value, enum_value}
+use Rattle.graphql_values.specs.kinds.Values.{variable, string_value, float_value, int_value, boolean_value, list_value, object_value}
+use Rattle.graphql_values.specs.kinds.Values.{no_values, more_values, no_fields, more_fields, not_enum_values, value_form, values_form}
+use Rattle.graphql_values.specs.kinds.Values.{object_fields_form, value_shape, values_shapes, object_fields_shapes, value_nesting}
+use Rattle.graphql_values.specs.kinds.Values.{values_nestings, object_fields_nestings, value_obeys, values_obey, object_fields_obey}
+use Rattle.graphql_values.specs.kinds.Values.{value_kind}
 
 -- THE TOKENS OF A VALUE AS IT IS PRINTED, IN FRONT OF THOSE THAT FOLLOW
 
@@ -60,7 +69,8 @@ mutual
 
   told_object_fields : (broken : Bool) (es : ObjectFieldTrees) → Row (object_fields_shapes broken es) (object_fields_tokens es) (object_fields_nestings es)
   told_object_fields broken no_fields = no_row
-  told_object_fields broken (more_fields s v es) = row_more (told_name s (told_mark colon refl (told_space (told_value broken v)))) (told_object_fields broken es)
+  told_object_fields broken (more_fields s v es) =
+      row_more (told_name s (told_mark colon refl (told_space (told_value broken v)))) (told_object_fields broken es)
 
 -- A READER OF VALUES FINDS IT
 
@@ -129,7 +139,8 @@ float_reads : {k : ℕ} (s : FloatText) → Reads k (leaf got_float) s (token (F
 unfolding got_float
 float_reads s = leaf_reads _ (FloatValue s.text) a_float (checked_text_found s) refl
 
-variable_reads : {k : ℕ} (c : Constness) (s : NameText) → Reads k (variable_reader c) (variable s) (value_form c (variable s)) [] (a_punctuator dollar ∷ []) false
+variable_reads : {k : ℕ} (c : Constness) (s : NameText) →
+    Reads k (variable_reader c) (variable s) (value_form c (variable s)) [] (a_punctuator dollar ∷ []) false
 unfolding variable_reader value_form only_if unless_const
 variable_reads NonConst s =
     let x = seq _ (mark_reads dollar) (last (λ s. variable s) (name_reads [] s)) refl in
@@ -156,15 +167,33 @@ mutual
   value_reads k c null_value =
       wider (alt_1 _ _ (alt_1 _ _ (alt_1 _ _ (alt_1 _ _ (alt_0 _ _ (last _ (word_reads (codes "null"))) refl) refl) refl) refl) refl) refl refl (λ z. z)
   value_reads k c (boolean_value true) =
-      wider (alt_1 _ _ (alt_1 _ _ (alt_1 _ _ (alt_1 _ _ (alt_1 _ _ (alt_0 _ _ (last _ (word_reads (codes "true"))) refl) refl) refl) refl) refl) refl) refl refl (λ z. z)
+      wider
+      (alt_1 _ _ (alt_1 _ _
+      (alt_1 _ _ (alt_1 _ _ (alt_1 _ _ (alt_0 _ _ (last _ (word_reads (codes "true"))) refl) refl) refl) refl) refl) refl)
+      refl refl
+      (λ z. z)
   value_reads k c (boolean_value false) =
-      wider (alt_1 _ _ (alt_1 _ _ (alt_1 _ _ (alt_1 _ _ (alt_1 _ _ (alt_1 _ _ (alt_0 _ _ (last _ (word_reads (codes "false"))) refl) refl) refl) refl) refl) refl) refl) refl refl (λ z. z)
+      wider
+      (alt_1 _ _ (alt_1 _ _ (alt_1 _ _
+      (alt_1 _ _ (alt_1 _ _ (alt_1 _ _ (alt_0 _ _ (last _ (word_reads (codes "false"))) refl) refl) refl) refl) refl) refl)
+      refl) refl refl
+      (λ z. z)
   value_reads k c (enum_value s) =
-      wider (alt_1 _ _ (alt_1 _ _ (alt_1 _ _ (alt_1 _ _ (alt_1 _ _ (alt_1 _ _ (alt_1 _ _ (alt_0 _ _ (last _ (name_reads not_enum_values s)) refl) refl) refl) refl) refl) refl) refl) refl) refl refl (λ z. z)
+      wider
+      (alt_1 _ _ (alt_1 _ _ (alt_1 _ _ (alt_1 _ _
+      (alt_1 _ _ (alt_1 _ _ (alt_1 _ _ (alt_0 _ _ (last _ (name_reads not_enum_values s)) refl) refl) refl) refl) refl)
+      refl) refl) refl) refl refl
+      (λ z. z)
   value_reads zero c (list_value vs) =
-      wider (at_zero (mark_reads lbracket) (seq (λ vs. accept (a_punctuator rbracket) >>= λ t. pure (list_value vs)) (values_read 0 0 (le_refl 0) c vs) (last _ (mark_reads rbracket)) refl)) refl refl (λ z. z)
+      wider
+      (at_zero (mark_reads lbracket) (seq (λ vs. accept (a_punctuator rbracket) >>= λ t. pure (list_value vs))
+      (values_read 0 0 (le_refl 0) c vs) (last _ (mark_reads rbracket)) refl)) refl refl
+      (λ z. z)
   value_reads zero c (object_value es) =
-      wider (at_zero (mark_reads lbrace) (seq (λ es. accept (a_punctuator rbrace) >>= λ t. pure (object_value es)) (object_fields_read 0 0 (le_refl 0) c es) (last _ (mark_reads rbrace)) refl)) refl refl (λ z. z)
+      wider
+      (at_zero (mark_reads lbrace) (seq (λ es. accept (a_punctuator rbrace) >>= λ t. pure (object_value es))
+      (object_fields_read 0 0 (le_refl 0) c es) (last _ (mark_reads rbrace)) refl)) refl refl
+      (λ z. z)
   value_reads (suc k) c (list_value vs) =
       wider (alt_1 _ _ (alt_1 _ _ (alt_1 _ _ (alt_1 _ _ (alt_1 _ _ (alt_1 _ _ (alt_1 _ _ (alt_1 _ _ (alt_0 _ _
       (seq_in _ (mark_reads lbracket) (seq _ (values_read k k (le_refl k) c vs) (last _ (mark_reads rbracket)) refl) refl)
@@ -174,18 +203,24 @@ mutual
       (seq_in _ (mark_reads lbrace) (seq _ (object_fields_read k k (le_refl k) c es) (last _ (mark_reads rbrace)) refl) refl)
       refl) refl) refl) refl) refl) refl) refl) refl) refl) refl) refl refl (λ z. z)
 
-  values_read : (k j : ℕ) → j ≤ k → (c : Constness) (vs : ValueTrees) → Reads j (values_reader j (value_reader_of k c)) vs (values_form c vs) value_first_tokens value_first_tokens true
+  values_read : (k j : ℕ) → j ≤ k → (c : Constness) (vs : ValueTrees) →
+      Reads j (values_reader j (value_reader_of k c)) vs (values_form c vs) value_first_tokens value_first_tokens true
   values_read k j le c no_values = wider (many_none _ _ value_first_tokens j _) refl refl (λ z. z)
   values_read k zero le c (more_values v vs) = wider (at_zero (lower le (value_reads k c v)) (values_read k zero le c vs)) refl refl (λ z. refl)
   values_read k (suc j) le c (more_values v vs) =
       wider (many_more _ _ value_first_tokens _ (lower le (value_reads k c v)) (values_read k j (omega (arith, le)) c vs) refl refl) refl refl (λ z. refl)
 
-  object_fields_read : (k j : ℕ) → j ≤ k → (c : Constness) (es : ObjectFieldTrees) → Reads j (object_fields_reader j (value_reader_of k c)) es (object_fields_form c es) object_field_first_tokens object_field_first_tokens true
+  object_fields_read : (k j : ℕ) → j ≤ k → (c : Constness) (es : ObjectFieldTrees) →
+      Reads j (object_fields_reader j (value_reader_of k c)) es
+      (object_fields_form c es) object_field_first_tokens object_field_first_tokens true
   object_fields_read k j le c no_fields = wider (many_none _ _ object_field_first_tokens j _) refl refl (λ z. z)
   object_fields_read k zero le c (more_fields s v es) =
       wider (at_zero (object_field_reads c s (lower le (value_reads k c v))) (object_fields_read k zero le c es)) refl refl (λ z. refl)
   object_fields_read k (suc j) le c (more_fields s v es) =
-      wider (many_more _ _ object_field_first_tokens _ (object_field_reads c s (lower le (value_reads k c v))) (object_fields_read k j (omega (arith, le)) c es) refl refl) refl refl (λ z. refl)
+      wider
+      (many_more _ _ object_field_first_tokens _ (object_field_reads c s (lower le (value_reads k c v)))
+      (object_fields_read k j (omega (arith, le)) c es) refl refl) refl refl
+      (λ z. refl)
 
 unfoldable pub value_reader : Constness → Parser ValueTree
 value_reader c = bounded (λ k. value_reader_of k c)
@@ -216,10 +251,14 @@ mutual
   values_written c (more_values v vs) o r =
       (_, value_written c v (first_holds (value_obeys c v) (values_obey c vs) o) _, values_written c vs (second_holds (value_obeys c v) (values_obey c vs) o) r)
 
-  object_fields_written : (c : Constness) (fs : ObjectFieldTrees) → IsTrue (object_fields_obey c fs) → (r : List Token) → object_fields_form c fs (object_fields_tokens fs r) r
+  object_fields_written : (c : Constness) (fs : ObjectFieldTrees) → IsTrue (object_fields_obey c fs) → (r : List Token) →
+      object_fields_form c fs (object_fields_tokens fs r) r
   object_fields_written c no_fields o r = refl
-  object_fields_written c (more_fields s v fs) o r =
-      (_, (_, (refl, refl), (_, refl, value_written c v (first_holds (value_obeys c v) (object_fields_obey c fs) o) _)), object_fields_written c fs (second_holds (value_obeys c v) (object_fields_obey c fs) o) r)
+  object_fields_written c (more_fields s v fs) o r = (
+    _,
+    (_, (refl, refl), (_, refl, value_written c v (first_holds (value_obeys c v) (object_fields_obey c fs) o) _)),
+    object_fields_written c fs (second_holds (value_obeys c v) (object_fields_obey c fs) o) r,
+  )
 
 -- WHAT IS DERIVED OBEYS THE SIDE CONDITIONS
 

@@ -1,18 +1,18 @@
 //! Arguments are written: in parentheses, on one line in every layout.
 ghost use Rattle.std.specs.Prelude.{◌≡◌, None};
-ghost use Rattle.graphql_text.specs.Levels.{IsCount};
-ghost use Rattle.graphql_text.specs.Stack.{CanWrite, IsKept};
-ghost use Rattle.graphql_text.specs.Writing.{Writes, WritesItems};
-ghost use Rattle.graphql_values.specs.Arguments.{argument_items, arguments_nesting, arguments_obey, arguments_shape};
-ghost use Rattle.graphql_values.specs.DirectiveTrees.{argument_tree, argument_trees};
-ghost use Rattle.graphql_values.specs.ValueTrees.{constness_of};
-ghost use Rattle.graphql_values.specs.Values.{value_nesting};
+ghost use Rattle.graphql_text.specs.layout.Levels.{IsCount};
+ghost use Rattle.graphql_text.specs.code.Stack.{CanWrite, IsKept};
+ghost use Rattle.graphql_text.specs.code.Writing.{Writes, WritesItems};
+ghost use Rattle.graphql_values.specs.kinds.Arguments.{argument_items, arguments_nesting, arguments_obey, arguments_shape};
+ghost use Rattle.graphql_values.specs.trees.DirectiveTrees.{argument_tree, argument_trees};
+ghost use Rattle.graphql_values.specs.trees.ValueTrees.{constness_of};
+ghost use Rattle.graphql_values.specs.kinds.Values.{value_nesting};
 
 use crate::argument::Argument;
 use crate::constness::Constness;
-use crate::value::print::{ValueEntry, find_value_nesting, is_value_well_formed, write_value};
+use crate::value::print::{ValueEntry, find_value_nesting, is_value_well_formed};
 use graphql_base::node::Node;
-use graphql_text::writers::{Place, Stack, Target, write_name, write_words};
+use graphql_text::writers::{Place, Stack, Target, Written, write_name, write_words};
 
 /// Whether each argument's value is well formed at the place.
 pub fn are_arguments_well_formed(arguments: &[Node<Argument>], constness: Constness) -> bool
@@ -46,14 +46,15 @@ fn write_argument<'a, O: Target>(
     argument: &'a Argument,
 )
     requires flat { place.now.prefix ≡ None }
-    requires ready { CanWrite place.now stack.old (value_nesting (argument_tree argument.now).value) }
+    requires ready { CanWrite place.now stack.old
+        (value_nesting (argument_tree argument.now).value) }
     ensures kept { IsKept stack.old stack.new }
     ensures written { WritesItems O.wrote out.old out.new None place.now.level
         (argument_items (argument_tree argument.now)) }
 {
     write_name(out, &argument.name);
     write_words(out, ": ");
-    write_value(out, place, stack, &argument.value);
+    argument.value.write_at(out, place, stack);
 }
 
 /// Writes the arguments of a field or a directive, which stand on one line in every layout; nothing where there are
@@ -66,7 +67,8 @@ pub fn write_arguments<'a, O: Target>(
 )
     requires { CanWrite place.now stack.old (arguments_nesting (argument_trees arguments.now)) }
     ensures kept { IsKept stack.old stack.new }
-    ensures written { Writes O.wrote out.old out.new place.now (arguments_shape (argument_trees arguments.now)) }
+    ensures written { Writes O.wrote out.old out.new place.now
+        (arguments_shape (argument_trees arguments.now)) }
 {
     let Some((first, rest)) = arguments.split_first() else {
         return;

@@ -1,36 +1,21 @@
-//! Directives are printed: the writer of a directive, and its `Syntax`.
+//! Directives are printed.
 ghost use Rattle.std.specs.Prelude.{◌≡◌, Some};
-ghost use Rattle.graphql_text.specs.Printing.{IsDefaultPrint, default_bytes};
-ghost use Rattle.graphql_text.specs.Stack.{CanWrite, IsKept};
-ghost use Rattle.graphql_text.specs.Writing.{Writes};
-ghost use Rattle.graphql_values.specs.DirectiveTrees.{directive_tree};
-ghost use Rattle.graphql_values.specs.Directives.{directive_kind, directive_nesting, directive_shape};
+ghost use Rattle.graphql_text.specs.kinds.PrintedKinds.{no_types};
+ghost use Rattle.graphql_text.specs.kinds.Printing.{IsDefaultPrint, default_bytes};
+ghost use Rattle.graphql_values.specs.trees.DirectiveTrees.{directive_tree};
+ghost use Rattle.graphql_values.specs.kinds.Directives.{directive_kind};
 ghost use Rattle.graphql_values.specs.lemmas.Directives.{directive_laws};
 
 use crate::argument::print::{are_arguments_well_formed, find_arguments_nesting, write_arguments};
 use crate::constness::Constness;
 use crate::directive::Directive;
 use crate::value::print::ValueEntry;
-use graphql_text::engine::{Serialize, Syntax};
-use graphql_text::writers::{Place, Stack, Target, write_first_indent, write_name, write_words};
+use graphql_text::engine::{Serialize, Syntax, SyntaxTree};
+use graphql_text::writers::{
+    Place, Stack, Start, Target, Written, write_name, write_whole, write_words,
+};
 use std::alloc::AllocError;
 use std::fmt;
-
-/// Writes a directive. The stack is as for its arguments.
-pub fn write_directive<'a, O: Target>(
-    out: &mut O,
-    place: &Place<'_>,
-    stack: &mut Stack<ValueEntry<'a>>,
-    directive: &'a Directive,
-)
-    requires { CanWrite place.now stack.old (directive_nesting (directive_tree directive.now)) }
-    ensures kept { IsKept stack.old stack.new }
-    ensures written { Writes O.wrote out.old out.new place.now (directive_shape (directive_tree directive.now)) }
-{
-    write_words(out, "@");
-    write_name(out, &directive.name);
-    write_arguments(out, place, stack, &directive.arguments);
-}
 
 impl Directive {
     /// The directive in the default layout, for `print_to`, `to_text` or another layout.
@@ -48,12 +33,14 @@ impl Directive {
     }
 }
 
-impl Syntax for Directive {
+impl SyntaxTree for Directive {
     ghost kind = { directive_kind };
 
     ghost tree = { directive_tree };
 
     ghost laws = { directive_laws };
+
+    ghost list_depth = { no_types };
 
     fn is_well_formed(&self) -> bool {
         Directive::is_well_formed(self)
@@ -62,18 +49,29 @@ impl Syntax for Directive {
     fn find_nesting(&self) -> Option<usize> {
         find_arguments_nesting(&self.arguments)
     }
+}
 
-    fn write<O: Target>(
-        &self,
+impl Syntax for Directive {
+    fn write<O: Target>(&self, out: &mut O, start: &Start<'_>) -> Result<(), AllocError> {
+        write_whole(self, out, start)
+    }
+}
+
+impl<'t> Written<'t, Stack<ValueEntry<'t>>> for Directive {
+    fn reserve(&'t self, depth: usize) -> Result<Stack<ValueEntry<'t>>, AllocError> {
+        Stack::reserve(Some(*self.arguments.allocator()), depth)
+    }
+
+    fn write_at<O: Target>(
+        &'t self,
         out: &mut O,
         place: &Place<'_>,
-        depth: usize,
-    ) -> Result<(), AllocError> {
-        let alloc = *self.arguments.allocator();
-        let mut stack: Stack<ValueEntry<'_>> = Stack::reserve(Some(alloc), depth)?;
-        write_first_indent(out, place);
-        write_directive(out, place, &mut stack, self);
-        Ok(())
+        stack: &mut Stack<ValueEntry<'t>>,
+    ) {
+        let Directive { name, arguments } = self;
+        write_words(out, "@");
+        write_name(out, name);
+        write_arguments(out, place, stack, arguments);
     }
 }
 

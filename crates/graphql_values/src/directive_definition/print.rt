@@ -1,22 +1,22 @@
-//! Definitions of directives are printed: the writer of a definition, and its `Syntax`.
+//! Definitions of directives are printed.
 ghost use Rattle.std.specs.Prelude.{◌≡◌, Some, map};
-ghost use Rattle.graphql_text.specs.Printing.{IsDefaultPrint, default_bytes};
-ghost use Rattle.graphql_text.specs.Writing.{WritesAnywhere, WritesPart};
-ghost use Rattle.graphql_values.specs.ArgumentsDefinitions.{arguments_list_depth};
-ghost use Rattle.graphql_values.specs.DefinitionTrees.{directive_definition_tree};
-ghost use Rattle.graphql_values.specs.DirectiveDefinitions.{directive_definition_kind, directive_locations_shape, repeatable_shape};
-ghost use Rattle.graphql_values.specs.LocationTrees.{location_tree};
-ghost use Rattle.graphql_values.specs.Stacks.{AreKept, CanWriteDefinition};
+ghost use Rattle.graphql_text.specs.kinds.Printing.{IsDefaultPrint, default_bytes};
+ghost use Rattle.graphql_text.specs.code.Writing.{WritesAnywhere};
+ghost use Rattle.graphql_values.specs.kinds.ArgumentsDefinitions.{arguments_list_depth};
+ghost use Rattle.graphql_values.specs.trees.DefinitionTrees.{directive_definition_tree};
+ghost use Rattle.graphql_values.specs.kinds.DirectiveDefinitions.{directive_definition_kind, directive_locations_shape, repeatable_shape};
+ghost use Rattle.graphql_values.specs.trees.LocationTrees.{location_tree};
 ghost use Rattle.graphql_values.specs.lemmas.DirectiveDefinitions.{directive_definition_laws};
 
 use crate::directive_definition::DirectiveDefinition;
 use crate::directive_location::DirectiveLocation;
-use crate::input_value_definition::print::find_arguments_list_depth;
-use crate::parameters::{are_parameters_well_formed, find_parameters_nesting, write_parameters};
+use crate::input_value_definition::print::some_want_lines;
+use crate::parameters::write_parameters;
 use crate::stacks::Stacks;
-use graphql_text::engine::{Serialize, Syntax};
+use graphql_text::engine::{Serialize, Syntax, SyntaxTree};
 use graphql_text::writers::{
-    Place, Target, write_first_indent, write_leading_description, write_name, write_words,
+    HasTypes, Place, Start, Target, Written, are_parts_well_formed, find_parts_list_depth,
+    find_parts_nesting, write_leading_description, write_name, write_whole, write_words,
 };
 use std::alloc::AllocError;
 use std::fmt;
@@ -32,7 +32,8 @@ fn write_repeatable<O: Target>(out: &mut O, is_repeatable: bool)
 
 /// Writes `on` and the locations, with `|` between them; nothing where there are none.
 fn write_locations<O: Target>(out: &mut O, locations: &[DirectiveLocation])
-    ensures { WritesAnywhere O.wrote out.old out.new (directive_locations_shape (map location_tree locations.now)) }
+    ensures { WritesAnywhere O.wrote out.old out.new
+        (directive_locations_shape (map location_tree locations.now)) }
 {
     let Some((first, rest)) = locations.split_first() else {
         return;
@@ -48,28 +49,6 @@ fn write_locations<O: Target>(out: &mut O, locations: &[DirectiveLocation])
     }
 }
 
-/// Writes a directive definition.
-pub fn write_directive_definition<'a, O: Target>(
-    out: &mut O,
-    place: &Place<'_>,
-    stacks: &mut Stacks<'a>,
-    definition: &'a DirectiveDefinition,
-)
-    requires { CanWriteDefinition place.now stacks.old
-        (directive_definition_kind.nesting (directive_definition_tree definition.now))
-        (arguments_list_depth (directive_definition_tree definition.now).body.arguments) }
-    ensures kept { AreKept stacks.old stacks.new }
-    ensures written { WritesPart O.wrote out.old out.new place.now
-        directive_definition_kind (directive_definition_tree definition.now) }
-{
-    write_leading_description(out, place, definition.description.as_ref());
-    write_words(out, "directive @");
-    write_name(out, &definition.name);
-    write_parameters(out, place, stacks, &definition.arguments);
-    write_repeatable(out, definition.repeatable);
-    write_locations(out, &definition.locations);
-}
-
 impl DirectiveDefinition {
     /// The definition in the default layout, for `print_to`, `to_text` or another layout.
     pub fn serialize(&self) -> Serialize<'_, DirectiveDefinition>
@@ -82,37 +61,59 @@ impl DirectiveDefinition {
     pub fn is_well_formed(&self) -> bool
         ensures { result ≡ directive_definition_kind.obeys (directive_definition_tree self.now) }
     {
-        !self.locations.is_empty() && are_parameters_well_formed(&self.arguments)
+        !self.locations.is_empty() && are_parts_well_formed(&self.arguments)
     }
 }
 
-impl Syntax for DirectiveDefinition {
+impl SyntaxTree for DirectiveDefinition {
     ghost kind = { directive_definition_kind };
 
     ghost tree = { directive_definition_tree };
 
     ghost laws = { directive_definition_laws };
 
+    ghost list_depth = { λ definition. arguments_list_depth definition.body.arguments };
+
     fn is_well_formed(&self) -> bool {
         DirectiveDefinition::is_well_formed(self)
     }
 
     fn find_nesting(&self) -> Option<usize> {
-        find_parameters_nesting(&self.arguments)
+        find_parts_nesting(&self.arguments)
+    }
+}
+
+impl HasTypes for DirectiveDefinition {
+    fn find_list_depth(&self) -> Option<usize> {
+        find_parts_list_depth(&self.arguments)
+    }
+}
+
+impl Syntax for DirectiveDefinition {
+    fn write<O: Target>(&self, out: &mut O, start: &Start<'_>) -> Result<(), AllocError> {
+        write_whole(self, out, start)
+    }
+}
+
+impl<'t> Written<'t, Stacks<'t>> for DirectiveDefinition {
+    fn reserve(&'t self, depth: usize) -> Result<Stacks<'t>, AllocError> {
+        Stacks::reserve(*self.arguments.allocator(), depth, self.find_list_depth())
     }
 
-    fn write<O: Target>(
-        &self,
-        out: &mut O,
-        place: &Place<'_>,
-        depth: usize,
-    ) -> Result<(), AllocError> {
-        let alloc = *self.arguments.allocator();
-        let list_depth = find_arguments_list_depth(&self.arguments).ok_or(AllocError)?;
-        let mut stacks = Stacks::reserve(alloc, depth, list_depth)?;
-        write_first_indent(out, place);
-        write_directive_definition(out, place, &mut stacks, self);
-        Ok(())
+    fn write_at<O: Target>(&'t self, out: &mut O, place: &Place<'_>, stacks: &mut Stacks<'t>) {
+        let DirectiveDefinition {
+            description,
+            name,
+            arguments,
+            repeatable,
+            locations,
+        } = self;
+        write_leading_description(out, place, description.as_ref());
+        write_words(out, "directive @");
+        write_name(out, name);
+        write_parameters(out, place, stacks, arguments, some_want_lines(arguments));
+        write_repeatable(out, *repeatable);
+        write_locations(out, locations);
     }
 }
 

@@ -1,31 +1,32 @@
-//! Lists of directives are printed: the loop that writes a list, and its `Syntax`.
+//! Lists of directives are printed.
 ghost use Rattle.std.specs.Prelude.{◌≡◌, Some};
-ghost use Rattle.graphql_text.specs.Levels.{IsCount};
-ghost use Rattle.graphql_text.specs.Printing.{IsDefaultPrint, default_bytes};
-ghost use Rattle.graphql_text.specs.Stack.{CanWrite, IsKept};
-ghost use Rattle.graphql_text.specs.Writing.{Writes};
-ghost use Rattle.graphql_values.specs.DirectiveTrees.{directive_node_trees, directive_trees};
-ghost use Rattle.graphql_values.specs.Directives.{directives_kind, directives_nesting, directives_obey, directives_shape};
-ghost use Rattle.graphql_values.specs.ValueTrees.{constness_of};
+ghost use Rattle.graphql_text.specs.layout.Levels.{IsCount};
+ghost use Rattle.graphql_text.specs.kinds.PrintedKinds.{no_types};
+ghost use Rattle.graphql_text.specs.kinds.Printing.{IsDefaultPrint, default_bytes};
+ghost use Rattle.graphql_text.specs.code.Stack.{CanWrite, IsKept};
+ghost use Rattle.graphql_text.specs.code.Writing.{Writes};
+ghost use Rattle.graphql_values.specs.trees.DirectiveTrees.{directive_node_trees, directive_trees};
+ghost use Rattle.graphql_values.specs.kinds.Directives.{directives_kind, directives_nesting, directives_obey, directives_shape};
+ghost use Rattle.graphql_values.specs.trees.ValueTrees.{constness_of};
 ghost use Rattle.graphql_values.specs.lemmas.Directives.{directives_laws};
 
-use crate::argument::print::{are_arguments_well_formed, find_arguments_nesting};
+use crate::argument::print::are_arguments_well_formed;
 use crate::constness::Constness;
 use crate::directive::Directive;
-use crate::directive::print::write_directive;
 use crate::directive_list::DirectiveList;
 use crate::value::print::ValueEntry;
 use graphql_base::node::Node;
-use graphql_text::engine::{Serialize, Syntax};
-use graphql_text::writers::{Place, Stack, Target, write_first_indent, write_words};
+use graphql_text::engine::{Serialize, Syntax, SyntaxTree};
+use graphql_text::writers::{Place, Stack, Start, Target, Written, write_whole, write_words};
 use std::alloc::AllocError;
 use std::fmt;
 
-/// Whether the arguments of each directive are well formed at the place.
-pub fn are_directives_well_formed(directives: &[Node<Directive>], constness: Constness) -> bool
-    ensures { result ≡ directives_obey (constness_of constness) (directive_node_trees directives.now) }
+/// Whether the arguments of each directive are well formed in a constant context or another.
+pub fn are_directives_well_formed(directives: &DirectiveList, constness: Constness) -> bool
+    ensures { result ≡ directives_obey (constness_of constness) (directive_trees directives.now) }
 {
-    for directive in directives {
+    let nodes = directives.0.as_slice();
+    for directive in nodes {
         if !are_arguments_well_formed(&directive.arguments, constness) {
             return false;
         }
@@ -33,25 +34,26 @@ pub fn are_directives_well_formed(directives: &[Node<Directive>], constness: Con
     true
 }
 
-/// How deep the groups of the directive that nests most stand in one another. `None` if it is above `usize::MAX`.
-pub fn find_directives_nesting(directives: &[Node<Directive>]) -> Option<usize>
+/// The nesting depth of the directive that nests most. `None` if it is above `usize::MAX`.
+fn find_directives_nesting(directives: &[Node<Directive>]) -> Option<usize>
     ensures { IsCount result (directives_nesting (directive_node_trees directives.now)) }
 {
     let mut most = 0;
     for directive in directives {
-        most = most.max(find_arguments_nesting(&directive.arguments)?);
+        most = most.max(directive.find_nesting()?);
     }
     Some(most)
 }
 
-/// Writes directives, each after one space. The stack is as for the arguments of each.
-pub fn write_directives<'a, O: Target>(
+/// Writes directives, each after one space.
+fn write_directives<'t, O: Target>(
     out: &mut O,
     place: &Place<'_>,
-    stack: &mut Stack<ValueEntry<'a>>,
-    directives: &'a [Node<Directive>],
+    stack: &mut Stack<ValueEntry<'t>>,
+    directives: &'t [Node<Directive>],
 )
-    requires { CanWrite place.now stack.old (directives_nesting (directive_node_trees directives.now)) }
+    requires { CanWrite place.now stack.old
+        (directives_nesting (directive_node_trees directives.now)) }
     ensures kept { IsKept stack.old stack.new }
     ensures written { Writes O.wrote out.old out.new place.now
         (directives_shape (directive_node_trees directives.now)) }
@@ -61,7 +63,7 @@ pub fn write_directives<'a, O: Target>(
             return;
         }
         write_words(out, " ");
-        write_directive(out, place, stack, directive);
+        directive.write_at(out, place, stack);
     }
 }
 
@@ -78,16 +80,18 @@ impl DirectiveList {
     pub fn is_well_formed(&self) -> bool
         ensures { result ≡ directives_kind.obeys (directive_trees self.now) }
     {
-        are_directives_well_formed(&self.0, Constness::NonConst)
+        are_directives_well_formed(self, Constness::NonConst)
     }
 }
 
-impl Syntax for DirectiveList {
+impl SyntaxTree for DirectiveList {
     ghost kind = { directives_kind };
 
     ghost tree = { directive_trees };
 
     ghost laws = { directives_laws };
+
+    ghost list_depth = { no_types };
 
     fn is_well_formed(&self) -> bool {
         DirectiveList::is_well_formed(self)
@@ -96,18 +100,27 @@ impl Syntax for DirectiveList {
     fn find_nesting(&self) -> Option<usize> {
         find_directives_nesting(&self.0)
     }
+}
 
-    fn write<O: Target>(
-        &self,
+impl Syntax for DirectiveList {
+    fn write<O: Target>(&self, out: &mut O, start: &Start<'_>) -> Result<(), AllocError> {
+        write_whole(self, out, start)
+    }
+}
+
+impl<'t> Written<'t, Stack<ValueEntry<'t>>> for DirectiveList {
+    fn reserve(&'t self, depth: usize) -> Result<Stack<ValueEntry<'t>>, AllocError> {
+        Stack::reserve(Some(self.allocator()), depth)
+    }
+
+    #[inline(always)]
+    fn write_at<O: Target>(
+        &'t self,
         out: &mut O,
         place: &Place<'_>,
-        depth: usize,
-    ) -> Result<(), AllocError> {
-        let alloc = *self.0.allocator();
-        let mut stack: Stack<ValueEntry<'_>> = Stack::reserve(Some(alloc), depth)?;
-        write_first_indent(out, place);
-        write_directives(out, place, &mut stack, &self.0);
-        Ok(())
+        stack: &mut Stack<ValueEntry<'t>>,
+    ) {
+        write_directives(out, place, stack, &self.0);
     }
 }
 

@@ -1,12 +1,12 @@
 //! What holds of trees and errors as they are compared, hashed and cloned.
 ghost use Rattle.std.specs.Prelude.{◌≡◌, ◌↔◌, IsTrue};
-ghost use Rattle.graphql_text.specs.Comparisons.{IsComparedBy, IsHashedAlike};
-ghost use Rattle.graphql_values.specs.DefinitionTrees.{directive_definition_tree, input_value_definition_tree};
-ghost use Rattle.graphql_values.specs.DirectiveTrees.{argument_tree, directive_tree, directive_trees};
-ghost use Rattle.graphql_values.specs.Literals.{float_text, int_text};
-ghost use Rattle.graphql_values.specs.LocationTrees.{location_tree, operation_type_tree};
-ghost use Rattle.graphql_values.specs.TypeTrees.{type_tree, type_wrapping};
-ghost use Rattle.graphql_values.specs.ValueTrees.{IsCloneOf, value_tree};
+ghost use Rattle.graphql_text.specs.trees.Comparisons.{IsComparedBy, IsHashedAlike};
+ghost use Rattle.graphql_values.specs.trees.DefinitionTrees.{directive_definition_tree, input_value_definition_tree};
+ghost use Rattle.graphql_values.specs.trees.DirectiveTrees.{argument_tree, directive_tree, directive_trees};
+ghost use Rattle.graphql_values.specs.trees.Literals.{float_text, int_text};
+ghost use Rattle.graphql_values.specs.trees.LocationTrees.{location_tree, operation_type_tree};
+ghost use Rattle.graphql_values.specs.trees.TypeTrees.{type_tree, type_wrapping};
+ghost use Rattle.graphql_values.specs.trees.ValueTrees.{IsCloneOf, value_tree};
 ghost use Rattle.graphql_values.specs.declared.directive.ArgumentByNameError.{ArgumentByNameError};
 ghost use Rattle.graphql_values.specs.declared.directive.SpecifiedArgumentError.{SpecifiedArgumentError};
 ghost use Rattle.graphql_values.specs.declared.directive_definition.DirectiveDefinition.{DirectiveDefinition};
@@ -33,18 +33,11 @@ use crate::types::Type;
 use crate::value::Value;
 use std::hash::Hash;
 
-/// Two of one kind are equal exactly if their trees are the same: wherever they and their parts stand in a source text.
+/// Two parts that are no printed kind are equal exactly if their trees are the same: wherever they stand in a source text.
 pub fn compared_by_tree()
     ensures ints { IsComparedBy ⟦<IntValue as PartialEq>⟧.eq int_text }
     ensures floats { IsComparedBy ⟦<FloatValue as PartialEq>⟧.eq float_text }
-    ensures values { IsComparedBy ⟦<Value as PartialEq>⟧.eq value_tree }
-    ensures types { IsComparedBy ⟦<Type as PartialEq>⟧.eq type_tree }
     ensures arguments { IsComparedBy ⟦<Argument as PartialEq>⟧.eq argument_tree }
-    ensures directives { IsComparedBy ⟦<Directive as PartialEq>⟧.eq directive_tree }
-    ensures directive_lists { IsComparedBy ⟦<DirectiveList as PartialEq>⟧.eq directive_trees }
-    ensures input_value_definitions { IsComparedBy ⟦<InputValueDefinition as PartialEq>⟧.eq
-        input_value_definition_tree }
-    ensures directive_definitions { IsComparedBy ⟦<DirectiveDefinition as PartialEq>⟧.eq directive_definition_tree }
     ensures operation_types { IsComparedBy ⟦<OperationType as PartialEq>⟧.eq operation_type_tree }
     ensures locations { IsComparedBy ⟦<DirectiveLocation as PartialEq>⟧.eq location_tree }
 {}
@@ -57,20 +50,12 @@ pub fn errors_compare_by_variant()
         IsTrue (⟦<SpecifiedArgumentError as PartialEq>⟧.eq a b) ↔ (a ≡ b) }
 {}
 
-/// What is equal hashes alike.
+/// What is equal of them hashes alike.
 pub fn equal_trees_hash_alike()
     ensures ints { IsHashedAlike ⟦<IntValue as PartialEq>⟧.eq ⟦<IntValue as Hash>⟧.hash_input }
-    ensures floats { IsHashedAlike ⟦<FloatValue as PartialEq>⟧.eq ⟦<FloatValue as Hash>⟧.hash_input }
-    ensures values { IsHashedAlike ⟦<Value as PartialEq>⟧.eq ⟦<Value as Hash>⟧.hash_input }
-    ensures types { IsHashedAlike ⟦<Type as PartialEq>⟧.eq ⟦<Type as Hash>⟧.hash_input }
+    ensures floats { IsHashedAlike ⟦<FloatValue as PartialEq>⟧.eq
+        ⟦<FloatValue as Hash>⟧.hash_input }
     ensures arguments { IsHashedAlike ⟦<Argument as PartialEq>⟧.eq ⟦<Argument as Hash>⟧.hash_input }
-    ensures directives { IsHashedAlike ⟦<Directive as PartialEq>⟧.eq ⟦<Directive as Hash>⟧.hash_input }
-    ensures directive_lists { IsHashedAlike ⟦<DirectiveList as PartialEq>⟧.eq
-        ⟦<DirectiveList as Hash>⟧.hash_input }
-    ensures input_value_definitions { IsHashedAlike ⟦<InputValueDefinition as PartialEq>⟧.eq
-        ⟦<InputValueDefinition as Hash>⟧.hash_input }
-    ensures directive_definitions { IsHashedAlike ⟦<DirectiveDefinition as PartialEq>⟧.eq
-        ⟦<DirectiveDefinition as Hash>⟧.hash_input }
     ensures operation_types { IsHashedAlike ⟦<OperationType as PartialEq>⟧.eq
         ⟦<OperationType as Hash>⟧.hash_input }
     ensures locations { IsHashedAlike ⟦<DirectiveLocation as PartialEq>⟧.eq
@@ -87,7 +72,8 @@ pub fn clones_are_the_same()
         (type_wrapping b ≡ type_wrapping a) × (type_tree b ≡ type_tree a) }
     ensures arguments { (a b : Argument) → ⟦<Argument as Clone>⟧.is_clone a b → b ≡ a }
     ensures directives { (a b : Directive) → ⟦<Directive as Clone>⟧.is_clone a b →
-        (b.name ≡ a.name) × (b.arguments.items ≡ a.arguments.items) × (directive_tree b ≡ directive_tree a) }
+        (b.name ≡ a.name) × (b.arguments.items ≡ a.arguments.items)
+        × (directive_tree b ≡ directive_tree a) }
     ensures directive_lists { (a b : DirectiveList) → ⟦<DirectiveList as Clone>⟧.is_clone a b →
         (b.0.items ≡ a.0.items) × (directive_trees b ≡ directive_trees a) }
     ensures input_value_definitions { (a b : InputValueDefinition) →
@@ -97,9 +83,12 @@ pub fn clones_are_the_same()
         × (input_value_definition_tree b ≡ input_value_definition_tree a) }
     ensures directive_definitions { (a b : DirectiveDefinition) →
         ⟦<DirectiveDefinition as Clone>⟧.is_clone a b →
-        (b.description ≡ a.description) × (b.name ≡ a.name) × (b.arguments.items ≡ a.arguments.items)
+        (b.description ≡ a.description) × (b.name ≡ a.name)
+        × (b.arguments.items ≡ a.arguments.items)
         × (b.repeatable ≡ a.repeatable) × (b.locations.items ≡ a.locations.items)
         × (directive_definition_tree b ≡ directive_definition_tree a) }
-    ensures operation_types { (a b : OperationType) → ⟦<OperationType as Clone>⟧.is_clone a b → b ≡ a }
-    ensures locations { (a b : DirectiveLocation) → ⟦<DirectiveLocation as Clone>⟧.is_clone a b → b ≡ a }
+    ensures operation_types { (a b : OperationType) →
+        ⟦<OperationType as Clone>⟧.is_clone a b → b ≡ a }
+    ensures locations { (a b : DirectiveLocation) →
+        ⟦<DirectiveLocation as Clone>⟧.is_clone a b → b ≡ a }
 {}

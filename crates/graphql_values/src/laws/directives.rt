@@ -1,7 +1,7 @@
 //! What holds of lists of directives as they are looked up.
 ghost use Rattle.std.specs.Prelude.{◌≡◌, ◌≢◌, ◌↔◌, [], IsTrue, slice_get};
 ghost use Rattle.std.specs.Iterator.{IsFinite};
-ghost use Rattle.graphql_values.specs.Queries.{all_directives_named, first_directive_named, has_directive_named};
+ghost use Rattle.graphql_values.specs.code.Queries.{all_directives_named, first_directive_named, has_directive_named};
 
 use crate::directive_list::{DirectiveList, GetAll};
 

@@ -1,12 +1,12 @@
 //! Types are printed: the loops that write a type, and its `Display`.
 ghost use Rattle.std.specs.Prelude.{◌≡◌, None, Some, IsNone, OnOk, OnErr, encode_utf8_all};
-ghost use Rattle.graphql_text.specs.Kinds.{layout_of};
-ghost use Rattle.graphql_text.specs.Levels.{IsCount};
-ghost use Rattle.graphql_text.specs.Stack.{stack_entries, IsReady, IsKept};
-ghost use Rattle.graphql_text.specs.Writing.{WritesAnywhere};
-ghost use Rattle.graphql_values.specs.TypeReferences.{list_depth, type_kind, type_shape};
-ghost use Rattle.graphql_values.specs.TypeTrees.{type_tree};
-ghost use Rattle.graphql_values.specs.TypeEnds.{end_items, ends_items};
+ghost use Rattle.graphql_text.specs.kinds.Kinds.{layout_of};
+ghost use Rattle.graphql_text.specs.layout.Levels.{IsCount};
+ghost use Rattle.graphql_text.specs.code.Stack.{stack_entries, IsReady, IsKept};
+ghost use Rattle.graphql_text.specs.code.Writing.{WritesAnywhere};
+ghost use Rattle.graphql_values.specs.kinds.TypeReferences.{list_depth, type_kind, type_shape};
+ghost use Rattle.graphql_values.specs.trees.TypeTrees.{type_tree};
+ghost use Rattle.graphql_values.specs.code.TypeEnds.{end_items, ends_items};
 
 use crate::types::Type;
 use graphql_text::writers::{Stack, Target, ToFormatter, write_name, write_words};
@@ -63,7 +63,8 @@ fn write_end<O: Target>(out: &mut O, end: TypeEntry)
 /// Writes the ends of all lists that are open.
 fn write_ends<O: Target>(out: &mut O, stack: &mut Stack<TypeEntry>)
     ensures kept { IsKept stack.old stack.new }
-    ensures written { WritesAnywhere O.wrote out.old out.new (ends_items (stack_entries stack.old)) }
+    ensures written { WritesAnywhere O.wrote out.old out.new
+        (ends_items (stack_entries stack.old)) }
 {
     while let Some(end) = stack.pop() {
         if out.is_stopped() {
@@ -114,7 +115,8 @@ pub fn write_type<O: Target>(out: &mut O, stack: &mut Stack<TypeEntry>, ty: &Typ
 /// Writes a type by itself. Memory for the ends of its lists is asked for before the first byte.
 fn write_type_alone<O: Target>(out: &mut O, ty: &Type) -> Result<(), AllocError>
     ensures ok { OnOk result
-        (O.wrote out.old (encode_utf8_all (layout_of type_kind None 0 (type_tree ty.now))) out.new) }
+        (O.wrote out.old
+        (encode_utf8_all (layout_of type_kind None 0 (type_tree ty.now))) out.new) }
     ensures err { OnErr result (out.new ≡ out.old) }
 {
     let depth = find_list_depth(ty).ok_or(AllocError)?;

@@ -1,24 +1,25 @@
 //! Values are printed: the loop that writes a value, and its `Syntax`.
 ghost use Rattle.std.specs.Prelude.{◌≡◌, Some, ◌+◌, ◌≤◌, ◌<◌, ◌++◌, List, ◌∷◌, Bool, IsNone, length, MatchOption};
-ghost use Rattle.graphql_text.specs.Layout.{Item, Lower, Tight, last_comma};
-ghost use Rattle.graphql_text.specs.Levels.{Fits, IsCount};
-ghost use Rattle.graphql_text.specs.Place.{breaks, mode_of};
-ghost use Rattle.graphql_text.specs.Printing.{IsDefaultPrint, default_bytes};
-ghost use Rattle.graphql_text.specs.Stack.{CanWrite, IsKept, stack_entries, stack_room};
-ghost use Rattle.graphql_text.specs.Writing.{IsCommaLead, Writes, WritesToLevel, fixed_text};
-ghost use Rattle.graphql_values.specs.Values.{boolean_value, is_enum_name, object_fields_nesting, object_fields_obey, value_kind, value_nesting, value_obeys, value_shape, values_nesting, values_obey};
-ghost use Rattle.graphql_values.specs.ValueTrees.{constness_of, object_field_trees, value_tree, value_trees};
-ghost use Rattle.graphql_values.specs.ValueWalk.{CanGoOn, GoesOn, OpensValue, need_with, opened_level, opening, opening_word, stack_items, stack_need};
+ghost use Rattle.graphql_text.specs.layout.Layout.{Item, Lower, Tight, last_comma};
+ghost use Rattle.graphql_text.specs.layout.Levels.{Fits, IsCount};
+ghost use Rattle.graphql_text.specs.code.Place.{breaks, mode_of};
+ghost use Rattle.graphql_text.specs.kinds.PrintedKinds.{no_types};
+ghost use Rattle.graphql_text.specs.kinds.Printing.{IsDefaultPrint, default_bytes};
+ghost use Rattle.graphql_text.specs.code.Stack.{CanWrite, IsKept, stack_entries, stack_room};
+ghost use Rattle.graphql_text.specs.code.Writing.{IsCommaLead, Writes, WritesToLevel, fixed_text};
+ghost use Rattle.graphql_values.specs.kinds.Values.{boolean_value, is_enum_name, object_fields_nesting, object_fields_obey, value_kind, value_nesting, value_obeys, value_shape, values_nesting, values_obey};
+ghost use Rattle.graphql_values.specs.trees.ValueTrees.{constness_of, object_field_trees, value_tree, value_trees};
+ghost use Rattle.graphql_values.specs.code.ValueWalk.{CanGoOn, GoesOn, OpensValue, need_with, opened_level, opening, opening_word, stack_items, stack_need};
 ghost use Rattle.graphql_values.specs.lemmas.Values.{value_laws};
 
 use crate::constness::Constness;
 use crate::value::Value;
 use graphql_base::name::Name;
 use graphql_base::node::Node;
-use graphql_text::engine::{Serialize, Syntax};
+use graphql_text::engine::{Serialize, Syntax, SyntaxTree};
 use graphql_text::writers::{
-    Place, Stack, Target, ready_comma_lead, write_comma_end, write_comma_lead, write_first_indent,
-    write_float, write_int, write_name, write_string_value, write_words,
+    Place, Stack, Start, Target, Written, ready_comma_lead, write_comma_end, write_comma_lead,
+    write_float, write_int, write_name, write_string_value, write_whole, write_words,
 };
 use std::alloc::{AllocError, Global};
 use std::fmt;
@@ -82,7 +83,7 @@ pub enum ValueEntry<'a> {
 /// How many lists and objects that aren't empty stand in one another. `None` if it is above `usize::MAX`.
 #[cycle(nesting)]
 #[inline(always)]
-#[tactic(auto, using(crate::proofs::ValueShapes::value_nesting_list, crate::proofs::ValueShapes::value_nesting_object))]
+#[tactic(auto, using(crate::proofs::layout::ValueShapes::value_nesting_list, crate::proofs::layout::ValueShapes::value_nesting_object))]
 pub fn find_value_nesting(value: &Value) -> Option<usize>
     ensures { IsCount result (value_nesting (value_tree value.now)) }
 {
@@ -101,7 +102,7 @@ pub fn find_value_nesting(value: &Value) -> Option<usize>
 
 #[cycle(nesting)]
 #[inline(never)]
-#[tactic(auto, using(crate::proofs::ValueShapes::nesting_some))]
+#[tactic(auto, using(crate::proofs::layout::ValueShapes::nesting_some))]
 fn find_items_nesting(items: &[Node<Value>]) -> Option<usize>
     ensures { IsCount result (values_nesting (value_trees items.now)) }
 {
@@ -119,7 +120,7 @@ fn find_items_nesting(items: &[Node<Value>]) -> Option<usize>
 
 #[cycle(nesting)]
 #[inline(never)]
-#[tactic(auto, using(crate::proofs::ValueShapes::fields_some))]
+#[tactic(auto, using(crate::proofs::layout::ValueShapes::fields_some))]
 fn find_fields_nesting(fields: &[(Name, Node<Value>)]) -> Option<usize>
     ensures { IsCount result (object_fields_nesting (object_field_trees fields.now)) }
 {
@@ -137,7 +138,7 @@ fn find_fields_nesting(fields: &[(Name, Node<Value>)]) -> Option<usize>
 
 /// The opening bracket of a list or an object with items. Any other value is written whole at once.
 #[inline(always)]
-#[tactic(auto, using(crate::proofs::ValueShapes::empty_list, crate::proofs::ValueShapes::empty_object, crate::proofs::ValueShapes::list_bracket, crate::proofs::ValueShapes::object_bracket))]
+#[tactic(auto, using(crate::proofs::layout::ValueShapes::empty_list, crate::proofs::layout::ValueShapes::empty_object, crate::proofs::layout::ValueShapes::list_bracket, crate::proofs::layout::ValueShapes::object_bracket))]
 fn opening_bracket(value: &Value) -> Option<&'static str>
     ensures { MatchOption result (opened_level (value_tree value.now) ≡ 0) (λ bracket.
         (opened_level (value_tree value.now) ≡ 1)
@@ -160,7 +161,8 @@ fn opening_bracket(value: &Value) -> Option<&'static str>
 #[inline(always)]
 fn write_leaf<O: Target>(out: &mut O, place: &Place<'_>, value: &Value)
     requires { opened_level (value_tree value.now) ≡ 0 }
-    ensures { Writes O.wrote out.old out.new place.now (value_shape (breaks place.now) (value_tree value.now)) }
+    ensures { Writes O.wrote out.old out.new place.now
+        (value_shape (breaks place.now) (value_tree value.now)) }
 {
     match value {
         Value::Null => write_words(out, "null"),
@@ -180,18 +182,21 @@ fn write_leaf<O: Target>(out: &mut O, place: &Place<'_>, value: &Value)
 
 /// The word of a boolean.
 fn boolean_word(boolean: bool) -> &'static str
-    ensures { (broken : Bool) → fixed_text (value_shape broken (boolean_value boolean)) ≡ Some result.now }
+    ensures { (broken : Bool) →
+        fixed_text (value_shape broken (boolean_value boolean)) ≡ Some result.now }
 {
     if boolean { "true" } else { "false" }
 }
 
 /// Puts on the stack what is in a value: the items or fields of a list or an object that has some.
 #[inline(always)]
-#[tactic(auto, using(crate::proofs::ValueShapes::nesting_some, crate::proofs::ValueShapes::fields_some, crate::proofs::ValueShapes::value_nesting_list, crate::proofs::ValueShapes::value_nesting_object, crate::proofs::ValueShapes::list_opened, crate::proofs::ValueShapes::object_opened, graphql_text::proofs::PendingLaws::pending_items_push, graphql_text::proofs::PendingLaws::pending_need_push, std::proofs::lemmas::Grind::common_steps))]
+#[tactic(auto, using(crate::proofs::layout::ValueShapes::nesting_some, crate::proofs::layout::ValueShapes::fields_some, crate::proofs::layout::ValueShapes::value_nesting_list, crate::proofs::layout::ValueShapes::value_nesting_object, crate::proofs::layout::ValueShapes::list_opened, crate::proofs::layout::ValueShapes::object_opened, graphql_text::proofs::code::PendingStackSteps::pending_items_push, graphql_text::proofs::code::PendingStackSteps::pending_need_push, std::proofs::lemmas::Grind::common_steps))]
 fn put_inner<'a>(stack: &mut Stack<ValueEntry<'a>>, value: &'a Value)
-    requires room { need_with (value_tree value.now) (stack_entries stack.old) ≤ stack_room stack.old }
+    requires room { need_with (value_tree value.now) (stack_entries stack.old)
+        ≤ stack_room stack.old }
     ensures room { stack_room stack.old ≤ stack_room stack.new }
-    ensures need { stack_need (stack_entries stack.new) ≤ need_with (value_tree value.now) (stack_entries stack.old) }
+    ensures need { stack_need (stack_entries stack.new)
+        ≤ need_with (value_tree value.now) (stack_entries stack.old) }
     ensures level { length (stack_entries stack.new) ≡
         length (stack_entries stack.old) + opened_level (value_tree value.now) }
     ensures items { (broken : Bool) →
@@ -229,10 +234,12 @@ fn write_opening<'a, O: Target>(
     value: &'a Value,
 )
     requires fits { Fits here.old.level (opened_level (value_tree value.now)) }
-    requires room { need_with (value_tree value.now) (stack_entries stack.old) ≤ stack_room stack.old }
+    requires room { need_with (value_tree value.now) (stack_entries stack.old)
+        ≤ stack_room stack.old }
     ensures prefix { here.new.prefix ≡ here.old.prefix }
     ensures room { stack_room stack.old ≤ stack_room stack.new }
-    ensures opened { OpensValue O.wrote out.old out.new (mode_of here.old.prefix) here.old.level here.new.level
+    ensures opened { OpensValue O.wrote out.old out.new
+        (mode_of here.old.prefix) here.old.level here.new.level
         (value_tree value.now) (stack_entries stack.old) (stack_entries stack.new) }
 {
     match opening_bracket(value) {
@@ -275,8 +282,10 @@ fn write_next_item<'a, O: Target>(
         (ValueEntry.Items items is_first) }
     ensures prefix { here.new.prefix ≡ here.old.prefix }
     ensures room { stack_room stack.old ≤ stack_room stack.new }
-    ensures written { GoesOn O.wrote out.old out.new (mode_of here.old.prefix) here.old.level here.new.level
-        (ValueEntry.Items items.entry is_first) (stack_entries stack.old) (stack_entries stack.new) }
+    ensures written { GoesOn O.wrote out.old out.new
+        (mode_of here.old.prefix) here.old.level here.new.level
+        (ValueEntry.Items items.entry is_first) (stack_entries stack.old)
+        (stack_entries stack.new) }
 {
     match items.split_first() {
         Some((item, rest)) => {
@@ -302,8 +311,10 @@ fn write_items<'a, O: Target>(
         (ValueEntry.Items items is_first) }
     ensures prefix { here.new.prefix ≡ here.old.prefix }
     ensures room { stack_room stack.old ≤ stack_room stack.new }
-    ensures written { GoesOn O.wrote out.old out.new (mode_of here.old.prefix) here.old.level here.new.level
-        (ValueEntry.Items items.entry is_first) (stack_entries stack.old) (stack_entries stack.new) }
+    ensures written { GoesOn O.wrote out.old out.new
+        (mode_of here.old.prefix) here.old.level here.new.level
+        (ValueEntry.Items items.entry is_first) (stack_entries stack.old)
+        (stack_entries stack.new) }
 {
     let lead = ready_comma_lead(here);
     let mut rest = items;
@@ -336,8 +347,10 @@ fn write_next_field<'a, O: Target>(
         (ValueEntry.Fields fields is_first) }
     ensures prefix { here.new.prefix ≡ here.old.prefix }
     ensures room { stack_room stack.old ≤ stack_room stack.new }
-    ensures written { GoesOn O.wrote out.old out.new (mode_of here.old.prefix) here.old.level here.new.level
-        (ValueEntry.Fields fields.entry is_first) (stack_entries stack.old) (stack_entries stack.new) }
+    ensures written { GoesOn O.wrote out.old out.new
+        (mode_of here.old.prefix) here.old.level here.new.level
+        (ValueEntry.Fields fields.entry is_first) (stack_entries stack.old)
+        (stack_entries stack.new) }
 {
     match fields.split_first() {
         Some((field, rest)) => {
@@ -365,8 +378,10 @@ fn write_fields<'a, O: Target>(
         (ValueEntry.Fields fields is_first) }
     ensures prefix { here.new.prefix ≡ here.old.prefix }
     ensures room { stack_room stack.old ≤ stack_room stack.new }
-    ensures written { GoesOn O.wrote out.old out.new (mode_of here.old.prefix) here.old.level here.new.level
-        (ValueEntry.Fields fields.entry is_first) (stack_entries stack.old) (stack_entries stack.new) }
+    ensures written { GoesOn O.wrote out.old out.new
+        (mode_of here.old.prefix) here.old.level here.new.level
+        (ValueEntry.Fields fields.entry is_first) (stack_entries stack.old)
+        (stack_entries stack.new) }
 {
     let lead = ready_comma_lead(here);
     let mut rest = fields;
@@ -398,33 +413,13 @@ fn write_entry<'a, O: Target>(
         entry }
     ensures prefix { here.new.prefix ≡ here.old.prefix }
     ensures room { stack_room stack.old ≤ stack_room stack.new }
-    ensures written { GoesOn O.wrote out.old out.new (mode_of here.old.prefix) here.old.level here.new.level
+    ensures written { GoesOn O.wrote out.old out.new
+        (mode_of here.old.prefix) here.old.level here.new.level
         entry.entry (stack_entries stack.old) (stack_entries stack.new) }
 {
     match entry {
         ValueEntry::Items(items, is_first) => write_items(out, here, stack, items, is_first),
         ValueEntry::Fields(fields, is_first) => write_fields(out, here, stack, fields, is_first),
-    }
-}
-
-/// Writes a value. The stack is empty before and after, and has room for the entries of the value that wait.
-pub fn write_value<'a, O: Target>(
-    out: &mut O,
-    place: &Place<'_>,
-    stack: &mut Stack<ValueEntry<'a>>,
-    value: &'a Value,
-)
-    requires { CanWrite place.now stack.old (value_nesting (value_tree value.now)) }
-    ensures kept { IsKept stack.old stack.new }
-    ensures written { Writes O.wrote out.old out.new place.now (value_shape (breaks place.now) (value_tree value.now)) }
-{
-    let mut here = *place;
-    write_opening(out, &mut here, stack, value);
-    while let Some(entry) = stack.pop() {
-        if out.is_stopped() {
-            return stack.clear();
-        }
-        write_entry(out, &mut here, stack, entry);
     }
 }
 
@@ -461,12 +456,14 @@ impl Value {
     }
 }
 
-impl Syntax for Value {
+impl SyntaxTree for Value {
     ghost kind = { value_kind };
 
     ghost tree = { value_tree };
 
     ghost laws = { value_laws };
+
+    ghost list_depth = { no_types };
 
     fn is_well_formed(&self) -> bool {
         Value::is_well_formed(self)
@@ -475,17 +472,33 @@ impl Syntax for Value {
     fn find_nesting(&self) -> Option<usize> {
         find_value_nesting(self)
     }
+}
 
-    fn write<O: Target>(
-        &self,
+impl Syntax for Value {
+    fn write<O: Target>(&self, out: &mut O, start: &Start<'_>) -> Result<(), AllocError> {
+        write_whole(self, out, start)
+    }
+}
+
+impl<'t> Written<'t, Stack<ValueEntry<'t>>> for Value {
+    fn reserve(&'t self, depth: usize) -> Result<Stack<ValueEntry<'t>>, AllocError> {
+        Stack::reserve(self.allocator(), depth)
+    }
+
+    fn write_at<O: Target>(
+        &'t self,
         out: &mut O,
         place: &Place<'_>,
-        depth: usize,
-    ) -> Result<(), AllocError> {
-        let mut stack: Stack<ValueEntry<'_>> = Stack::reserve(self.allocator(), depth)?;
-        write_first_indent(out, place);
-        write_value(out, place, &mut stack, self);
-        Ok(())
+        stack: &mut Stack<ValueEntry<'t>>,
+    ) {
+        let mut here = *place;
+        write_opening(out, &mut here, stack, self);
+        while let Some(entry) = stack.pop() {
+            if out.is_stopped() {
+                return stack.clear();
+            }
+            write_entry(out, &mut here, stack, entry);
+        }
     }
 }
 

@@ -1,6 +1,6 @@
 //! Worked values of arguments.
 ghost use Rattle.std.specs.Prelude.{◌≡◌, OnErr, OnOk};
-ghost use Rattle.graphql_values.specs.Loans.{with_value_of};
+ghost use Rattle.graphql_values.specs.code.Loans.{with_value_of};
 
 use crate::samples::{directive_definition, input_value_definition, number, with_argument};
 use graphql_base::name;

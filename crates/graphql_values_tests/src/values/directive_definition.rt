@@ -1,8 +1,8 @@
 //! Worked definitions.
 ghost use Rattle.std.specs.Prelude.{◌≡◌};
 ghost use Rattle.std.specs.Bool.{OnFalse, OnTrue};
-ghost use Rattle.graphql_values.specs.Loans.{first_changed};
-ghost use Rattle.graphql_values.specs.Queries.{is_input_value_definition_named};
+ghost use Rattle.graphql_values.specs.code.Loans.{first_changed};
+ghost use Rattle.graphql_values.specs.code.Queries.{is_input_value_definition_named};
 
 use crate::samples::{directive_definition, input_value_definition};
 use graphql_base::name;
@@ -63,7 +63,8 @@ fn set_argument(
     node: Node<InputValueDefinition>,
 ) -> bool
     ensures written { OnTrue result (definition.new.arguments.items
-        ≡ first_changed (is_input_value_definition_named name.now) (λ _. node) definition.old.arguments.items) }
+        ≡ first_changed (is_input_value_definition_named name.now)
+        (λ _. node) definition.old.arguments.items) }
     ensures none { OnFalse result (definition.new ≡ definition.old) }
     ensures name { definition.new.name ≡ definition.old.name }
 {

@@ -1,8 +1,8 @@
 use Rattle.std.proofs.Common.{[], ◌∷◌, ap, codes, refl, Some, sym, ◌∙◌, subst, MatchOption, option_and_then}
 use Rattle.std.specs.Prelude.{⊤}
 use Rattle.serde_json.specs.Data.{string}
-use Rattle.graphql_ast_json.specs.Nodes.{IsBoolean, present}
-use Rattle.graphql_ast_json.proofs.Drafts.{begun, ended, found, gained, given_member, is_node}
+use Rattle.graphql_ast_json.specs.nodes.Nodes.{IsBoolean, present}
+use Rattle.graphql_ast_json.proofs.nodes.DraftsAreNodes.{begun, ended, found, gained, given_member, is_node}
 use Rattle.graphql_ast_json.proofs.string.write_string.Goals as goal
 
 pub returns : goal.returns

@@ -1,4 +1,4 @@
-use Rattle.graphql_base.proofs.Stretches.{answered}
+use Rattle.graphql_base.proofs.SpanStretches.{answered}
 use Rattle.graphql_base.proofs.located_text.stretch_of_text.Goals as goal
 
 pub returns : goal.returns

@@ -31,7 +31,9 @@ the_weighed weight = weight
 
 -- the one field by its two parts: where the block lies, and the value there
 abbrev parts : Former {0}
-parts = via (pair (const Ptr) this) Inside (λ X s. (s.inner.ptr, s.inner.value)) (λ X p. record { inner = record { ptr = p.0; value = p.1 } }) (λ X s. refl) (λ X p. refl)
+parts =
+    via (pair (const Ptr) this) Inside (λ X s. (s.inner.ptr, s.inner.value)) (λ X p. record { inner = record { ptr = p.0; value = p.1 } })
+    (λ X s. refl) (λ X p. refl)
 
 -- the same block with another value
 abbrev holding : {X Y : Type 0} → Rc X Global → Y → Rc Y Global
@@ -52,7 +54,9 @@ module _ (R S : RattleType) (h : R.Denot → S.Denot) where
 
   pub the_places : Alike R S h → Alike (shared.the_row R) (shared.the_row S) ((the_former this).map R.Denot S.Denot h)
   the_places values =
-      let field = struct_places (inside.the_type R) (inside.the_type S) ((λ it. holding it (h it.value)), tt) _ (λ d. refl) refl (laid _ _ _ (owners_alike values), tt) in
+      let field =
+      struct_places (inside.the_type R) (inside.the_type S) ((λ it. holding it (h it.value)), tt) _ (λ d. refl) refl
+      (laid _ _ _ (owners_alike values), tt) in
       view_places parts this view (λ X Y k u. refl) (λ X u. refl) R.Denot S.Denot h (shared.the_row R).coded (shared.the_row S).coded
       (invariant R.Denot) (invariant S.Denot) (λ u p q. refl) (λ u p q. refl) (λ u e. tt) (λ u e. tt) (over (inside.the_row R)) (over (inside.the_row S)) field
 

@@ -1,7 +1,7 @@
 use Rattle.std.proofs.Common.{◌≡◌, ◌-◌, ◌==◌, not, length, map, get_or, []}
 use Rattle.std.specs.List.{list_any}
-use Rattle.graphql_text.specs.BlockStringValue.{is_blank}
-use Rattle.graphql_text.specs.BlockForm.{begins_unindented}
+use Rattle.graphql_text.specs.strings.BlockStringValue.{is_blank}
+use Rattle.graphql_text.specs.strings.BlockForm.{begins_unindented}
 use Rattle.graphql_text.proofs.block_string.can_be_block.Given as goal
 
 abbrev pub invariant-loop-line : goal.invariant-loop-line

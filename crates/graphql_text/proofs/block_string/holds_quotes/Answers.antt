@@ -1,6 +1,6 @@
 use Rattle.std.proofs.Common.{◌≡◌, ℕ, ◌-◌, ◌<◌, ◌==◌, ◌&&◌, Bool, List, length, get_or, drop, ap, arith}
-use Rattle.graphql_text.specs.Characters.{begins_with, quotes}
-use Rattle.graphql_text.proofs.QuoteScans.{quotes_at, found_more, not_found_more, found_decides}
+use Rattle.graphql_text.specs.lexical.Characters.{begins_with, quotes}
+use Rattle.graphql_text.proofs.strings.ThreeQuotesScan.{quotes_at, found_more, not_found_more, found_decides}
 use Rattle.graphql_text.proofs.block_string.holds_quotes.Goals as goal
 
 pub loop-i-preserved : goal.loop-i-preserved
@@ -17,4 +17,5 @@ loop-i-preserved c =
 
 pub returns : goal.returns
 returns c =
-    found_decides c.args.text.now c.loop-i.found c.loop-i.invariant.somewhere (λ e k l. c.loop-i.invariant.nowhere e k (omega (arith, l, ap length c.as_bytes-bytes.ensures.value)))
+    found_decides c.args.text.now c.loop-i.found c.loop-i.invariant.somewhere
+    (λ e k l. c.loop-i.invariant.nowhere e k (omega (arith, l, ap length c.as_bytes-bytes.ensures.value)))

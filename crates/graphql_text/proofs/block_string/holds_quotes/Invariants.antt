@@ -1,5 +1,5 @@
 use Rattle.std.proofs.Common.{◌≡◌, ℕ, ◌+◌, ◌<◌, true, false, drop}
-use Rattle.graphql_text.specs.Characters.{begins_with, quotes}
+use Rattle.graphql_text.specs.lexical.Characters.{begins_with, quotes}
 use Rattle.graphql_text.proofs.block_string.holds_quotes.Given as goal
 
 abbrev pub invariant-loop-i : goal.invariant-loop-i

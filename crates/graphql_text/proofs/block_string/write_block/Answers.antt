@@ -1,4 +1,4 @@
-use Rattle.graphql_text.proofs.Utf8.{block_in_chars}
+use Rattle.graphql_text.proofs.strings.StringsInUtf8.{block_in_chars}
 use Rattle.graphql_text.proofs.block_string.write_block.Goals as goal
 
 pub returns : goal.returns

@@ -1,6 +1,6 @@
 use Rattle.std.proofs.Common.{◌∙◌, sym}
 use Rattle.std.proofs.lemmas.Bool.{false≢true}
-use Rattle.graphql_text.proofs.QuoteScans.{no_quotes}
+use Rattle.graphql_text.proofs.strings.ThreeQuotesScan.{no_quotes}
 use Rattle.graphql_text.proofs.block_string.write_escaped.Goals as goal
 
 pub returns-else-holds_quotes : goal.returns-else-holds_quotes

@@ -1,7 +1,7 @@
 use Rattle.std.proofs.Common.{◌<◌, length, arith}
 use Rattle.std.specs.List.{repeat}
-use Rattle.graphql_text.proofs.Utf8.{break_in_chars}
-use Rattle.graphql_text.proofs.QuoteScans.{broken_some}
+use Rattle.graphql_text.proofs.strings.StringsInUtf8.{break_in_chars}
+use Rattle.graphql_text.proofs.strings.ThreeQuotesScan.{broken_some}
 use Rattle.graphql_text.proofs.block_string.write_line.Goals as goal
 
 pub returns : goal.returns

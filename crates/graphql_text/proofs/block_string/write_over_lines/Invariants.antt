@@ -1,7 +1,7 @@
 use Rattle.std.proofs.Common.{◌++◌, map, flat_map}
 use Rattle.std.specs.List.{repeat}
-use Rattle.graphql_text.specs.Characters.{quotes}
-use Rattle.graphql_text.specs.BlockForm.{broken_line}
+use Rattle.graphql_text.specs.lexical.Characters.{quotes}
+use Rattle.graphql_text.specs.strings.BlockForm.{broken_line}
 use Rattle.graphql_text.proofs.block_string.write_over_lines.Given as goal
 
 abbrev pub invariant-loop-line : goal.invariant-loop-line

@@ -1,8 +1,8 @@
 use Rattle.std.proofs.Common.{◌≡◌, ℕ, ◌<◌, ◌++◌, List, [], true, false, length, drop, refl, ap, ◌∙◌, arith}
 use Rattle.std.proofs.lemmas.Str.{IsCharBoundary-start}
-use Rattle.graphql_text.specs.Characters.{begins_with, quotes, escaped_quotes}
-use Rattle.graphql_text.proofs.Runs.{run}
-use Rattle.graphql_text.proofs.QuoteScans.{quotes_end, scan_plain, scan_more, begins_rest, after_quotes}
+use Rattle.graphql_text.specs.lexical.Characters.{begins_with, quotes, escaped_quotes}
+use Rattle.graphql_text.proofs.strings.EscapeRuns.{run}
+use Rattle.graphql_text.proofs.strings.ThreeQuotesScan.{quotes_end, scan_plain, scan_more, begins_rest, after_quotes}
 use Rattle.graphql_text.proofs.block_string.write_runs.Goals as goal
 
 pub loop-i-init : goal.loop-i-init
@@ -25,7 +25,8 @@ loop-i-preserved-then-begins_with_quotes g c =
     let t : List ℕ = c.args.text.now in
     let i : ℕ = c.loop-i.i in
     let I = c.loop-i.invariant in
-    let q : begins_with quotes (drop i t) ≡ true = begins_rest t i _ true (rw c.as_bytes-bytes.ensures.value at c.begins_with_quotes.ensures) c.if-begins_with_quotes.true in
+    let q : begins_with quotes (drop i t) ≡ true =
+    begins_rest t i _ true (rw c.as_bytes-bytes.ensures.value at c.begins_with_quotes.ensures) c.if-begins_with_quotes.true in
     record {
       order = omega arith;
       within = omega (arith, quotes_end t i q);
@@ -41,7 +42,8 @@ loop-i-preserved g c =
     let i : ℕ = c.loop-i.i in
     let I = c.loop-i.invariant in
     let within : i < length t = omega (arith, ap length c.as_bytes-bytes.ensures.value) in
-    let q : begins_with quotes (drop i t) ≡ false = begins_rest t i _ false (rw c.as_bytes-bytes.ensures.value at c.begins_with_quotes.ensures) c.if-begins_with_quotes.false in
+    let q : begins_with quotes (drop i t) ≡ false =
+    begins_rest t i _ false (rw c.as_bytes-bytes.ensures.value at c.begins_with_quotes.ensures) c.if-begins_with_quotes.false in
     record {
       order = omega arith;
       within = omega arith;

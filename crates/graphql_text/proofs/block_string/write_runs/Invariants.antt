@@ -1,7 +1,7 @@
 use Rattle.std.proofs.Common.{◌≡◌, ℕ, ◌-◌, ◌≤◌, ◌++◌, List, length, drop}
 use Rattle.std.specs.Str.{IsCharBoundary}
-use Rattle.graphql_text.specs.BlockForm.{escape_quotes}
-use Rattle.graphql_text.proofs.Runs.{run}
+use Rattle.graphql_text.specs.strings.BlockForm.{escape_quotes}
+use Rattle.graphql_text.proofs.strings.EscapeRuns.{run}
 use Rattle.graphql_text.proofs.block_string.write_runs.Given as goal
 
 abbrev pub invariant-loop-i : goal.invariant-loop-i

@@ -1,7 +1,7 @@
 use Rattle.std.proofs.Common.{◌≡◌, ℕ, ◌+◌, ◌-◌, ◌++◌, List, arith, length}
 use Rattle.std.specs.List.{repeat}
-use Rattle.graphql_text.proofs.LevelLaws.{repeat_front, repeat_more, repeat_nothing}
-use Rattle.graphql_text.proofs.Utf8.{repeat_in_chars}
+use Rattle.graphql_text.proofs.layout.TextOfItems.{repeat_front, repeat_more, repeat_nothing}
+use Rattle.graphql_text.proofs.strings.StringsInUtf8.{repeat_in_chars}
 use Rattle.graphql_text.proofs.breaks.indent.Goals as goal
 
 pub returns-then-is_empty : goal.returns-then-is_empty

@@ -1,6 +1,6 @@
 use Rattle.std.proofs.Common.{◌≡◌, ap, codes, sym, ◌∙◌}
-use Rattle.graphql_text.specs.Layout.{break_text}
-use Rattle.graphql_text.proofs.Utf8.{break_in_chars}
+use Rattle.graphql_text.specs.layout.Layout.{break_text}
+use Rattle.graphql_text.proofs.strings.StringsInUtf8.{break_in_chars}
 use Rattle.graphql_text.proofs.breaks.ready_break.Goals as goal
 
 pub returns-then-level-le-READY_LEVELS : goal.returns-then-level-le-READY_LEVELS

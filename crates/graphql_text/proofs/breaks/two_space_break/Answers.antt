@@ -1,5 +1,5 @@
 use Rattle.std.proofs.Common.{◌∙◌}
-use Rattle.graphql_text.proofs.TwoSpaces.{is_two_space_break, two_space_boundary, break_boundary}
+use Rattle.graphql_text.proofs.code.TwoSpaceBreaks.{is_two_space_break, two_space_boundary, break_boundary}
 use Rattle.graphql_text.proofs.breaks.two_space_break.Goals as goal
 
 pub range-requires-clause-start_boundary : goal.range-requires-clause-start_boundary

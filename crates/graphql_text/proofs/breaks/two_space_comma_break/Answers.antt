@@ -1,5 +1,5 @@
 use Rattle.std.proofs.Common.{◌∙◌}
-use Rattle.graphql_text.proofs.TwoSpaces.{is_two_space_comma_break, two_space_boundary}
+use Rattle.graphql_text.proofs.code.TwoSpaceBreaks.{is_two_space_comma_break, two_space_boundary}
 use Rattle.graphql_text.proofs.breaks.two_space_comma_break.Goals as goal
 
 pub range-requires-clause-end_boundary : goal.range-requires-clause-end_boundary

@@ -1,7 +1,7 @@
-use Rattle.graphql_text.specs.Spelling.{tokens_of_items}
-use Rattle.graphql_text.proofs.LayoutLexes.{layout_lexes}
-use Rattle.graphql_text.proofs.Scalars.{layout_scalars}
-use Rattle.graphql_text.proofs.Spelling.{apart_gives}
+use Rattle.graphql_text.specs.layout.Spelling.{tokens_of_items}
+use Rattle.graphql_text.proofs.layout.LayoutLexes.{layout_lexes}
+use Rattle.graphql_text.proofs.layout.LayoutScalars.{layout_scalars}
+use Rattle.graphql_text.proofs.layout.SpellingByParts.{apart_gives}
 use Rattle.graphql_text.proofs.laws.layouts_lex.Goals as goal
 
 pub returns-clause-tokens : goal.returns-clause-tokens

@@ -1,7 +1,7 @@
 use Rattle.std.proofs.Common.{List, ℕ, subst}
 use Rattle.std.proofs.lemmas.Str.{encodes_same}
-use Rattle.graphql_text.specs.Tokens.{Lexes}
-use Rattle.graphql_text.proofs.Complete.{one_list}
+use Rattle.graphql_text.specs.lexical.Tokens.{Lexes}
+use Rattle.graphql_text.proofs.reader.ReaderComplete.{one_list}
 use Rattle.graphql_text.proofs.laws.one_token_list.Goals as goal
 
 pub returns-clause-texts : goal.returns-clause-texts

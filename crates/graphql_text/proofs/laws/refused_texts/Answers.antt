@@ -1,6 +1,6 @@
 use Rattle.std.proofs.Common.{[], ◌∷◌, codes, refl}
-use Rattle.graphql_text.specs.Tokens.{lbracket, Punctuation, IntValue}
-use Rattle.graphql_text.proofs.Complete.{unread, read_as}
+use Rattle.graphql_text.specs.lexical.Tokens.{lbracket, Punctuation, IntValue}
+use Rattle.graphql_text.proofs.reader.ReaderComplete.{unread, read_as}
 use Rattle.graphql_text.proofs.laws.refused_texts.Goals as goal
 
 pub returns-clause-no_digits : goal.returns-clause-no_digits

@@ -1,12 +1,12 @@
 use Rattle.std.proofs.Common.{[], refl, inr, length, nat_lt, encode_utf8_all}
-use Rattle.graphql_text.specs.BlockForm.{block_text}
-use Rattle.graphql_text.specs.Layout.{string_text}
-use Rattle.graphql_text.specs.QuotedForm.{quoted_form}
-use Rattle.graphql_text.specs.Tokens.{StringValue}
-use Rattle.graphql_text.proofs.BlockLaw.{block_form_is}
-use Rattle.graphql_text.proofs.Compose.{token_before}
-use Rattle.graphql_text.proofs.LayoutLexes.{string_spells}
-use Rattle.graphql_text.proofs.Quoted.{form_spells}
+use Rattle.graphql_text.specs.strings.BlockForm.{block_text}
+use Rattle.graphql_text.specs.layout.Layout.{string_text}
+use Rattle.graphql_text.specs.strings.QuotedForm.{quoted_form}
+use Rattle.graphql_text.specs.lexical.Tokens.{StringValue}
+use Rattle.graphql_text.proofs.strings.BlockFormSpells.{block_form_is}
+use Rattle.graphql_text.proofs.lexical.LexesAppend.{token_before}
+use Rattle.graphql_text.proofs.layout.LayoutLexes.{string_spells}
+use Rattle.graphql_text.proofs.strings.QuotedFormSpells.{form_spells}
 use Rattle.graphql_text.proofs.laws.strings_keep_their_value.Goals as goal
 
 pub returns-clause-quoted : goal.returns-clause-quoted
@@ -15,7 +15,8 @@ returns-clause-quoted c =
 
 pub returns-clause-block : goal.returns-clause-block
 returns-clause-block c = λ prefix level value after blank can.
-    token_before (StringValue value) (block_text prefix level value) after (inr (block_form_is prefix level (nat_lt 70 (length (encode_utf8_all value))) value blank can))
+    token_before (StringValue value) (block_text prefix level value) after
+    (inr (block_form_is prefix level (nat_lt 70 (length (encode_utf8_all value))) value blank can))
 
 pub returns-clause-printed : goal.returns-clause-printed
 returns-clause-printed c = λ mode level value role after blank stops.

@@ -1,9 +1,9 @@
 use Rattle.std.proofs.Common.{refl, inl, inr}
-use Rattle.graphql_text.specs.Characters.{is_ignored}
-use Rattle.graphql_text.specs.Tokens.{Punctuation, punctuator_text, Name, IntValue, FloatValue, StringValue}
-use Rattle.graphql_text.proofs.Classes.{list_all_each}
-use Rattle.graphql_text.proofs.Compose.{token_before, ignored_before, before-append}
-use Rattle.graphql_text.proofs.Sides.{lexes-line}
+use Rattle.graphql_text.specs.lexical.Characters.{is_ignored}
+use Rattle.graphql_text.specs.lexical.Tokens.{Punctuation, punctuator_text, Name, IntValue, FloatValue, StringValue}
+use Rattle.graphql_text.proofs.lexical.CharacterClasses.{list_all_each}
+use Rattle.graphql_text.proofs.lexical.LexesAppend.{token_before, ignored_before, before-append}
+use Rattle.graphql_text.proofs.lexical.FollowingCharacters.{lexes-line}
 use Rattle.graphql_text.proofs.laws.tokens_side_by_side.Goals as goal
 
 pub returns-clause-punctuators : goal.returns-clause-punctuators

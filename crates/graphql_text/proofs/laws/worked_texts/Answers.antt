@@ -1,11 +1,12 @@
 use Rattle.std.proofs.Common.{[], ◌∷◌, codes, refl}
-use Rattle.graphql_text.specs.Tokens.{lbracket, rbracket, Punctuation, Name, IntValue, FloatValue, StringValue}
-use Rattle.graphql_text.proofs.Sound.{lex_sound}
+use Rattle.graphql_text.specs.lexical.Tokens.{lbracket, rbracket, Punctuation, Name, IntValue, FloatValue, StringValue}
+use Rattle.graphql_text.proofs.reader.ReaderSound.{lex_sound}
 use Rattle.graphql_text.proofs.laws.worked_texts.Goals as goal
 
 pub returns-clause-list : goal.returns-clause-list
 returns-clause-list c =
-    lex_sound (codes "[1 2,,3 #c\n]") (Punctuation lbracket ∷ IntValue (codes "1") ∷ IntValue (codes "2") ∷ IntValue (codes "3") ∷ Punctuation rbracket ∷ []) refl
+    lex_sound (codes "[1 2,,3 #c\n]")
+    (Punctuation lbracket ∷ IntValue (codes "1") ∷ IntValue (codes "2") ∷ IntValue (codes "3") ∷ Punctuation rbracket ∷ []) refl
 
 pub returns-clause-escapes : goal.returns-clause-escapes
 returns-clause-escapes c = lex_sound (codes "\"\\u0041\\/\"") (StringValue (codes "A/") ∷ []) refl

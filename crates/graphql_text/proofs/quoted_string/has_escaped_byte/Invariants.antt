@@ -1,6 +1,6 @@
 use Rattle.std.proofs.Common.{◌≡◌, nat_lt, length, take}
 use Rattle.std.specs.List.{list_any}
-use Rattle.graphql_text.specs.QuotedForm.{quoted_character}
+use Rattle.graphql_text.specs.strings.QuotedForm.{quoted_character}
 use Rattle.graphql_text.proofs.quoted_string.has_escaped_byte.Given as goal
 
 abbrev pub invariant-loop-byte : goal.invariant-loop-byte

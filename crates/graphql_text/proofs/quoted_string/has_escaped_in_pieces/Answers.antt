@@ -1,8 +1,8 @@
 use Rattle.std.proofs.Common.{ℕ, ◌-◌, Bool, nat_lt, ◌∙◌, ap, sym, length}
 use Rattle.std.specs.List.{list_any}
 use Rattle.std.proofs.lemmas.List.{take_rest}
-use Rattle.graphql_text.specs.QuotedForm.{quoted_character}
-use Rattle.graphql_text.proofs.Pieces.{last_decides, none_passed, one_found}
+use Rattle.graphql_text.specs.strings.QuotedForm.{quoted_character}
+use Rattle.graphql_text.proofs.general.PiecewiseTests.{last_decides, none_passed, one_found}
 use Rattle.graphql_text.proofs.quoted_string.has_escaped_in_pieces.Goals as goal
 
 abbrev test : ℕ → Bool

@@ -1,6 +1,6 @@
 use Rattle.std.proofs.Common.{◌≡◌, ◌-◌, false, nat_lt, length, take}
 use Rattle.std.specs.List.{list_any}
-use Rattle.graphql_text.specs.QuotedForm.{quoted_character}
+use Rattle.graphql_text.specs.strings.QuotedForm.{quoted_character}
 use Rattle.graphql_text.proofs.quoted_string.has_escaped_in_pieces.Given as goal
 
 abbrev pub invariant-loop-i : goal.invariant-loop-i

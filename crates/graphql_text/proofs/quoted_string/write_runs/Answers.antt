@@ -1,8 +1,8 @@
 use Rattle.std.proofs.Common.{◌≡◌, ℕ, ◌+◌, ◌<◌, List, [], ◌∷◌, get_or, length, ap, arith, refl, sym, ◌∙◌}
 use Rattle.std.proofs.lemmas.Str.{IsCharBoundary-start, IsCharBoundary-after_ascii}
-use Rattle.graphql_text.specs.QuotedForm.{quoted_character}
-use Rattle.graphql_text.proofs.PlainCharacters.{plain}
-use Rattle.graphql_text.proofs.Runs.{flat_parted, run_plain, run_escape, run_restart}
+use Rattle.graphql_text.specs.strings.QuotedForm.{quoted_character}
+use Rattle.graphql_text.proofs.strings.UnescapedCharacter.{plain}
+use Rattle.graphql_text.proofs.strings.EscapeRuns.{flat_parted, run_plain, run_escape, run_restart}
 use Rattle.graphql_text.proofs.quoted_string.write_runs.Goals as goal
 use Rattle.graphql_text.proofs.quoted_string.write_runs.Goals.{then-is_escaped+else-is_stopped, else-is_escaped}
 
@@ -29,10 +29,18 @@ loop-i-preserved g c =
             order = omega arith;
             boundary = IsCharBoundary-after_ascii t i c.utf8.text within ascii;
             plain = run_restart quoted_character t (i + 1);
-            wrote = rw (← run_escape quoted_character t w.escape.result.now c.loop-i.from i within is I.plain) (g.met.O.Target.more _ _ _ _ _ (g.met.O.Target.more _ _ _ _ _ I.wrote (rw w.range.ensures.value at w.write_piece.ensures)) w.text.ensures);
+            wrote =
+                rw (← run_escape quoted_character t w.escape.result.now c.loop-i.from i within is I.plain)
+                (g.met.O.Target.more _ _ _ _ _
+                (g.met.O.Target.more _ _ _ _ _ I.wrote (rw w.range.ensures.value at w.write_piece.ensures)) w.text.ensures);
           })
       | else-is_escaped w ↦
           let unescaped = sym c.is_escaped.ensures.escaped ∙ w.if-is_escaped.false in
           let is : quoted_character (get_or t i 0) ≡ get_or t i 0 ∷ [] = plain (get_or t i 0) (rw c.as_bytes-byte-items.ensures.value at unescaped) in
-          rw (w.from-is, w.out-is) (record { order = omega arith; boundary = I.boundary; plain = run_plain quoted_character t c.loop-i.from i I.order within is I.plain; wrote = I.wrote })
+          rw (w.from-is, w.out-is) (record {
+            order = omega arith;
+            boundary = I.boundary;
+            plain = run_plain quoted_character t c.loop-i.from i I.order within is I.plain;
+            wrote = I.wrote;
+          })
     ]

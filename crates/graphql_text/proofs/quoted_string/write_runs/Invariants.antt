@@ -1,7 +1,7 @@
 use Rattle.std.proofs.Common.{◌≡◌, ◌≤◌, ◌++◌, take, flat_map}
 use Rattle.std.specs.Str.{IsCharBoundary}
-use Rattle.graphql_text.specs.QuotedForm.{quoted_character}
-use Rattle.graphql_text.proofs.Runs.{run}
+use Rattle.graphql_text.specs.strings.QuotedForm.{quoted_character}
+use Rattle.graphql_text.proofs.strings.EscapeRuns.{run}
 use Rattle.graphql_text.proofs.quoted_string.write_runs.Given as goal
 
 abbrev pub invariant-loop-i : goal.invariant-loop-i

@@ -1,5 +1,5 @@
 use Rattle.std.proofs.Common.{◌≡◌, ℕ, List, ◌++◌, length}
-use Rattle.graphql_text.specs.Sinks.{SinkTook}
+use Rattle.graphql_text.specs.code.Sinks.{SinkTook}
 use Rattle.graphql_text.proofs.sink.put_all.Given as goal
 
 abbrev pub invariant-loop-rest : goal.invariant-loop-rest

@@ -1,5 +1,5 @@
 use Rattle.std.proofs.Common.{rules}
-use Rattle.graphql_text.specs.Sinks.{SinkFaulted}
+use Rattle.graphql_text.specs.code.Sinks.{SinkFaulted}
 use Rattle.graphql_text.specs.lemmas.Sinks.{faulted_before}
 use Rattle.graphql_text.proofs.target.send.Goals as goal
 

@@ -1,7 +1,7 @@
 use Rattle.std.proofs.Common.{refl}
 use Rattle.std.proofs.Math.Utf8.{encode}
-use Rattle.graphql_text.proofs.CommaLeads.{writes_comma_tight}
-use Rattle.graphql_text.proofs.WritingLaws.{writes_item}
+use Rattle.graphql_text.proofs.code.CommaAndMark.{writes_comma_tight}
+use Rattle.graphql_text.proofs.code.WritingSteps.{writes_item}
 use Rattle.graphql_text.proofs.writers.write_comma_end.Goals as goal
 
 pub returns-in-Some-ready_comma_break : goal.returns-in-Some-ready_comma_break

@@ -1,5 +1,5 @@
 use Rattle.std.proofs.Math.Utf8.{encode}
-use Rattle.graphql_text.proofs.CommaLeads.{writes_comma_soft}
+use Rattle.graphql_text.proofs.code.CommaAndMark.{writes_comma_soft}
 use Rattle.graphql_text.proofs.writers.write_comma_lead.Goals as goal
 
 pub returns-then-is_first : goal.returns-then-is_first

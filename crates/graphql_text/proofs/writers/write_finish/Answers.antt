@@ -1,6 +1,6 @@
 use Rattle.std.proofs.Common.{refl}
 use Rattle.std.proofs.Math.Utf8.{encode}
-use Rattle.graphql_text.proofs.WritingLaws.{writes_item}
+use Rattle.graphql_text.proofs.code.WritingSteps.{writes_item}
 use Rattle.graphql_text.proofs.writers.write_finish.Goals as goal
 
 pub returns-in-Some : goal.returns-in-Some

@@ -1,7 +1,7 @@
 use Rattle.std.proofs.Common.{ap, subst, sym, encode_utf8_all}
 use Rattle.std.proofs.lemmas.Str.{encodes-append}
-use Rattle.graphql_text.specs.Layout.{first_indent}
-use Rattle.graphql_text.specs.Place.{mode_of}
+use Rattle.graphql_text.specs.layout.Layout.{first_indent}
+use Rattle.graphql_text.specs.code.Place.{mode_of}
 use Rattle.graphql_text.proofs.writers.write_first_indent.Goals as goal
 
 pub returns-in-Some : goal.returns-in-Some

@@ -1,6 +1,6 @@
 use Rattle.std.proofs.Common.{refl}
-use Rattle.graphql_text.proofs.Ascii.{int_bytes}
-use Rattle.graphql_text.proofs.WritingLaws.{writes_item}
+use Rattle.graphql_text.proofs.lexical.AsciiWords.{int_bytes}
+use Rattle.graphql_text.proofs.code.WritingSteps.{writes_item}
 use Rattle.graphql_text.proofs.writers.write_int.Goals as goal
 
 pub returns : goal.returns

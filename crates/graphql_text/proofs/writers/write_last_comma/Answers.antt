@@ -1,5 +1,5 @@
 use Rattle.std.proofs.Common.{refl}
-use Rattle.graphql_text.proofs.WritingLaws.{writes_nothing}
+use Rattle.graphql_text.proofs.code.WritingSteps.{writes_nothing}
 use Rattle.graphql_text.proofs.writers.write_last_comma.Goals as goal
 
 pub returns-in-Some : goal.returns-in-Some

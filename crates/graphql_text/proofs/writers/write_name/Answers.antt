@@ -1,10 +1,11 @@
 use Rattle.std.proofs.Common.{◌≡◌, refl, encode_utf8_all}
 use Rattle.graphql_base.specs.Name.{name_text}
-use Rattle.graphql_text.proofs.Ascii.{name_bytes}
-use Rattle.graphql_text.proofs.WritingLaws.{writes_item}
+use Rattle.graphql_text.proofs.lexical.AsciiWords.{name_bytes}
+use Rattle.graphql_text.proofs.code.WritingSteps.{writes_item}
 use Rattle.graphql_text.proofs.writers.write_name.Goals as goal
 
 pub returns : goal.returns
 returns g c = λ mode level.
-    let text : encode_utf8_all (name_text c.args.name.now) ≡ name_text c.args.name.now = name_bytes (record { text = name_text c.args.name.now; valid = c.args.name.now.valid }) in
+    let text : encode_utf8_all (name_text c.args.name.now) ≡ name_text c.args.name.now =
+    name_bytes (record { text = name_text c.args.name.now; valid = c.args.name.now.valid }) in
     writes_item refl (rw (text, ← c.as_str.ensures.text) c.text.ensures)

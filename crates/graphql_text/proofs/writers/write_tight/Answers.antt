@@ -1,5 +1,5 @@
 use Rattle.std.proofs.Common.{refl}
-use Rattle.graphql_text.proofs.WritingLaws.{writes_item}
+use Rattle.graphql_text.proofs.code.WritingSteps.{writes_item}
 use Rattle.graphql_text.proofs.writers.write_tight.Goals as goal
 
 pub returns-in-Some : goal.returns-in-Some

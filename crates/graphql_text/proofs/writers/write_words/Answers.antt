@@ -1,4 +1,4 @@
-use Rattle.graphql_text.proofs.FixedText.{writes_fixed}
+use Rattle.graphql_text.proofs.code.FixedText.{writes_fixed}
 use Rattle.graphql_text.proofs.writers.write_words.Goals as goal
 
 pub returns-clause-items : goal.returns-clause-items

@@ -1,11 +1,11 @@
 use Rattle.std.proofs.Common.{◌≡◌, ℕ, List, [], ◌∷◌, Option, Some, drop}
-use Rattle.graphql_text.specs.JoinedNames.{joined_names_shape}
-use Rattle.graphql_text.specs.Layout.{Space, Word}
-use Rattle.graphql_text.specs.Literals.{NameText}
-use Rattle.graphql_text.specs.Tokens.{Punctuator, Token, Punctuation}
-use Rattle.graphql_text.specs.Writing.{WritesBeginning, fixed_text}
-use Rattle.graphql_text.proofs.JoinedNames.{further_names}
-use Rattle.graphql_type_system.specs.MemberTrees.{name_trees}
+use Rattle.graphql_text.specs.parts.JoinedNames.{joined_names_shape}
+use Rattle.graphql_text.specs.layout.Layout.{Space, Word}
+use Rattle.graphql_text.specs.lexical.Literals.{NameText}
+use Rattle.graphql_text.specs.lexical.Tokens.{Punctuator, Token, Punctuation}
+use Rattle.graphql_text.specs.code.Writing.{WritesBeginning, fixed_text}
+use Rattle.graphql_text.proofs.code.JoinedNamesSteps.{further_names}
+use Rattle.graphql_text.specs.trees.Leaves.{name_trees}
 use Rattle.graphql_type_system.proofs.joined_names.write_joined_names.Given as goal
 
 abbrev pub invariant-loop-name : goal.invariant-loop-name

@@ -1,8 +1,8 @@
 use Rattle.std.proofs.Common.{[], ◌∷◌, refl, sym}
 use Rattle.std.proofs.lemmas.Bool.{eqb-true}
 use Rattle.std.proofs.lemmas.List.{nil_from_length}
-use Rattle.graphql_text.specs.Layout.{Space, Word}
-use Rattle.graphql_text.specs.Tokens.{lbrace, rbrace, Punctuation}
+use Rattle.graphql_text.specs.layout.Layout.{Space, Word}
+use Rattle.graphql_text.specs.lexical.Tokens.{lbrace, rbrace, Punctuation}
 use Rattle.graphql_type_system.proofs.members.write_required_members.Goals as goal
 
 pub returns-then-is_empty-clause-written : goal.returns-then-is_empty-clause-written

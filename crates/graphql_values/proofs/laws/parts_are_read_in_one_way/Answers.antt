@@ -1,18 +1,13 @@
-use Rattle.graphql_text.proofs.KindParts.{description_part}
-use Rattle.graphql_text.proofs.Parts.{part_one_way}
-use Rattle.graphql_values.specs.lemmas.DirectiveDefinitions.{directive_definition_part}
+use Rattle.graphql_text.proofs.parts.KindParts.{description_part}
+use Rattle.graphql_text.proofs.parts.Parts.{part_one_way}
 use Rattle.graphql_values.specs.lemmas.Directives.{argument_part, arguments_part, directive_part, directives_part}
-use Rattle.graphql_values.specs.lemmas.InputValueDefinitions.{arguments_definition_part, default_value_part, input_value_definition_part}
+use Rattle.graphql_values.specs.lemmas.InputValueDefinitions.{arguments_definition_part, default_value_part}
 use Rattle.graphql_values.specs.lemmas.OperationTypes.{operation_type_part}
-use Rattle.graphql_values.specs.lemmas.Types.{type_part}
 use Rattle.graphql_values.specs.lemmas.Values.{value_part}
 use Rattle.graphql_values.proofs.laws.parts_are_read_in_one_way.Goals as goal
 
 pub returns-clause-values : goal.returns-clause-values
 returns-clause-values c = λ k. part_one_way (value_part k)
-
-pub returns-clause-types : goal.returns-clause-types
-returns-clause-types c = part_one_way type_part
 
 pub returns-clause-arguments : goal.returns-clause-arguments
 returns-clause-arguments c = λ k. part_one_way (argument_part k)
@@ -32,14 +27,8 @@ returns-clause-descriptions c = part_one_way description_part
 pub returns-clause-default_values : goal.returns-clause-default_values
 returns-clause-default_values c = part_one_way default_value_part
 
-pub returns-clause-input_value_definitions : goal.returns-clause-input_value_definitions
-returns-clause-input_value_definitions c = part_one_way input_value_definition_part
-
 pub returns-clause-arguments_definitions : goal.returns-clause-arguments_definitions
 returns-clause-arguments_definitions c = part_one_way arguments_definition_part
 
 pub returns-clause-operation_types : goal.returns-clause-operation_types
 returns-clause-operation_types c = part_one_way operation_type_part
-
-pub returns-clause-directive_definitions : goal.returns-clause-directive_definitions
-returns-clause-directive_definitions c = part_one_way directive_definition_part

@@ -1,12 +1,12 @@
 use Rattle.std.proofs.Common.{◌∷◌, codes, refl}
-use Rattle.graphql_text.proofs.Readings.{part_refuses}
-use Rattle.graphql_executable.proofs.Readings as executable
+use Rattle.graphql_text.proofs.examples.TextReadings.{part_refuses}
+use Rattle.graphql_executable.proofs.examples.ExecutableReadings as executable
 use Rattle.graphql_executable.specs.lemmas.Heads.{fragment_spread_part}
 use Rattle.graphql_executable.specs.lemmas.Selections.{field_part, inline_fragment_part}
 use Rattle.graphql_executable.specs.lemmas.VariableDefinitions.{variable_definition_part}
-use Rattle.graphql_type_system.proofs.Readings.{part_leaves}
+use Rattle.graphql_type_system.proofs.examples.TypeSystemReadings.{part_leaves}
 use Rattle.graphql_ast.specs.lemmas.Definitions.{definition_part}
-use Rattle.graphql_ast.proofs.Readings.{document_refuses, found}
+use Rattle.graphql_ast.proofs.examples.DocumentReadings.{document_refuses, found}
 use Rattle.graphql_ast.proofs.laws.edges.edge_refusals.Goals as goal
 
 pub returns-clause-untyped_field : goal.returns-clause-untyped_field

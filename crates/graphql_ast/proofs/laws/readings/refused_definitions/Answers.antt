@@ -1,7 +1,7 @@
 use Rattle.std.proofs.Common.{codes, refl}
-use Rattle.graphql_text.proofs.Readings.{part_refuses}
+use Rattle.graphql_text.proofs.examples.TextReadings.{part_refuses}
 use Rattle.graphql_ast.specs.lemmas.Definitions.{definition_part}
-use Rattle.graphql_ast.proofs.Readings.{found}
+use Rattle.graphql_ast.proofs.examples.DocumentReadings.{found}
 use Rattle.graphql_ast.proofs.laws.readings.refused_definitions.Goals as goal
 
 pub returns-clause-empty_operation : goal.returns-clause-empty_operation

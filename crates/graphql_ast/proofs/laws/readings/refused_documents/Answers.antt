@@ -1,5 +1,5 @@
 use Rattle.std.proofs.Common.{codes, refl}
-use Rattle.graphql_ast.proofs.Readings.{document_refuses, found}
+use Rattle.graphql_ast.proofs.examples.DocumentReadings.{document_refuses, found}
 use Rattle.graphql_ast.proofs.laws.readings.refused_documents.Goals as goal
 
 pub returns-clause-empty_operation : goal.returns-clause-empty_operation

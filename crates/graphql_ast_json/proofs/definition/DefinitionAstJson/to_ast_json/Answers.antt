@@ -3,11 +3,12 @@ use Rattle.serde_json.specs.View.{view}
 use Rattle.serde_json.specs.declared.value.Value as json
 use Rattle.graphql_ast.specs.AstTrees.{definition_tree}
 use Rattle.graphql_ast.specs.declared.definition.Definition.{Definition}
-use Rattle.graphql_ast_json.specs.DocumentJson.{IsAnyDefinition}
+use Rattle.graphql_ast_json.specs.kinds.DocumentJson.{IsAnyDefinition}
 use Rattle.graphql_ast_json.proofs.definition.DefinitionAstJson.to_ast_json.Goals as goal
 
 -- what is written of a definition is written of it under its variant
-as_variant : {E : Type 0} {definition variant : Definition} (written : Result json.Value E) → definition ≡ variant → IfOk written (λ json. IsAnyDefinition (definition_tree variant) (view json)) →
+as_variant : {E : Type 0} {definition variant : Definition} (written : Result json.Value E) → definition ≡ variant →
+    IfOk written (λ json. IsAnyDefinition (definition_tree variant) (view json)) →
     IfOk written (λ json. IsAnyDefinition (definition_tree definition) (view json))
 as_variant written is = subst (λ d. IfOk written (λ json. IsAnyDefinition (definition_tree d) (view json))) (sym is)
 

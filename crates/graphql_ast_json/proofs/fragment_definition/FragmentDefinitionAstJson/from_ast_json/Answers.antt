@@ -1,8 +1,8 @@
 use Rattle.serde_json.specs.View.{view}
-use Rattle.graphql_executable.specs.FragmentDefinitions.{fragment_definition_kind}
-use Rattle.graphql_ast_json.specs.Errors.{IsMemory}
-use Rattle.graphql_ast_json.specs.ExecutableJson.{IsFragmentDefinition}
-use Rattle.graphql_ast_json.proofs.Passed.{passed}
+use Rattle.graphql_executable.specs.kinds.FragmentDefinitions.{fragment_definition_kind}
+use Rattle.graphql_ast_json.specs.code.Errors.{IsMemory}
+use Rattle.graphql_ast_json.specs.kinds.ExecutableJson.{IsFragmentDefinition}
+use Rattle.graphql_ast_json.proofs.general.PassedErrors.{passed}
 use Rattle.graphql_ast_json.proofs.fragment_definition.FragmentDefinitionAstJson.from_ast_json.Goals as goal
 
 pub returns-in_err-type_condition-clause-err : goal.returns-in_err-type_condition-clause-err

@@ -1,8 +1,8 @@
 use Rattle.serde_json.specs.View.{view}
-use Rattle.graphql_values.specs.InputValueDefinitions.{input_value_definition_kind}
-use Rattle.graphql_ast_json.specs.DefinitionJson.{IsInputValueDefinition}
-use Rattle.graphql_ast_json.specs.Errors.{IsMemory}
-use Rattle.graphql_ast_json.proofs.Passed.{passed}
+use Rattle.graphql_values.specs.kinds.InputValueDefinitions.{input_value_definition_kind}
+use Rattle.graphql_ast_json.specs.kinds.DefinitionJson.{IsInputValueDefinition}
+use Rattle.graphql_ast_json.specs.code.Errors.{IsMemory}
+use Rattle.graphql_ast_json.proofs.general.PassedErrors.{passed}
 use Rattle.graphql_ast_json.proofs.input_value_definition.InputValueDefinitionAstJson.from_ast_json.Goals as goal
 
 pub returns-in_err-default_value-clause-err : goal.returns-in_err-default_value-clause-err

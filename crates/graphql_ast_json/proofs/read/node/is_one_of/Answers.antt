@@ -1,5 +1,5 @@
 use Rattle.std.proofs.Common.{◌∙◌}
-use Rattle.graphql_ast_json.proofs.Names.{list_any-is_one_of}
+use Rattle.graphql_ast_json.proofs.nodes.NamesAmong.{list_any-is_one_of}
 use Rattle.graphql_ast_json.proofs.read.node.is_one_of.Goals as goal
 
 pub returns : goal.returns

@@ -1,7 +1,7 @@
 use Rattle.std.proofs.Common.{◌≡◌}
 use Rattle.serde_json.specs.View.{members_view}
-use Rattle.graphql_ast_json.specs.Nodes.{names_among}
-use Rattle.graphql_ast_json.specs.Reading.{texts_of}
+use Rattle.graphql_ast_json.specs.nodes.Nodes.{names_among}
+use Rattle.graphql_ast_json.specs.code.NodeReading.{texts_of}
 use Rattle.graphql_ast_json.proofs.read.node.unknown_name.Given as goal
 
 abbrev pub invariant-loop-name : goal.invariant-loop-name

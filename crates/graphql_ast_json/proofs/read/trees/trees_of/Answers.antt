@@ -3,8 +3,8 @@ use Rattle.std.proofs.lemmas.Grind.{common_steps}
 use Rattle.std.proofs.lemmas.List.{take_all, take_more}
 use Rattle.serde_json.specs.View.{view, items_view}
 use Rattle.serde_json.specs.declared.value.Value as json
-use Rattle.graphql_ast_json.specs.Nodes.{Each}
-use Rattle.graphql_ast_json.proofs.Each.{one_more, none_each}
+use Rattle.graphql_ast_json.specs.nodes.Nodes.{Each}
+use Rattle.graphql_ast_json.proofs.nodes.NodeLists.{one_more, none_each}
 use Rattle.graphql_ast_json.proofs.read.trees.trees_of.Goals as goal
 
 pub returns-in-Err-clause-err : goal.returns-in-Err-clause-err
@@ -30,4 +30,5 @@ loop-index-preserved g c =
 pub returns-clause-ok : goal.returns-clause-ok
 returns-clause-ok g c =
     let items = c.args.items.now in
-    subst (λ (vs : List json.Value). Each g.F.Form.is_json_of (map g.F.Form.tree c.loop-index.values.items) (items_view vs)) (take_all c.loop-index.index items (omega arith)) c.loop-index.invariant
+    subst (λ (vs : List json.Value). Each g.F.Form.is_json_of (map g.F.Form.tree c.loop-index.values.items) (items_view vs))
+    (take_all c.loop-index.index items (omega arith)) c.loop-index.invariant

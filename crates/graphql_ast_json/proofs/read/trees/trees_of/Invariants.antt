@@ -1,6 +1,6 @@
 use Rattle.std.proofs.Common.{take, map}
 use Rattle.serde_json.specs.View.{items_view}
-use Rattle.graphql_ast_json.specs.Nodes.{Each}
+use Rattle.graphql_ast_json.specs.nodes.Nodes.{Each}
 use Rattle.graphql_ast_json.proofs.read.trees.trees_of.Given as goal
 
 abbrev pub invariant-loop-index : goal.invariant-loop-index

@@ -1,5 +1,5 @@
 use Rattle.std.proofs.Common.{[], ◌∷◌, codes, refl, sym}
-use Rattle.graphql_ast_json.proofs.Drafts.{begun, ended, gained, given_member, is_node}
+use Rattle.graphql_ast_json.proofs.nodes.DraftsAreNodes.{begun, ended, gained, given_member, is_node}
 use Rattle.graphql_ast_json.proofs.scalar_type.ScalarTypeExtensionAstNode.to_ast_json_at.Goals as goal
 
 pub returns : goal.returns

@@ -4,28 +4,32 @@ use Rattle.std.proofs.lemmas.List.{take_more}
 use Rattle.serde_json.specs.Data.{Data, depth, items_depth, no_items, string}
 use Rattle.serde_json.specs.View.{view, items_view}
 use Rattle.serde_json.specs.declared.value.Value as json
-use Rattle.graphql_executable.specs.ExecutableTrees.{selection_trees}
-use Rattle.graphql_executable.specs.InlineFragments.{InlineFragmentTree}
-use Rattle.graphql_executable.specs.Selections.{SelectionTree}
-use Rattle.graphql_ast_json.specs.Errors.{IsMemory}
-use Rattle.graphql_ast_json.specs.ExecutableJson.{AreSelections, IsInlineFragment, IsSelection, IsSelectionSet}
+use Rattle.graphql_executable.specs.trees.ExecutableTrees.{selection_trees}
+use Rattle.graphql_executable.specs.kinds.InlineFragments.{InlineFragmentTree}
+use Rattle.graphql_executable.specs.kinds.Selections.{SelectionTree}
+use Rattle.graphql_ast_json.specs.code.Errors.{IsMemory}
+use Rattle.graphql_ast_json.specs.kinds.ExecutableJson.{AreSelections, IsInlineFragment, IsSelection, IsSelectionSet}
 use Rattle.graphql_ast_json.specs.lemmas.Leaves.{IsOfKind}
-use Rattle.graphql_ast_json.proofs.Depths.{item-depth}
-use Rattle.graphql_ast_json.proofs.Passed.{passed}
-use Rattle.graphql_ast_json.proofs.SelectionKinds.{none_at, only_field, only_inline_fragment, selections_more}
+use Rattle.graphql_ast_json.proofs.nodes.JsonDepths.{item-depth}
+use Rattle.graphql_ast_json.proofs.general.PassedErrors.{passed}
+use Rattle.graphql_ast_json.proofs.kinds.SelectionJsonByKind.{none_at, only_field, only_inline_fragment, selections_more}
 use Rattle.graphql_ast_json.proofs.selection.read.+selection.Goals as goal
 
 pub selections-read_selection-requires : goal.selections-read_selection-requires
 selections-read_selection-requires t c =
     let items = c.args.items.now in
     let item = c.index-items-index.result in
-    let deep : depth (view item) ≤ items_depth (items_view items) = subst (λ (v : json.Value). depth (view v) ≤ items_depth (items_view items)) (sym c.index-items-index.is) (item-depth items c.loop-index.index item c.loop-index-test.true) in
+    let deep : depth (view item) ≤ items_depth (items_view items) =
+    subst (λ (v : json.Value). depth (view v) ≤ items_depth (items_view items)) (sym c.index-items-index.is)
+    (item-depth items c.loop-index.index item c.loop-index-test.true) in
     (omega arith, tt)
 
 pub selections-returns-in-Err-clause-err : goal.selections-returns-in-Err-clause-err
 selections-returns-in-Err-clause-err t c refused =
     none_at c.args.items.now c.loop-index.index c.index-items-index.result c.loop-index-test.true
-    (λ tree is. c.in-Err.ensures.err (λ m. refused (c.in_item.ensures m)) tree (subst (λ (v : json.Value). IsSelection tree (view v)) (sym c.index-items-index.is) is))
+    (λ tree is.
+    c.in-Err.ensures.err (λ m. refused (c.in_item.ensures m)) tree
+    (subst (λ (v : json.Value). IsSelection tree (view v)) (sym c.index-items-index.is) is))
 
 pub selections-loop-index-preserved : goal.selections-loop-index-preserved
 selections-loop-index-preserved t c =
@@ -40,14 +44,16 @@ pub read_selection-returns-in_err-read_field_node-in-Field-clause-err : goal.rea
 read_selection-returns-in_err-read_field_node-in-Field-clause-err t c =
     let json = view c.args.json.now in
     let kind : IsOfKind (codes "Field") json = c.in_ok-kind.ensures.ok ∙ ap (λ (s : List ℕ). Some (string s)) c.in-Field.is in
-    let none : ¬ IsMemory c.in_err-read_field_node-in-Field.field-0.0 → (tree : SelectionTree) → ¬ IsSelection tree json = λ m. only_field json kind (c.in_err-read_field_node-in-Field.ensures.err m) in
+    let none : ¬ IsMemory c.in_err-read_field_node-in-Field.field-0.0 → (tree : SelectionTree) → ¬ IsSelection tree json =
+    λ m. only_field json kind (c.in_err-read_field_node-in-Field.ensures.err m) in
     passed _ _ _ none c.from_residual-in_err-read_field_node-in-Field.ensures.1
 
 pub read_selection-returns-in_err-fragment-in-InlineFragment-clause-err : goal.read_selection-returns-in_err-fragment-in-InlineFragment-clause-err
 read_selection-returns-in_err-fragment-in-InlineFragment-clause-err t c =
     let json = view c.args.json.now in
     let kind : IsOfKind (codes "InlineFragment") json = c.in_ok-kind.ensures.ok ∙ ap (λ (s : List ℕ). Some (string s)) c.in-InlineFragment.is in
-    let none : ¬ IsMemory c.in_err-fragment-in-InlineFragment.field-0.0 → (tree : SelectionTree) → ¬ IsSelection tree json = λ m. only_inline_fragment json kind (c.in_err-fragment-in-InlineFragment.ensures.err m) in
+    let none : ¬ IsMemory c.in_err-fragment-in-InlineFragment.field-0.0 → (tree : SelectionTree) → ¬ IsSelection tree json =
+    λ m. only_inline_fragment json kind (c.in_err-fragment-in-InlineFragment.ensures.err m) in
     passed _ _ _ none c.from_residual-in_err-fragment-in-InlineFragment.ensures.1
 
 pub read_inline_fragment-returns-in_err-selection_set-clause-err : goal.read_inline_fragment-returns-in_err-selection_set-clause-err
@@ -64,7 +70,8 @@ optional_set-returns-in-Err-clause-err t c refused set is =
 
 pub required_set-returns-in-Err-clause-err : goal.required_set-returns-in-Err-clause-err
 required_set-returns-in-Err-clause-err t c refused set is =
-    c.in-Err.ensures.err (λ m. refused (c.in_member.ensures m)) set (subst (λ (found : Option Data). IsSomeAnd found (IsSelectionSet set)) c.in_ok-member.ensures.ok is)
+    c.in-Err.ensures.err (λ m. refused (c.in_member.ensures m)) set
+    (subst (λ (found : Option Data). IsSomeAnd found (IsSelectionSet set)) c.in_ok-member.ensures.ok is)
 
 pub selections-returns-in_err-push-in-Ok-clause-err : goal.selections-returns-in_err-push-in-Ok-clause-err
 selections-returns-in_err-push-in-Ok-clause-err t c = grind (arith, common_steps)

@@ -1,8 +1,8 @@
 use Rattle.std.proofs.Common.{◌+◌, ◌*◌, take}
 use Rattle.serde_json.specs.Data.{depth, items_depth}
 use Rattle.serde_json.specs.View.{view, items_view}
-use Rattle.graphql_executable.specs.ExecutableTrees.{selection_trees}
-use Rattle.graphql_ast_json.specs.ExecutableJson.{AreSelections}
+use Rattle.graphql_executable.specs.trees.ExecutableTrees.{selection_trees}
+use Rattle.graphql_ast_json.specs.kinds.ExecutableJson.{AreSelections}
 use Rattle.graphql_ast_json.proofs.selection.read.+selection.Given as goal
 
 abbrev pub decreases-read_selection : goal.decreases-read_selection

@@ -2,12 +2,12 @@ use Rattle.std.proofs.Common.{option_map, refl, sym, subst, subst₂, take, take
 use Rattle.serde_json.proofs.Views.{view-Array}
 use Rattle.serde_json.specs.Find.{as_array}
 use Rattle.serde_json.specs.View.{view, items_view}
-use Rattle.graphql_executable.specs.ExecutableTrees.{selection_trees}
-use Rattle.graphql_ast_json.specs.ExecutableJson.{AreSelections, field_members, inline_fragment_members}
-use Rattle.graphql_ast_json.proofs.Drafts.{begun, ended, gained, given_member, is_node}
-use Rattle.graphql_ast_json.proofs.SelectionKinds.{selections_more}
-use Rattle.graphql_ast_json.proofs.SelectionTrees.{field_of_parts, given_optional_set, given_set, inline_fragment_of_parts}
-use Rattle.graphql_ast_json.proofs.WrittenLists.{take_next}
+use Rattle.graphql_executable.specs.trees.ExecutableTrees.{selection_trees}
+use Rattle.graphql_ast_json.specs.kinds.ExecutableJson.{AreSelections, field_members, inline_fragment_members}
+use Rattle.graphql_ast_json.proofs.nodes.DraftsAreNodes.{begun, ended, gained, given_member, is_node}
+use Rattle.graphql_ast_json.proofs.kinds.SelectionJsonByKind.{selections_more}
+use Rattle.graphql_ast_json.proofs.trees.SelectionTrees.{field_of_parts, given_optional_set, given_set, inline_fragment_of_parts}
+use Rattle.graphql_ast_json.proofs.kinds.ValueListsWritten.{take_next}
 use Rattle.graphql_ast_json.proofs.selection.write.+selection.Goals as goal
 
 pub write_selections-loop-selection-preserved : goal.write_selections-loop-selection-preserved
@@ -15,7 +15,8 @@ write_selections-loop-selection-preserved t c =
     let selections = c.args.selections.now in
     let i = c.loop-selection.selection-index in
     let selection = c.selection-item.result in
-    subst₂ (λ taken jsons. AreSelections (selection_trees taken) (items_view jsons)) (sym (take_next selections i selection c.loop-selection-test.true c.selection-item.is)) (sym c.in_ok-push.ensures.ok)
+    subst₂ (λ taken jsons. AreSelections (selection_trees taken) (items_view jsons))
+    (sym (take_next selections i selection c.loop-selection-test.true c.selection-item.is)) (sym c.in_ok-push.ensures.ok)
     (selections_more (take i selections) c.loop-selection.list.items selection c.in_ok-json.json c.loop-selection.invariant c.in_ok-json.ensures)
 
 pub write_selections-returns : goal.write_selections-returns
@@ -28,8 +29,14 @@ pub write_field-returns : goal.write_field-returns
 write_field-returns t c =
     let field = c.args.field.now in
     let json = view c.into_json.result in
-    let set = given_optional_set (selection_trees c.as_slice-3.result.now) (option_map view c.in_ok-set.set) c.in_ok-put_optional_json.ensures.ok c.in_ok-set.ensures in
-    let w = ended c.into_json.ensures (gained (gained (gained (gained (gained (begun c.in_ok-node.ensures) c.in_ok-put_optional.ensures) c.in_ok-put.ensures) c.in_ok-put_list.ensures) c.in_ok-put_list-2.ensures) set) in
+    let set =
+    given_optional_set (selection_trees c.as_slice-3.result.now)
+    (option_map view c.in_ok-set.set) c.in_ok-put_optional_json.ensures.ok c.in_ok-set.ensures in
+    let w =
+    ended c.into_json.ensures (gained (gained (gained (gained
+    (gained (begun c.in_ok-node.ensures) c.in_ok-put_optional.ensures) c.in_ok-put.ensures)
+    c.in_ok-put_list.ensures)
+    c.in_ok-put_list-2.ensures) set) in
     field_of_parts field json (
       is_node field_members w refl refl refl refl,
       (

@@ -1,7 +1,7 @@
 use Rattle.std.proofs.Common.{take}
 use Rattle.serde_json.specs.View.{items_view}
-use Rattle.graphql_executable.specs.ExecutableTrees.{selection_trees}
-use Rattle.graphql_ast_json.specs.ExecutableJson.{AreSelections}
+use Rattle.graphql_executable.specs.trees.ExecutableTrees.{selection_trees}
+use Rattle.graphql_ast_json.specs.kinds.ExecutableJson.{AreSelections}
 use Rattle.graphql_ast_json.proofs.selection.write.+selection.Given as goal
 
 abbrev pub invariant-write_selections-loop-selection : goal.invariant-write_selections-loop-selection

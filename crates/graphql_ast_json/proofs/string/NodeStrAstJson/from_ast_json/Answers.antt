@@ -1,16 +1,17 @@
 use Rattle.std.specs.Prelude.{encode_utf8_all}
-use Rattle.graphql_text.specs.Literals.{StringText}
+use Rattle.graphql_text.specs.lexical.Literals.{StringText}
 use Rattle.serde_json.specs.View.{view}
-use Rattle.graphql_ast_json.specs.Errors.{IsMemory}
-use Rattle.graphql_ast_json.specs.Nodes.{IsStringValue}
-use Rattle.graphql_ast_json.proofs.Passed.{passed}
-use Rattle.graphql_ast_json.proofs.Strings.{description_is}
+use Rattle.graphql_ast_json.specs.code.Errors.{IsMemory}
+use Rattle.graphql_ast_json.specs.nodes.Nodes.{IsStringValue}
+use Rattle.graphql_ast_json.proofs.general.PassedErrors.{passed}
+use Rattle.graphql_ast_json.proofs.trees.DescriptionTexts.{description_is}
 use Rattle.graphql_ast_json.proofs.string.NodeStrAstJson.from_ast_json.Goals as goal
 
 pub returns-in_err-text-clause-err : goal.returns-in_err-text-clause-err
 returns-in_err-text-clause-err c =
     let json = view c.args.json.now in
-    let none : ¬ IsMemory c.in_err-text.field-0.0 → (tree : StringText) → ¬ IsStringValue tree json = λ m tree is. c.in_err-text.ensures.err m (encode_utf8_all tree.text) is in
+    let none : ¬ IsMemory c.in_err-text.field-0.0 → (tree : StringText) → ¬ IsStringValue tree json =
+    λ m tree is. c.in_err-text.ensures.err m (encode_utf8_all tree.text) is in
     passed _ _ _ none c.from_residual.ensures.1
 
 pub returns-clause-ok : goal.returns-clause-ok

@@ -1,12 +1,12 @@
 use Rattle.std.proofs.Common.{List, ℕ, Some, codes, ap, ◌∙◌}
-use Rattle.graphql_values.specs.TypeReferences.{TypeTree}
+use Rattle.graphql_values.specs.kinds.TypeReferences.{TypeTree}
 use Rattle.serde_json.specs.Data.{string}
 use Rattle.serde_json.specs.View.{view}
-use Rattle.graphql_ast_json.specs.Errors.{IsMemory}
-use Rattle.graphql_ast_json.specs.TypeJson.{IsTypeReference}
+use Rattle.graphql_ast_json.specs.code.Errors.{IsMemory}
+use Rattle.graphql_ast_json.specs.kinds.TypeJson.{IsTypeReference}
 use Rattle.graphql_ast_json.specs.lemmas.Leaves.{IsOfKind}
-use Rattle.graphql_ast_json.proofs.Passed.{passed, turned}
-use Rattle.graphql_ast_json.proofs.TypeKinds.{only_named, only_list_type, only_non_null, no_kind, other_kind}
+use Rattle.graphql_ast_json.proofs.general.PassedErrors.{passed, turned}
+use Rattle.graphql_ast_json.proofs.kinds.TypeJsonByKind.{only_named, only_list_type, only_non_null, no_kind, other_kind}
 use Rattle.graphql_ast_json.proofs.types.read.+types.Goals as goal
 
 pub read_type-returns-in_err-kind-clause-err : goal.read_type-returns-in_err-kind-clause-err
@@ -19,14 +19,16 @@ pub read_type-returns-in_err-read_named_type-in-NamedType-clause-err : goal.read
 read_type-returns-in_err-read_named_type-in-NamedType-clause-err t c =
     let json = view c.args.json.now in
     let kind : IsOfKind (codes "NamedType") json = c.in_ok-kind.ensures.ok ∙ ap (λ (s : List ℕ). Some (string s)) c.in-NamedType.is in
-    let none : ¬ IsMemory c.in_err-read_named_type-in-NamedType.field-0.0 → (tree : TypeTree) → ¬ IsTypeReference tree json = λ m. only_named json kind (c.in_err-read_named_type-in-NamedType.ensures.err m) in
+    let none : ¬ IsMemory c.in_err-read_named_type-in-NamedType.field-0.0 → (tree : TypeTree) → ¬ IsTypeReference tree json =
+    λ m. only_named json kind (c.in_err-read_named_type-in-NamedType.ensures.err m) in
     passed _ _ _ none c.from_residual-in_err-read_named_type-in-NamedType.ensures.1
 
 pub read_type-returns-in_err-item-in-ListType-clause-err : goal.read_type-returns-in_err-item-in-ListType-clause-err
 read_type-returns-in_err-item-in-ListType-clause-err t c =
     let json = view c.args.json.now in
     let kind : IsOfKind (codes "ListType") json = c.in_ok-kind.ensures.ok ∙ ap (λ (s : List ℕ). Some (string s)) c.in-ListType.is in
-    let none : ¬ IsMemory c.in_err-item-in-ListType.field-0.0 → (tree : TypeTree) → ¬ IsTypeReference tree json = λ m. only_list_type json kind (c.in_err-item-in-ListType.ensures.err m) in
+    let none : ¬ IsMemory c.in_err-item-in-ListType.field-0.0 → (tree : TypeTree) → ¬ IsTypeReference tree json =
+    λ m. only_list_type json kind (c.in_err-item-in-ListType.ensures.err m) in
     passed _ _ _ none c.from_residual-in_err-item-in-ListType.ensures.1
 
 pub read_type-returns-in-NonNullType-clause-err : goal.read_type-returns-in-NonNullType-clause-err
@@ -37,4 +39,5 @@ read_type-returns-in-NonNullType-clause-err t c =
 
 pub read_type-returns-in_default-clause-err : goal.read_type-returns-in_default-clause-err
 read_type-returns-in_default-clause-err t c refused =
-    other_kind (view c.args.json.now) c.in_ok-kind.kind.now c.in_ok-kind.ensures.ok c.in_default.not-NamedType c.in_default.not-ListType c.in_default.not-NonNullType
+    other_kind (view c.args.json.now) c.in_ok-kind.kind.now c.in_ok-kind.ensures.ok c.in_default.not-NamedType c.in_default.not-ListType
+    c.in_default.not-NonNullType

@@ -1,8 +1,8 @@
 use Rattle.std.proofs.Common.{◌+◌, ◌*◌, take}
 use Rattle.serde_json.specs.Data.{depth, items_depth}
 use Rattle.serde_json.specs.View.{view, items_view}
-use Rattle.graphql_values.specs.ValueTrees.{value_trees, object_field_trees}
-use Rattle.graphql_ast_json.specs.ValueJson.{AreValues, AreObjectFields}
+use Rattle.graphql_values.specs.trees.ValueTrees.{value_trees, object_field_trees}
+use Rattle.graphql_ast_json.specs.kinds.ValueJson.{AreValues, AreObjectFields}
 use Rattle.graphql_ast_json.proofs.value.read.+value.Given as goal
 
 abbrev pub decreases-read_value : goal.decreases-read_value

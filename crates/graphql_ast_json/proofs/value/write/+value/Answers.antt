@@ -3,17 +3,17 @@ use Rattle.std.proofs.lemmas.Str.{IsUtf8-string_bytes, encodes-chars}
 use Rattle.serde_json.proofs.Views.{view-Array}
 use Rattle.serde_json.specs.Find.{as_array}
 use Rattle.serde_json.specs.View.{view, items_view}
-use Rattle.graphql_text.specs.Leaves.{name_tree}
-use Rattle.graphql_values.specs.Literals.{string_tree}
-use Rattle.graphql_values.specs.ValueTrees.{value_tree, value_trees, object_field_trees}
-use Rattle.graphql_ast_json.specs.ValueJson.{IsValue, IsNamedValue, AreValues, AreObjectFields}
-use Rattle.graphql_ast_json.proofs.Drafts.{begun, ended, is_node}
-use Rattle.graphql_ast_json.proofs.Outcomes.{both_then, one_then}
+use Rattle.graphql_text.specs.trees.Leaves.{name_tree}
+use Rattle.graphql_values.specs.trees.Literals.{string_tree}
+use Rattle.graphql_values.specs.trees.ValueTrees.{value_tree, value_trees, object_field_trees}
+use Rattle.graphql_ast_json.specs.kinds.ValueJson.{IsValue, IsNamedValue, AreValues, AreObjectFields}
+use Rattle.graphql_ast_json.proofs.nodes.DraftsAreNodes.{begun, ended, is_node}
+use Rattle.graphql_ast_json.proofs.general.OkValues.{both_then, one_then}
 use Rattle.graphql_ast_json.specs.lemmas.Leaves.{there}
 use Rattle.graphql_ast_json.specs.lemmas.ValueNodes.{value_never_null}
-use Rattle.graphql_ast_json.proofs.Present.{list_is, member_is}
-use Rattle.graphql_ast_json.proofs.Trees.{list_tree, null_tree, object_tree, string_value_tree, variable_tree}
-use Rattle.graphql_ast_json.proofs.WrittenLists.{fields_more, take_next, values_more}
+use Rattle.graphql_ast_json.proofs.nodes.GivenMembers.{list_is, member_is}
+use Rattle.graphql_ast_json.proofs.trees.ValueAndTypeTrees.{list_tree, null_tree, object_tree, string_value_tree, variable_tree}
+use Rattle.graphql_ast_json.proofs.kinds.ValueListsWritten.{fields_more, take_next, values_more}
 use Rattle.graphql_ast_json.proofs.value.write.+value.Goals as goal
 
 pub write_items-loop-item-preserved : goal.write_items-loop-item-preserved
@@ -66,7 +66,9 @@ pub write_value-returns-in_ok-fields-in-Object : goal.write_value-returns-in_ok-
 write_value-returns-in_ok-fields-in-Object t c =
     let inner = view c.in_ok-fields-in-Object.fields in
     let fields = c.in-Object.fields in
-    let are = subst (λ fs. IsSomeAnd (as_array inner) (AreObjectFields (object_field_trees fs))) c.as_slice-in-Object.ensures.value c.in_ok-fields-in-Object.ensures in
+    let are =
+    subst (λ fs. IsSomeAnd (as_array inner) (AreObjectFields (object_field_trees fs))) c.as_slice-in-Object.ensures.value
+    c.in_ok-fields-in-Object.ensures in
     both_then c.write_node_with-in-Object.result c.write_node_with-in-Object.ensures.node c.write_node_with-in-Object.ensures.member (λ json node at.
     subst (λ tree. IsValue tree (view json)) (sym (ap value_tree c.in-Object.is ∙ object_tree fields))
     (node, list_is (codes "fields") (view json) inner (AreObjectFields (object_field_trees fields.items)) at are))

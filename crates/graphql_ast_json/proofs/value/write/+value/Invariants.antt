@@ -1,7 +1,7 @@
 use Rattle.std.proofs.Common.{take}
-use Rattle.graphql_values.specs.ValueTrees.{value_trees, object_field_trees}
+use Rattle.graphql_values.specs.trees.ValueTrees.{value_trees, object_field_trees}
 use Rattle.serde_json.specs.View.{items_view}
-use Rattle.graphql_ast_json.specs.ValueJson.{AreValues, AreObjectFields}
+use Rattle.graphql_ast_json.specs.kinds.ValueJson.{AreValues, AreObjectFields}
 use Rattle.graphql_ast_json.proofs.value.write.+value.Given as goal
 
 abbrev pub invariant-write_items-loop-item : goal.invariant-write_items-loop-item

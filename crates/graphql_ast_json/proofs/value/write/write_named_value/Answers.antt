@@ -1,5 +1,5 @@
 use Rattle.std.proofs.Common.{[], ◌∷◌, codes, refl}
-use Rattle.graphql_ast_json.proofs.Drafts.{begun, ended, found, gained, gained_json, given_member, is_node}
+use Rattle.graphql_ast_json.proofs.nodes.DraftsAreNodes.{begun, ended, found, gained, gained_json, given_member, is_node}
 use Rattle.graphql_ast_json.proofs.value.write.write_named_value.Goals as goal
 
 pub returns : goal.returns

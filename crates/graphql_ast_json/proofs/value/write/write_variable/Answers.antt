@@ -1,10 +1,10 @@
 use Rattle.std.proofs.Common.{codes}
 use Rattle.serde_json.specs.View.{view}
-use Rattle.graphql_text.specs.Leaves.{name_tree}
-use Rattle.graphql_ast_json.specs.Nodes.{IsName}
-use Rattle.graphql_ast_json.proofs.Outcomes.{both_then}
+use Rattle.graphql_text.specs.trees.Leaves.{name_tree}
+use Rattle.graphql_ast_json.specs.nodes.Nodes.{IsName}
+use Rattle.graphql_ast_json.proofs.general.OkValues.{both_then}
 use Rattle.graphql_ast_json.specs.lemmas.Leaves.{name_never_null, there}
-use Rattle.graphql_ast_json.proofs.Present.{member_is}
+use Rattle.graphql_ast_json.proofs.nodes.GivenMembers.{member_is}
 use Rattle.graphql_ast_json.proofs.value.write.write_variable.Goals as goal
 
 pub returns : goal.returns

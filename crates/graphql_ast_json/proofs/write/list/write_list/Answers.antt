@@ -2,9 +2,9 @@ use Rattle.std.proofs.Common.{IsSomeAnd, map, subst, subst₂, sym, take, take_a
 use Rattle.serde_json.proofs.Views.{view-Array}
 use Rattle.serde_json.specs.Find.{as_array}
 use Rattle.serde_json.specs.View.{items_view}
-use Rattle.graphql_ast_json.specs.Nodes.{Each}
-use Rattle.graphql_ast_json.proofs.Each.{one_more}
-use Rattle.graphql_ast_json.proofs.WrittenLists.{take_next}
+use Rattle.graphql_ast_json.specs.nodes.Nodes.{Each}
+use Rattle.graphql_ast_json.proofs.nodes.NodeLists.{one_more}
+use Rattle.graphql_ast_json.proofs.kinds.ValueListsWritten.{take_next}
 use Rattle.graphql_ast_json.proofs.write.list.write_list.Goals as goal
 
 pub loop-value-preserved : goal.loop-value-preserved
@@ -14,7 +14,8 @@ loop-value-preserved g c =
     let values = c.args.values.now in
     let i = c.loop-value.value-index in
     let value = c.value-item.result in
-    subst₂ (λ taken jsons. Each Is (map tree taken) (items_view jsons)) (sym (take_next values i value c.loop-value-test.true c.value-item.is)) (sym c.in_ok-push.ensures.ok)
+    subst₂ (λ taken jsons. Each Is (map tree taken) (items_view jsons))
+    (sym (take_next values i value c.loop-value-test.true c.value-item.is)) (sym c.in_ok-push.ensures.ok)
     (one_more Is tree (take i values) c.loop-value.list.items value c.in_ok-json.json c.loop-value.invariant c.in_ok-json.ensures)
 
 pub returns : goal.returns

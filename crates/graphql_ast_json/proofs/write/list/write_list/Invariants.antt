@@ -1,6 +1,6 @@
 use Rattle.std.proofs.Common.{map, take}
 use Rattle.serde_json.specs.View.{items_view}
-use Rattle.graphql_ast_json.specs.Nodes.{Each}
+use Rattle.graphql_ast_json.specs.nodes.Nodes.{Each}
 use Rattle.graphql_ast_json.proofs.write.list.write_list.Given as goal
 
 abbrev pub invariant-loop-value : goal.invariant-loop-value

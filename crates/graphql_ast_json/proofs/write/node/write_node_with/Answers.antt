@@ -1,8 +1,8 @@
 use Rattle.std.proofs.Common.{◌∷◌, [], Some, ap, ◌∙◌}
 use Rattle.serde_json.specs.Data.{object, put}
 use Rattle.serde_json.specs.View.{view}
-use Rattle.graphql_ast_json.specs.Drafts.{IsAt}
-use Rattle.graphql_ast_json.proofs.Drafts.{IsWritten, one_written, anywhere}
+use Rattle.graphql_ast_json.specs.code.Drafts.{IsAt}
+use Rattle.graphql_ast_json.proofs.nodes.DraftsAreNodes.{IsWritten, one_written, anywhere}
 use Rattle.graphql_ast_json.proofs.write.node.write_node_with.Goals as goal
 
 pub returns : goal.returns

@@ -1,5 +1,5 @@
 use Rattle.std.proofs.Common.{◌∙◌}
-use Rattle.graphql_base.proofs.Stretches.{answered}
+use Rattle.graphql_base.proofs.SpanStretches.{answered}
 use Rattle.graphql_base.proofs.location.Location.get.Goals as goal
 
 pub returns : goal.returns

@@ -18,7 +18,7 @@ use denote.Steps.{nothing}
 use denote.Triple.Entry.{alive}
 use denote.Triple.Walked.{Stays, stay_dropped, walk_of, ends_at, says, Goes-dropped}
 use Rattle.std.proofs.raw_atomic.Walks.{proved_at}
-use Rattle.graphql_base.proofs.Structs.{unit_val, pair_val, makes_unit, makes_pair}
+use Rattle.graphql_base.proofs.OwnedParts.{unit_val, pair_val, makes_unit, makes_pair}
 use Rattle.graphql_base.specs.contracts.static_text.Readable as readable
 use Rattle.graphql_base.specs.contracts.static_text.Readable.of as f
 use Rattle.graphql_base.proofs.static_text.Readable.of.Statement.{statement}

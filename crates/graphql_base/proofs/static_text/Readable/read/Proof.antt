@@ -27,7 +27,10 @@ use Rattle.graphql_base.proofs.static_text.Readable.read.Statement.{statement}
 use Rattle.graphql_base.proofs.static_text.Readable.read.Code as code
 
 abbrev stayed : Stays f.ended.signature.params f.ended.kept
-stayed = (stay_dropped (RefOf (0 ∷ []) tt (plain (λ _. readable.the_row)) (λ _. tt)) yes, (stay_dropped (plain (λ _. RawPtr)) yes, (stay_dropped (plain (λ _. usize)) yes, tt)))
+stayed = (
+  stay_dropped (RefOf (0 ∷ []) tt (plain (λ _. readable.the_row)) (λ _. tt)) yes,
+  (stay_dropped (plain (λ _. RawPtr)) yes, (stay_dropped (plain (λ _. usize)) yes, tt)),
+)
 
 pub read_spec : {M : Type 1} → statement M
 read_spec 𝓤 𝓛 𝓜 𝓡 wired =
@@ -53,7 +56,8 @@ read_spec 𝓤 𝓛 𝓜 𝓡 wired =
     let placed : at ≡ block_ptr b o = asked.0 ∙ s.placed.0 in
     let self = vptr a.0.ref_ptr.0 a.0.ref_ptr.1 in
     regoal ! (λ (us : List Val). prop (WpFn 𝓤 𝓛.H 𝓣.C 𝓣.Λ code.function (us ++ (vss.1.0 ++ (vss.1.1.0 ++ []))) (W.post z))) is_self refl $
-    regoal ! (λ (us : List Val). prop (WpFn 𝓤 𝓛.H 𝓣.C 𝓣.Λ code.function ((self ∷ []) ++ (us ++ (vss.1.1.0 ++ []))) (W.post z))) (is_at ∙ ap (λ p. ptr_val p ∷ []) placed) refl $
+    regoal ! (λ (us : List Val). prop (WpFn 𝓤 𝓛.H 𝓣.C 𝓣.Λ code.function ((self ∷ []) ++ (us ++ (vss.1.1.0 ++ []))) (W.post z)))
+    (is_at ∙ ap (λ p. ptr_val p ∷ []) placed) refl $
     regoal ! (λ (us : List Val). prop (WpFn 𝓤 𝓛.H 𝓣.C 𝓣.Λ code.function ((self ∷ []) ++ ((vptr b o ∷ []) ++ (us ++ []))) (W.post z))) is_len refl $
     enter ! _ _ _ (self ∷ vptr b o ∷ vint w64 n ∷ []) _ $ alloc_all ! (λ l. pass_all ! refl ((tt, tt), ((tt, tt), ((tt, record { fits = fits }), tt))) $
     first ! $ blocks ! $
@@ -63,5 +67,7 @@ read_spec 𝓤 𝓛 𝓜 𝓡 wired =
     hide ! $ flt_i ! (length s.bytes * 1) (2 ^ 63) (omega (arith, s.placed.1)) $ flt_i ! (length s.bytes) (2 ^ 64) (omega (arith, s.placed.1)) $ fjoin ! $
     feq_i ! (List Val) (slice_val (b, o) n ∷ []) (slice_val (b, o) (length s.bytes) ∷ []) (ap (λ k. slice_val (b, o) k ∷ []) asked.1) $ fjoin ! $ fjoin ! $
     returns ! (look_at ! 0 refl) $ free_all ! refl $
-    suffices ! _ (ends_at 𝓛 f.ended stayed c z (slice_val (b, o) n) (record { ref_ptr = (b, o); now = s.bytes }) (tt, (tt, (tt, tt))) (tt, (tt, (tt, tt)))) $ says ! refl $
+    suffices ! _ (ends_at 𝓛 f.ended stayed c z (slice_val (b, o) n) (record { ref_ptr = (b, o); now = s.bytes }) (tt, (tt, (tt, tt)))
+    (tt, (tt, (tt, tt)))) $
+    says ! refl $
     nothing ! $ nothing ! $ fjoin ! $ nothing ! $ fjoin ! $ nothing ! $ fjoin ! $ move ! (2 ∷ 0 ∷ 1 ∷ []) $ done !)))))))

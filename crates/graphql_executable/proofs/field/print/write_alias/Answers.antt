@@ -1,8 +1,8 @@
 use Rattle.std.proofs.Common.{[], ◌∷◌, refl}
 use Rattle.graphql_base.specs.Name.{name_text}
-use Rattle.graphql_text.specs.Layout.{Space, Word}
-use Rattle.graphql_text.specs.Tokens.{colon, Punctuation, Name}
-use Rattle.graphql_text.proofs.WritingLaws.{writes_nothing, writes_then}
+use Rattle.graphql_text.specs.layout.Layout.{Space, Word}
+use Rattle.graphql_text.specs.lexical.Tokens.{colon, Punctuation, Name}
+use Rattle.graphql_text.proofs.code.WritingSteps.{writes_nothing, writes_then}
 use Rattle.graphql_executable.proofs.field.print.write_alias.Goals as goal
 
 pub returns-in-Some : goal.returns-in-Some

@@ -1,7 +1,7 @@
 use Rattle.std.proofs.Common.{[], ◌∷◌, refl, codes}
-use Rattle.graphql_text.specs.Layout.{Space, Word}
-use Rattle.graphql_text.specs.Tokens.{Name}
-use Rattle.graphql_text.proofs.WritingLaws.{writes_nothing, writes_then}
+use Rattle.graphql_text.specs.layout.Layout.{Space, Word}
+use Rattle.graphql_text.specs.lexical.Tokens.{Name}
+use Rattle.graphql_text.proofs.code.WritingSteps.{writes_nothing, writes_then}
 use Rattle.graphql_executable.proofs.inline_fragment.print.write_type_condition.Goals as goal
 
 pub returns-in-Some : goal.returns-in-Some

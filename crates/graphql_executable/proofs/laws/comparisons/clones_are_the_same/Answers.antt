@@ -1,11 +1,11 @@
 use Rattle.std.proofs.Common.{◌≡◌, ◌∙◌, rules, sym}
 use Rattle.std.proofs.lemmas.List.Elements.{same_from_all_zip}
 use Rattle.std.specs.Option.{option_map}
-use Rattle.graphql_text.specs.Leaves.{description_tree, name_tree}
-use Rattle.graphql_values.specs.DirectiveTrees.{argument_trees, directive_node_trees}
-use Rattle.graphql_values.specs.LocationTrees.{operation_type_tree}
-use Rattle.graphql_executable.specs.ExecutableTrees.{selection_trees, variable_definition_trees}
-use Rattle.graphql_executable.proofs.SelectionShapes.{field_is, inline_fragment_is}
+use Rattle.graphql_text.specs.trees.Leaves.{description_tree, name_tree}
+use Rattle.graphql_values.specs.trees.DirectiveTrees.{argument_trees, directive_node_trees}
+use Rattle.graphql_values.specs.trees.LocationTrees.{operation_type_tree}
+use Rattle.graphql_executable.specs.trees.ExecutableTrees.{selection_trees, variable_definition_trees}
+use Rattle.graphql_executable.proofs.layout.SelectionShapes.{field_is, inline_fragment_is}
 use Rattle.graphql_executable.proofs.laws.comparisons.clones_are_the_same.Goals as goal
 
 pub returns-clause-fields : goal.returns-clause-fields

@@ -1,30 +1,7 @@
-use Rattle.graphql_text.proofs.Parts.{part_always_derives}
-use Rattle.graphql_executable.specs.lemmas.Definitions.{fragment_definition_part, operation_definition_part}
-use Rattle.graphql_executable.specs.lemmas.Heads.{fragment_spread_part}
-use Rattle.graphql_executable.specs.lemmas.Selections.{field_part, inline_fragment_part, selection_part, selection_set_part}
-use Rattle.graphql_executable.specs.lemmas.VariableDefinitions.{variable_definition_part, variable_definitions_part}
+use Rattle.graphql_text.proofs.parts.Parts.{part_always_derives}
+use Rattle.graphql_executable.specs.lemmas.Selections.{selection_set_part}
+use Rattle.graphql_executable.specs.lemmas.VariableDefinitions.{variable_definitions_part}
 use Rattle.graphql_executable.proofs.laws.kinds.printed_tokens_derive_the_tree.Goals as goal
-
-pub returns-clause-variable_definitions : goal.returns-clause-variable_definitions
-returns-clause-variable_definitions c = part_always_derives variable_definition_part
-
-pub returns-clause-selections : goal.returns-clause-selections
-returns-clause-selections c = part_always_derives selection_part
-
-pub returns-clause-fields : goal.returns-clause-fields
-returns-clause-fields c = part_always_derives field_part
-
-pub returns-clause-fragment_spreads : goal.returns-clause-fragment_spreads
-returns-clause-fragment_spreads c = part_always_derives fragment_spread_part
-
-pub returns-clause-inline_fragments : goal.returns-clause-inline_fragments
-returns-clause-inline_fragments c = part_always_derives inline_fragment_part
-
-pub returns-clause-operation_definitions : goal.returns-clause-operation_definitions
-returns-clause-operation_definitions c = part_always_derives operation_definition_part
-
-pub returns-clause-fragment_definitions : goal.returns-clause-fragment_definitions
-returns-clause-fragment_definitions c = part_always_derives fragment_definition_part
 
 pub returns-clause-variable_lists : goal.returns-clause-variable_lists
 returns-clause-variable_lists c = part_always_derives variable_definitions_part

@@ -1,9 +1,9 @@
 use Rattle.std.proofs.Common.{codes, refl}
-use Rattle.graphql_text.proofs.Readings.{part_refuses}
+use Rattle.graphql_text.proofs.examples.TextReadings.{part_refuses}
 use Rattle.graphql_executable.specs.lemmas.Definitions.{fragment_definition_part, operation_definition_part}
 use Rattle.graphql_executable.specs.lemmas.Heads.{fragment_spread_part}
 use Rattle.graphql_executable.specs.lemmas.Selections.{field_part, inline_fragment_part}
-use Rattle.graphql_executable.proofs.Readings.{found}
+use Rattle.graphql_executable.proofs.examples.ExecutableReadings.{found}
 use Rattle.graphql_executable.proofs.laws.readings.refused_readings.Goals as goal
 
 pub returns-clause-empty_operation : goal.returns-clause-empty_operation

@@ -1,11 +1,11 @@
 use Rattle.std.proofs.Common.{[], ◌∷◌, ◌∙◌, ap, arith, le_refl, length, length-append, refl}
-use Rattle.graphql_text.specs.Stack.{stack_entries}
-use Rattle.graphql_text.proofs.PendingLaws.{pending_items_push, pending_need_push}
-use Rattle.graphql_text.proofs.StackLaws.{kept_unused}
-use Rattle.graphql_text.proofs.WritingLaws.{beginning_none, beginning_stopped, beginning_then}
-use Rattle.graphql_values.proofs.StacksKept.{stacks_twice}
-use Rattle.graphql_executable.specs.SelectionWalk.{entry_items, entry_nesting, stack_items, stack_need}
-use Rattle.graphql_executable.proofs.SelectionStack.{finished}
+use Rattle.graphql_text.specs.code.Stack.{stack_entries}
+use Rattle.graphql_text.proofs.code.PendingStackSteps.{pending_items_push, pending_need_push}
+use Rattle.graphql_text.proofs.code.KeptStacks.{kept_unused}
+use Rattle.graphql_text.proofs.code.WritingSteps.{beginning_none, beginning_stopped, beginning_then}
+use Rattle.graphql_values.proofs.code.DefinitionStacksKept.{stacks_twice}
+use Rattle.graphql_executable.specs.code.SelectionWalk.{entry_items, entry_nesting, stack_items, stack_need}
+use Rattle.graphql_executable.proofs.code.SelectionWalkSteps.{finished}
 use Rattle.graphql_executable.proofs.selection.print.finish_sets.Goals as goal
 
 pub loop-entry-init : goal.loop-entry-init
@@ -48,7 +48,10 @@ loop-entry-preserved g c =
       prefix = c.write_entry.ensures.prefix ∙ i.prefix;
       level = omega (arith, count, goes.levels, i.level);
       need = omega (arith, need, goes.need, i.need);
-      kept = record { definitions = stacks_twice i.kept.definitions kept.definitions; selections = omega (arith, c.in-Some.ensures.room, kept.selections, i.kept.selections) };
+      kept = record {
+        definitions = stacks_twice i.kept.definitions kept.definitions;
+        selections = omega (arith, c.in-Some.ensures.room, kept.selections, i.kept.selections);
+      };
       written = beginning_then g.met.O.Target.more i.written parted goes.written;
     }
 

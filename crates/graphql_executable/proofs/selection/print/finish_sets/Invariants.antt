@@ -1,8 +1,8 @@
 use Rattle.std.proofs.Common.{◌≡◌, ◌+◌, ◌≤◌, length}
-use Rattle.graphql_text.specs.Place.{mode_of}
-use Rattle.graphql_text.specs.Stack.{stack_entries}
-use Rattle.graphql_text.specs.Writing.{WritesBeginning}
-use Rattle.graphql_executable.specs.SelectionWalk.{LoseNoRoom, stack_items, stack_need}
+use Rattle.graphql_text.specs.code.Place.{mode_of}
+use Rattle.graphql_text.specs.code.Stack.{stack_entries}
+use Rattle.graphql_text.specs.code.Writing.{WritesBeginning}
+use Rattle.graphql_executable.specs.code.SelectionWalk.{LoseNoRoom, stack_items, stack_need}
 use Rattle.graphql_executable.proofs.selection.print.finish_sets.Given as goal
 
 abbrev pub invariant-loop-entry : goal.invariant-loop-entry
@@ -14,7 +14,8 @@ invariant-loop-entry g l =
       level : l.here.level + length before ≡ l.fn.here.level + length entries;
       need : stack_need entries ≤ stack_need before;
       kept : LoseNoRoom l.fn.stacks l.stacks;
-      written : WritesBeginning g.O.Target.wrote l.fn.out l.out (mode_of l.fn.here.prefix) l.fn.here.level (stack_items before) l.here.level (stack_items entries);
+      written : WritesBeginning g.O.Target.wrote l.fn.out l.out (mode_of l.fn.here.prefix) l.fn.here.level (stack_items before) l.here.level
+          (stack_items entries);
     }
 
 abbrev pub decreases-loop-entry : goal.decreases-loop-entry

@@ -1,10 +1,10 @@
 use Rattle.std.proofs.Common.{[], ◌∷◌, arith, le_refl, refl}
-use Rattle.graphql_text.specs.Layout.{Space}
-use Rattle.graphql_text.proofs.PendingLaws.{opens_after}
-use Rattle.graphql_executable.specs.ExecutableTrees.{inline_fragment_tree}
-use Rattle.graphql_executable.specs.InlineFragments.{selection_of_inline_fragment}
-use Rattle.graphql_executable.specs.Selections.{selection_nesting, selection_set_nesting, selection_shape}
-use Rattle.graphql_executable.proofs.SelectionShapes.{inline_selections_are}
+use Rattle.graphql_text.specs.layout.Layout.{Space}
+use Rattle.graphql_text.proofs.code.PendingStackSteps.{opens_after}
+use Rattle.graphql_executable.specs.trees.ExecutableTrees.{inline_fragment_tree}
+use Rattle.graphql_executable.specs.kinds.InlineFragments.{selection_of_inline_fragment}
+use Rattle.graphql_executable.specs.kinds.Selections.{selection_nesting, selection_set_nesting, selection_shape}
+use Rattle.graphql_executable.proofs.layout.SelectionShapes.{inline_selections_are}
 use Rattle.graphql_executable.proofs.selection.print.open_inline_fragment.Goals as goal
 
 pub returns-clause-opened : goal.returns-clause-opened

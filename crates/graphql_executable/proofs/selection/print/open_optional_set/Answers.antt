@@ -1,11 +1,11 @@
 use Rattle.std.proofs.Common.{◌≢◌, [], ◌∷◌, ◌∙◌, arith, length, refl, sym}
 use Rattle.std.proofs.lemmas.Bool.{eq-eqb, eqb-true, false≢true}
-use Rattle.graphql_text.specs.Layout.{Space}
-use Rattle.graphql_text.specs.Stack.{stack_entries}
-use Rattle.graphql_text.proofs.PendingLaws.{opens_after, opens_leaf}
-use Rattle.graphql_text.proofs.WritingLaws.{writes_nothing}
-use Rattle.graphql_executable.specs.Selections.{selection_shape}
-use Rattle.graphql_executable.proofs.SelectionStack.{empty_set, set_is_there}
+use Rattle.graphql_text.specs.layout.Layout.{Space}
+use Rattle.graphql_text.specs.code.Stack.{stack_entries}
+use Rattle.graphql_text.proofs.code.PendingStackSteps.{opens_after, opens_leaf}
+use Rattle.graphql_text.proofs.code.WritingSteps.{writes_nothing}
+use Rattle.graphql_executable.specs.kinds.Selections.{selection_shape}
+use Rattle.graphql_executable.proofs.code.SelectionWalkSteps.{empty_set, set_is_there}
 use Rattle.graphql_executable.proofs.selection.print.open_optional_set.Goals as goal
 
 pub returns-then-is_empty-clause-opened : goal.returns-then-is_empty-clause-opened

@@ -1,8 +1,8 @@
 use Rattle.std.proofs.Common.{[], ◌∷◌, refl}
-use Rattle.graphql_text.specs.Layout.{Space, Word}
-use Rattle.graphql_text.specs.Tokens.{lbrace, rbrace, Punctuation}
-use Rattle.graphql_text.proofs.WritingLaws.{writes_then}
-use Rattle.graphql_executable.proofs.SelectionShapes.{empty_inline_shape, plain_field_shape, spread_shape}
+use Rattle.graphql_text.specs.layout.Layout.{Space, Word}
+use Rattle.graphql_text.specs.lexical.Tokens.{lbrace, rbrace, Punctuation}
+use Rattle.graphql_text.proofs.code.WritingSteps.{writes_then}
+use Rattle.graphql_executable.proofs.layout.SelectionShapes.{empty_inline_shape, plain_field_shape, spread_shape}
 use Rattle.graphql_executable.proofs.selection.print.write_leaf.Goals as goal
 
 pub returns-in-Field-clause-written : goal.returns-in-Field-clause-written
@@ -12,7 +12,7 @@ returns-in-Field-clause-written g c =
 
 pub returns-in-FragmentSpread-clause-written : goal.returns-in-FragmentSpread-clause-written
 returns-in-FragmentSpread-clause-written g c =
-    rw (c.in-FragmentSpread.is, spread_shape c.in-FragmentSpread.spread) (rw c.deref-in-FragmentSpread.ensures at c.write_fragment_spread.ensures.written)
+    rw (c.in-FragmentSpread.is, spread_shape c.in-FragmentSpread.spread) (rw c.deref-in-FragmentSpread.ensures at c.write_at.ensures.written)
 
 pub returns-in-InlineFragment-clause-written : goal.returns-in-InlineFragment-clause-written
 returns-in-InlineFragment-clause-written g c =

@@ -1,7 +1,7 @@
-use Rattle.graphql_values.proofs.StacksKept.{stacks_unused}
-use Rattle.graphql_executable.specs.SelectionWalk.{LoseNoRoom}
-use Rattle.graphql_executable.proofs.SelectionStack.{opened_and_finished, set_balanced}
-use Rattle.graphql_executable.proofs.StacksKept.{all_kept, can_finish}
+use Rattle.graphql_values.proofs.code.DefinitionStacksKept.{stacks_unused}
+use Rattle.graphql_executable.specs.code.SelectionWalk.{LoseNoRoom}
+use Rattle.graphql_executable.proofs.code.SelectionWalkSteps.{opened_and_finished, set_balanced}
+use Rattle.graphql_executable.proofs.code.ExecutableStacksKept.{all_kept, can_finish}
 use Rattle.graphql_executable.proofs.selection.print.write_selection_set.Goals as goal
 
 pub finish_sets-requires : goal.finish_sets-requires

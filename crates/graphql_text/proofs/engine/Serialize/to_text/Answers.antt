@@ -1,7 +1,7 @@
 use Rattle.std.proofs.Common.{◌≡◌, Result, Ok, Err, IfOk, subst, sym, rules}
 use Rattle.std.specs.Prelude.{string_bytes}
-use Rattle.graphql_text.specs.Printing.{ReadsAlone, print_bytes, print_tree}
-use Rattle.graphql_text.proofs.Headline.{reads_alone}
+use Rattle.graphql_text.specs.kinds.Printing.{print_bytes, print_tree}
+use Rattle.graphql_text.specs.kinds.Reading.{ReadsAlone}
 use Rattle.graphql_text.proofs.engine.Serialize.to_text.Goals as goal
 
 if_ok_then : {T E : Type 0} (P Q : T → Type 0) → ((value : T) → P value → Q value) → (result : Result T E) → IfOk result P → IfOk result Q
@@ -11,5 +11,8 @@ if_ok_then P Q then (Err error) holds = holds
 pub returns-clause-read : goal.returns-clause-read
 returns-clause-read g c =
     let self = c.args.self.now in
-    let printed : IfOk c.ok_or.result (λ text. string_bytes text ≡ print_bytes g.T.Syntax.kind g.T.Syntax.tree self) = search rules in
-    if_ok_then _ _ (λ text is obeyed blank. subst (λ bytes. ReadsAlone g.T.Syntax.kind bytes (g.T.Syntax.tree (print_tree self))) (sym is) (reads_alone g.T.Syntax.laws _ _ _ obeyed blank)) c.ok_or.result printed
+    let printed : IfOk c.ok_or.result (λ text. string_bytes text ≡ print_bytes g.T.SyntaxTree.kind g.T.SyntaxTree.tree self) = search rules in
+    if_ok_then _ _ (λ text is obeyed blank.
+    subst (λ bytes. ReadsAlone g.T.SyntaxTree.kind bytes (g.T.SyntaxTree.tree (print_tree self))) (sym is)
+    (g.T.SyntaxTree.laws.reads_alone _ _ _ obeyed blank))
+    c.ok_or.result printed

@@ -1,7 +1,7 @@
 use Rattle.std.proofs.Common.{Some, sym, ap, ◌∙◌}
 use Rattle.std.specs.Option.{option_copied}
-use Rattle.graphql_values.specs.Queries.{is_input_value_definition_named}
-use Rattle.graphql_values.proofs.FirstPlaces.{found_at_position, not_found}
+use Rattle.graphql_values.specs.code.Queries.{is_input_value_definition_named}
+use Rattle.graphql_values.proofs.general.PositionAndFind.{found_at_position, not_found}
 use Rattle.graphql_type_system.proofs.field_definition.FieldDefinition.argument_by_name.Goals as goal
 
 pub returns-in_err-place : goal.returns-in_err-place
@@ -12,4 +12,6 @@ returns-in_err-place c =
 pub returns : goal.returns
 returns c =
     let is_place = sym c.argument_position.ensures.place ∙ c.in_ok-place.was in
-    ap Some c.index.ensures ∙ sym (found_at_position (is_input_value_definition_named c.args.name.now) c.args.self.now.arguments.items _ is_place c.index.result.now)
+    ap Some c.index.ensures
+    ∙ sym
+    (found_at_position (is_input_value_definition_named c.args.name.now) c.args.self.now.arguments.items _ is_place c.index.result.now)

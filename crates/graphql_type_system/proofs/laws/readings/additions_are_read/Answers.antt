@@ -1,8 +1,13 @@
 use Rattle.std.proofs.Common.{codes, refl}
-use Rattle.graphql_text.proofs.Readings.{part_reads}
-use Rattle.graphql_type_system.specs.Examples.{enum_with_directive, enum_with_value, input_with_directive, input_with_field, scalar_with_directive, schema_with_directive, schema_with_operation, type_with_directive, type_with_field, type_with_interfaces, union_with_directive, union_with_member}
-use Rattle.graphql_type_system.specs.lemmas.Kinds.{enum_type_extension_part, input_object_type_extension_part, interface_type_extension_part, object_type_extension_part, scalar_type_extension_part, schema_extension_part, union_type_extension_part}
-use Rattle.graphql_type_system.proofs.Readings.{printed}
+use Rattle.graphql_text.proofs.examples.TextReadings.{part_reads}
+use Rattle.graphql_type_system.specs.examples.TypeSystemExamples.{enum_with_directive, enum_with_value, input_with_directive}
+use Rattle.graphql_type_system.specs.examples.TypeSystemExamples.{input_with_field, scalar_with_directive, schema_with_directive}
+use Rattle.graphql_type_system.specs.examples.TypeSystemExamples.{schema_with_operation, type_with_directive, type_with_field}
+use Rattle.graphql_type_system.specs.examples.TypeSystemExamples.{type_with_interfaces, union_with_directive, union_with_member}
+use Rattle.graphql_type_system.specs.lemmas.Kinds.{enum_type_extension_part, input_object_type_extension_part}
+use Rattle.graphql_type_system.specs.lemmas.Kinds.{interface_type_extension_part, object_type_extension_part, scalar_type_extension_part}
+use Rattle.graphql_type_system.specs.lemmas.Kinds.{schema_extension_part, union_type_extension_part}
+use Rattle.graphql_type_system.proofs.examples.TypeSystemReadings.{printed}
 use Rattle.graphql_type_system.proofs.laws.readings.additions_are_read.Goals as goal
 
 pub returns-clause-schema_directive : goal.returns-clause-schema_directive
@@ -31,7 +36,8 @@ returns-clause-object_field c = part_reads object_type_extension_part (codes "ex
 
 pub returns-clause-interface_interfaces : goal.returns-clause-interface_interfaces
 unfolding printed
-returns-clause-interface_interfaces c = part_reads interface_type_extension_part (codes "extend interface T implements A & B") type_with_interfaces refl refl refl
+returns-clause-interface_interfaces c =
+    part_reads interface_type_extension_part (codes "extend interface T implements A & B") type_with_interfaces refl refl refl
 
 pub returns-clause-interface_directive : goal.returns-clause-interface_directive
 unfolding printed

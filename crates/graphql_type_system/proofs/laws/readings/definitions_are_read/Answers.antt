@@ -1,13 +1,16 @@
 use Rattle.std.proofs.Common.{codes, inr, refl}
-use Rattle.graphql_text.specs.Forms.{◌⨟◌, name_except, no_tokens, not_followed_by, optional_token, token}
-use Rattle.graphql_text.proofs.Readings.{part_reads}
-use Rattle.graphql_text.proofs.Sound.{lex_sound}
-use Rattle.graphql_type_system.specs.ImplementingTypes.{implementing_type_form}
-use Rattle.graphql_type_system.specs.UnionTypes.{union_type_form}
-use Rattle.graphql_type_system.specs.Examples.{bare_enum, bare_input, bare_scalar, bare_type, bare_union, described_field, enum_with_all, input_with_all, plain, scalar_with_directive, schema_with_all, schema_with_operation, type_with_all, union_with_both, value_with_directive, with_description}
+use Rattle.graphql_text.specs.grammar.Forms.{◌⨟◌, name_except, no_tokens, no_brace, optional_token, token}
+use Rattle.graphql_text.proofs.examples.TextReadings.{part_reads}
+use Rattle.graphql_text.proofs.reader.ReaderSound.{lex_sound}
+use Rattle.graphql_type_system.specs.examples.TypeSystemExamples.{bare_enum, bare_input, bare_scalar, bare_type, bare_union}
+use Rattle.graphql_type_system.specs.examples.TypeSystemExamples.{described_field, enum_with_all, input_with_all, plain}
+use Rattle.graphql_type_system.specs.examples.TypeSystemExamples.{scalar_with_directive, schema_with_all, schema_with_operation}
+use Rattle.graphql_type_system.specs.examples.TypeSystemExamples.{type_with_all, union_with_both, value_with_directive, with_description}
 use Rattle.graphql_type_system.specs.lemmas.Bodies.{enum_value_definition_part, field_definition_part}
-use Rattle.graphql_type_system.specs.lemmas.Kinds.{enum_type_definition_part, input_object_type_definition_part, interface_type_definition_part, object_type_definition_part, scalar_type_definition_part, schema_definition_part, union_type_definition_part}
-use Rattle.graphql_type_system.proofs.Readings.{printed}
+use Rattle.graphql_type_system.specs.lemmas.Kinds.{enum_type_definition_part, input_object_type_definition_part}
+use Rattle.graphql_type_system.specs.lemmas.Kinds.{interface_type_definition_part, object_type_definition_part, scalar_type_definition_part}
+use Rattle.graphql_type_system.specs.lemmas.Kinds.{schema_definition_part, union_type_definition_part}
+use Rattle.graphql_type_system.proofs.examples.TypeSystemReadings.{printed}
 use Rattle.graphql_type_system.proofs.laws.readings.definitions_are_read.Goals as goal
 
 pub returns-clause-scalar : goal.returns-clause-scalar
@@ -24,7 +27,9 @@ returns-clause-field c = part_reads field_definition_part (codes "\"d\" f(a: Int
 
 pub returns-clause-object : goal.returns-clause-object
 unfolding printed
-returns-clause-object c = part_reads object_type_definition_part (codes "type T implements A & B @d { \"d\" f(a: Int = 1): [String!]! @e }") (plain type_with_all) refl refl refl
+returns-clause-object c =
+    part_reads object_type_definition_part (codes "type T implements A & B @d { \"d\" f(a: Int = 1): [String!]! @e }")
+    (plain type_with_all) refl refl refl
 
 pub returns-clause-bare_object : goal.returns-clause-bare_object
 unfolding printed
@@ -32,7 +37,9 @@ returns-clause-bare_object c = part_reads object_type_definition_part (codes "ty
 
 pub returns-clause-interface : goal.returns-clause-interface
 unfolding printed
-returns-clause-interface c = part_reads interface_type_definition_part (codes "interface T implements A & B @d { \"d\" f(a: Int = 1): [String!]! @e }") (plain type_with_all) refl refl refl
+returns-clause-interface c =
+    part_reads interface_type_definition_part (codes "interface T implements A & B @d { \"d\" f(a: Int = 1): [String!]! @e }")
+    (plain type_with_all) refl refl refl
 
 pub returns-clause-union_type : goal.returns-clause-union_type
 unfolding printed
@@ -68,15 +75,32 @@ returns-clause-schema c = part_reads schema_definition_part (codes "schema @d { 
 
 pub returns-clause-described_schema : goal.returns-clause-described_schema
 unfolding printed
-returns-clause-described_schema c = part_reads schema_definition_part (codes "\"d\" schema { subscription: S }") (with_description schema_with_operation) refl refl refl
+returns-clause-described_schema c =
+    part_reads schema_definition_part (codes "\"d\" schema { subscription: S }") (with_description schema_with_operation) refl refl refl
 
 -- what stands before the first name is printed of no tree
 pub returns-clause-leading_ampersand : goal.returns-clause-leading_ampersand
-unfolding implementing_type_form ◌⨟◌ token no_tokens not_followed_by optional_token name_except
-returns-clause-leading_ampersand c =
-    (refl, _, lex_sound (codes "type T implements & A & B") _ refl, (_, refl, (_, refl, (_, (refl, refl), (_, (_, refl, (_, inr refl, (_, (refl, refl), (_, (_, refl, (refl, refl)), refl)))), (_, refl, (refl, refl)))))))
+unfolding ◌⨟◌ token no_tokens no_brace optional_token name_except
+returns-clause-leading_ampersand c = (
+  refl,
+  _,
+  lex_sound (codes "type T implements & A & B") _ refl,
+  (
+    _,
+    refl,
+    (
+      _,
+      refl,
+      (
+        _,
+        (refl, refl),
+        (_, (_, refl, (_, inr refl, (_, (refl, refl), (_, (_, refl, (refl, refl)), refl)))), (_, refl, (refl, refl))),
+      ),
+    ),
+  ),
+)
 
 pub returns-clause-leading_bar : goal.returns-clause-leading_bar
-unfolding union_type_form ◌⨟◌ token no_tokens optional_token name_except
+unfolding ◌⨟◌ token no_tokens optional_token name_except
 returns-clause-leading_bar c =
     (refl, _, lex_sound (codes "union U = | A") _ refl, (_, refl, (_, refl, (_, (refl, refl), (_, refl, (_, refl, (_, inr refl, (_, (refl, refl), refl))))))))

@@ -1,8 +1,10 @@
 use Rattle.std.proofs.Common.{codes, refl}
-use Rattle.graphql_text.proofs.Readings.{part_refuses}
+use Rattle.graphql_text.proofs.examples.TextReadings.{part_refuses}
 use Rattle.graphql_type_system.specs.lemmas.Bodies.{enum_value_definition_part, field_definition_part}
-use Rattle.graphql_type_system.specs.lemmas.Kinds.{enum_type_definition_part, input_object_type_definition_part, interface_type_definition_part, object_type_definition_part, scalar_type_definition_part, schema_definition_part, union_type_definition_part}
-use Rattle.graphql_type_system.proofs.Readings.{found, part_leaves}
+use Rattle.graphql_type_system.specs.lemmas.Kinds.{enum_type_definition_part, input_object_type_definition_part}
+use Rattle.graphql_type_system.specs.lemmas.Kinds.{interface_type_definition_part, object_type_definition_part, scalar_type_definition_part}
+use Rattle.graphql_type_system.specs.lemmas.Kinds.{schema_definition_part, union_type_definition_part}
+use Rattle.graphql_type_system.proofs.examples.TypeSystemReadings.{found, part_leaves}
 use Rattle.graphql_type_system.proofs.laws.readings.refused_definitions.Goals as goal
 
 pub returns-clause-empty_fields : goal.returns-clause-empty_fields

@@ -1,7 +1,9 @@
 use Rattle.std.proofs.Common.{codes, refl}
-use Rattle.graphql_text.proofs.Readings.{part_refuses}
-use Rattle.graphql_type_system.specs.lemmas.Kinds.{enum_type_extension_part, input_object_type_extension_part, interface_type_extension_part, object_type_extension_part, scalar_type_extension_part, schema_extension_part, union_type_extension_part}
-use Rattle.graphql_type_system.proofs.Readings.{found}
+use Rattle.graphql_text.proofs.examples.TextReadings.{part_refuses}
+use Rattle.graphql_type_system.specs.lemmas.Kinds.{enum_type_extension_part, input_object_type_extension_part}
+use Rattle.graphql_type_system.specs.lemmas.Kinds.{interface_type_extension_part, object_type_extension_part, scalar_type_extension_part}
+use Rattle.graphql_type_system.specs.lemmas.Kinds.{schema_extension_part, union_type_extension_part}
+use Rattle.graphql_type_system.proofs.examples.TypeSystemReadings.{found}
 use Rattle.graphql_type_system.proofs.laws.readings.refused_extensions.Goals as goal
 
 pub returns-clause-empty_schema : goal.returns-clause-empty_schema

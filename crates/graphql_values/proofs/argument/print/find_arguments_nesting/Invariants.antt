@@ -1,6 +1,6 @@
 use Rattle.std.proofs.Common.{◌≡◌, max, drop}
-use Rattle.graphql_values.specs.Arguments.{arguments_nesting}
-use Rattle.graphql_values.specs.DirectiveTrees.{argument_trees}
+use Rattle.graphql_values.specs.kinds.Arguments.{arguments_nesting}
+use Rattle.graphql_values.specs.trees.DirectiveTrees.{argument_trees}
 use Rattle.graphql_values.proofs.argument.print.find_arguments_nesting.Given as goal
 
 abbrev pub invariant-loop-argument : goal.invariant-loop-argument

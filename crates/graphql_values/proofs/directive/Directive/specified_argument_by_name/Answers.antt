@@ -1,13 +1,14 @@
 use Rattle.std.proofs.Common.{Some, sym, ap, ◌∙◌}
 use Rattle.std.specs.Option.{option_copied, option_map}
-use Rattle.graphql_values.specs.Queries.{argument_value, is_argument_named}
-use Rattle.graphql_values.proofs.FirstPlaces.{found_at_position, not_found}
+use Rattle.graphql_values.specs.code.Queries.{argument_value, is_argument_named}
+use Rattle.graphql_values.proofs.general.PositionAndFind.{found_at_position, not_found}
 use Rattle.graphql_values.proofs.directive.Directive.specified_argument_by_name.Goals as goal
 
 pub returns-in_err-place : goal.returns-in_err-place
 returns-in_err-place c =
     let none = sym c.specified_argument_position.ensures.place ∙ c.in_err-place.was in
-    ap option_copied c.from_residual.ensures ∙ sym (ap (option_map argument_value) (not_found (is_argument_named c.args.name.now) c.args.self.now.arguments.items none))
+    ap option_copied c.from_residual.ensures
+    ∙ sym (ap (option_map argument_value) (not_found (is_argument_named c.args.name.now) c.args.self.now.arguments.items none))
 
 pub returns : goal.returns
 returns c =

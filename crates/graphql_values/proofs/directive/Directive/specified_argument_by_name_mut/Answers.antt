@@ -1,8 +1,8 @@
 use Rattle.std.proofs.Common.{refl, sym, ◌∙◌}
 use Rattle.std.proofs.lemmas.Result.{IfOk-weaker, IfErr-at_err}
-use Rattle.graphql_values.specs.Queries.{argument_value, is_argument_named}
-use Rattle.graphql_values.specs.Loans.{with_value}
-use Rattle.graphql_values.proofs.FirstPlaces.{changed_at_position, is_found, not_found, read_at_position}
+use Rattle.graphql_values.specs.code.Queries.{argument_value, is_argument_named}
+use Rattle.graphql_values.specs.code.Loans.{with_value}
+use Rattle.graphql_values.proofs.general.PositionAndFind.{changed_at_position, is_found, not_found, read_at_position}
 use Rattle.graphql_values.proofs.directive.Directive.specified_argument_by_name_mut.Goals as goal
 
 pub returns-in-Some : goal.returns-in-Some

@@ -1,6 +1,6 @@
 use Rattle.std.proofs.Common.{Some, refl, sym, ap, ◌∙◌}
-use Rattle.graphql_values.specs.Queries.{is_input_value_definition_named}
-use Rattle.graphql_values.proofs.FirstPlaces.{changed_at_position, found_at_position, not_found}
+use Rattle.graphql_values.specs.code.Queries.{is_input_value_definition_named}
+use Rattle.graphql_values.proofs.general.PositionAndFind.{changed_at_position, found_at_position, not_found}
 use Rattle.graphql_values.proofs.directive_definition.DirectiveDefinition.argument_by_name_mut.Goals as goal
 
 pub returns-in-Some : goal.returns-in-Some
@@ -18,5 +18,7 @@ returns-in-Some c =
 
 pub returns-in-None : goal.returns-in-None
 returns-in-None c =
-    let none = not_found (is_input_value_definition_named c.args.name.now) c.args.self.now.arguments.items (sym c.argument_position.ensures.place ∙ c.in-None.is) in
+    let none =
+    not_found (is_input_value_definition_named c.args.name.now) c.args.self.now.arguments.items
+    (sym c.argument_position.ensures.place ∙ c.in-None.is) in
     ((refl, (λ node none. absurd cc), refl), sym none)

@@ -1,7 +1,7 @@
 use Rattle.std.proofs.Common.{Some, sym, ap, ◌∙◌}
 use Rattle.std.specs.Option.{option_copied}
-use Rattle.graphql_values.specs.Queries.{is_directive_named}
-use Rattle.graphql_values.proofs.FirstPlaces.{found_at_position, not_found}
+use Rattle.graphql_values.specs.code.Queries.{is_directive_named}
+use Rattle.graphql_values.proofs.general.PositionAndFind.{found_at_position, not_found}
 use Rattle.graphql_values.proofs.directive_list.DirectiveList.get.Goals as goal
 
 pub returns-in_err-place : goal.returns-in_err-place
@@ -12,4 +12,6 @@ returns-in_err-place c =
 pub returns : goal.returns
 returns c =
     let place = rw c.deref.ensures.value at c.first_position.ensures.place in
-    ap Some c.index.ensures ∙ sym (found_at_position (is_directive_named c.args.name.now) c.args.self.now.0.items _ (sym place ∙ c.in_ok-place.was) c.index.result.now)
+    ap Some c.index.ensures
+    ∙ sym (found_at_position (is_directive_named c.args.name.now) c.args.self.now.0.items _
+    (sym place ∙ c.in_ok-place.was) c.index.result.now)

@@ -1,6 +1,6 @@
 use Rattle.std.proofs.Common.{arith}
 use Rattle.std.proofs.lemmas.List.Sums.{count_by-le-length, length-filter}
-use Rattle.graphql_values.specs.Queries.{is_directive_named}
+use Rattle.graphql_values.specs.code.Queries.{is_directive_named}
 use Rattle.graphql_values.proofs.directive_list.DirectiveList.get_all.Goals as goal
 
 pub returns-clause-count : goal.returns-clause-count

@@ -1,6 +1,6 @@
 use Rattle.std.proofs.Common.{◌∙◌}
-use Rattle.graphql_values.specs.Queries.{is_directive_named}
-use Rattle.graphql_values.proofs.FirstPlaces.{copied_if_any}
+use Rattle.graphql_values.specs.code.Queries.{is_directive_named}
+use Rattle.graphql_values.proofs.general.PositionAndFind.{copied_if_any}
 use Rattle.graphql_values.proofs.directive_list.DirectiveList.has.Goals as goal
 
 pub returns : goal.returns

@@ -1,5 +1,5 @@
 use Rattle.std.proofs.Common.{◌≡◌, length}
-use Rattle.graphql_values.specs.Queries.{directives_left}
+use Rattle.graphql_values.specs.code.Queries.{directives_left}
 use Rattle.graphql_values.proofs.directive_list.GetAllIterator.next.Given as goal
 
 abbrev pub invariant-loop-first : goal.invariant-loop-first

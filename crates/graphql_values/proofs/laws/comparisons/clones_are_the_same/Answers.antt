@@ -1,5 +1,5 @@
-use Rattle.graphql_values.proofs.Equality as value
-use Rattle.graphql_values.proofs.Nullability as type_reference
+use Rattle.graphql_values.proofs.comparisons.ValueEquality as value
+use Rattle.graphql_values.proofs.kinds.WrappingLaws as type_reference
 use Rattle.graphql_values.proofs.laws.comparisons.clones_are_the_same.Goals as goal
 
 pub returns-clause-values : goal.returns-clause-values

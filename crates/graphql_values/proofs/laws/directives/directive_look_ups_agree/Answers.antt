@@ -1,5 +1,5 @@
-use Rattle.graphql_values.specs.Queries.{is_directive_named}
-use Rattle.graphql_values.proofs.Searches.{any_is_some_filtered, find_is_first_filtered}
+use Rattle.graphql_values.specs.code.Queries.{is_directive_named}
+use Rattle.graphql_values.proofs.general.LookUpsAgree.{any_is_some_filtered, find_is_first_filtered}
 use Rattle.graphql_values.proofs.laws.directives.directive_look_ups_agree.Goals as goal
 
 pub returns-clause-has : goal.returns-clause-has

@@ -1,11 +1,11 @@
 use Rattle.std.proofs.Common.{codes, refl}
-use Rattle.graphql_text.proofs.Readings.{no_tokens_read, part_refuses}
-use Rattle.graphql_values.specs.Values.{Const, NonConst, value_form}
+use Rattle.graphql_text.proofs.examples.TextReadings.{no_tokens_read, part_refuses}
+use Rattle.graphql_values.specs.kinds.Values.{Const, NonConst, value_form}
 use Rattle.graphql_values.specs.lemmas.DirectiveDefinitions.{directive_definition_part}
 use Rattle.graphql_values.specs.lemmas.Directives.{directive_part}
 use Rattle.graphql_values.specs.lemmas.InputValueDefinitions.{input_value_definition_part}
 use Rattle.graphql_values.specs.lemmas.Values.{value_part}
-use Rattle.graphql_values.proofs.Readings.{found}
+use Rattle.graphql_values.proofs.examples.ValueReadings.{found}
 use Rattle.graphql_values.proofs.laws.readings.refused_readings.Goals as goal
 
 pub returns-clause-no_exponent : goal.returns-clause-no_exponent

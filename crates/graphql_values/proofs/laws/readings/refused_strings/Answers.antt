@@ -1,6 +1,6 @@
 use Rattle.std.proofs.Common.{codes, refl}
-use Rattle.graphql_text.proofs.Readings.{no_tokens_read}
-use Rattle.graphql_values.specs.Values.{NonConst, value_form}
+use Rattle.graphql_text.proofs.examples.TextReadings.{no_tokens_read}
+use Rattle.graphql_values.specs.kinds.Values.{NonConst, value_form}
 use Rattle.graphql_values.proofs.laws.readings.refused_strings.Goals as goal
 
 pub returns-clause-four_quotes : goal.returns-clause-four_quotes

@@ -1,18 +1,17 @@
 use Rattle.std.proofs.Common.{[], ◌∷◌, codes, refl, true, inr}
-use Rattle.graphql_text.specs.Forms.{token, no_tokens, ◌⨟◌, optional_token, name_except}
-use Rattle.graphql_text.proofs.Readings.{part_reads}
-use Rattle.graphql_text.proofs.Sound.{lex_sound}
-use Rattle.graphql_values.specs.DirectiveDefinitions.{directive_definition_form}
-use Rattle.graphql_values.specs.Examples.{bare_directive, described_input, directive_everywhere, directive_with_variable, repeatable_directive}
-use Rattle.graphql_values.specs.OperationTypes as operation
-use Rattle.graphql_values.specs.Values.{NonConst, boolean_value}
+use Rattle.graphql_text.specs.grammar.Forms.{token, no_tokens, ◌⨟◌, optional_token, name_except}
+use Rattle.graphql_text.proofs.examples.TextReadings.{part_reads}
+use Rattle.graphql_text.proofs.reader.ReaderSound.{lex_sound}
+use Rattle.graphql_values.specs.examples.ValueExamples.{bare_directive, described_input, directive_everywhere, directive_with_variable, repeatable_directive}
+use Rattle.graphql_values.specs.kinds.OperationTypes as operation
+use Rattle.graphql_values.specs.kinds.Values.{NonConst, boolean_value}
 use Rattle.graphql_values.specs.lemmas.DirectiveDefinitions.{directive_definition_part}
 use Rattle.graphql_values.specs.lemmas.Directives.{directive_part, directives_part}
 use Rattle.graphql_values.specs.lemmas.InputValueDefinitions.{arguments_definition_part, input_value_definition_part}
 use Rattle.graphql_values.specs.lemmas.OperationTypes.{operation_type_part}
 use Rattle.graphql_values.specs.lemmas.Types.{type_part}
 use Rattle.graphql_values.specs.lemmas.Values.{value_part, value_laws}
-use Rattle.graphql_values.proofs.Readings.{printed}
+use Rattle.graphql_values.proofs.examples.ValueReadings.{printed}
 use Rattle.graphql_values.proofs.laws.readings.worked_readings.Goals as goal
 
 pub returns-clause-list : goal.returns-clause-list
@@ -33,7 +32,8 @@ returns-clause-boolean c = part_reads (value_part NonConst) (codes "true") _ ref
 
 pub returns-clause-boolean_alone : goal.returns-clause-boolean_alone
 unfolding printed
-returns-clause-boolean_alone c = λ value r. value_laws.one_tree (codes "true") value (boolean_value true) r (part_reads (value_part NonConst) (codes "true") _ refl refl refl)
+returns-clause-boolean_alone c = λ value r.
+    value_laws.one_tree (codes "true") value (boolean_value true) r (part_reads (value_part NonConst) (codes "true") _ refl refl refl)
 
 pub returns-clause-repeated_fields : goal.returns-clause-repeated_fields
 unfolding printed
@@ -65,7 +65,9 @@ returns-clause-directive c = part_reads (directive_part NonConst) (codes "@a(x: 
 
 pub returns-clause-directives : goal.returns-clause-directives
 unfolding printed
-returns-clause-directives c = part_reads (directives_part NonConst) (codes " @a @b") (bare_directive (codes "a") refl ∷ bare_directive (codes "b") refl ∷ []) refl refl refl
+returns-clause-directives c =
+    part_reads (directives_part NonConst) (codes " @a @b")
+    (bare_directive (codes "a") refl ∷ bare_directive (codes "b") refl ∷ []) refl refl refl
 
 pub returns-clause-comment : goal.returns-clause-comment
 unfolding printed
@@ -81,7 +83,10 @@ returns-clause-input_value_definition c = part_reads input_value_definition_part
 
 pub returns-clause-directive_locations : goal.returns-clause-directive_locations
 unfolding printed
-returns-clause-directive_locations c = part_reads directive_definition_part (codes "directive @d on QUERY | MUTATION | SUBSCRIPTION | FIELD | FRAGMENT_DEFINITION | FRAGMENT_SPREAD | INLINE_FRAGMENT | VARIABLE_DEFINITION | SCHEMA | SCALAR | OBJECT | FIELD_DEFINITION | ARGUMENT_DEFINITION | INTERFACE | UNION | ENUM | ENUM_VALUE | INPUT_OBJECT | INPUT_FIELD_DEFINITION") directive_everywhere refl refl refl
+returns-clause-directive_locations c =
+    part_reads directive_definition_part (codes
+    "directive @d on QUERY | MUTATION | SUBSCRIPTION | FIELD | FRAGMENT_DEFINITION | FRAGMENT_SPREAD | INLINE_FRAGMENT | VARIABLE_DEFINITION | SCHEMA | SCALAR | OBJECT | FIELD_DEFINITION | ARGUMENT_DEFINITION | INTERFACE | UNION | ENUM | ENUM_VALUE | INPUT_OBJECT | INPUT_FIELD_DEFINITION")
+    directive_everywhere refl refl refl
 
 pub returns-clause-query : goal.returns-clause-query
 unfolding printed
@@ -97,8 +102,20 @@ returns-clause-subscription c = part_reads operation_type_part (codes "subscript
 
 -- the bar in front of the first location is printed of no tree
 pub returns-clause-directive_definition : goal.returns-clause-directive_definition
-unfolding printed directive_definition_form token no_tokens optional_token name_except ◌⨟◌
+unfolding printed token no_tokens optional_token name_except ◌⨟◌
 returns-clause-directive_definition c =
     let text = codes "directive @d(a: Int @x, b: Int) repeatable on | FIELD | QUERY" in
-    let arguments = arguments_definition_part.written repeatable_directive.body.arguments refl _ refl in
-    (refl, _, lex_sound text _ refl, (_, refl, (_, refl, (_, refl, (_, (refl, refl), (_, arguments, (_, refl, (_, refl, (_, inr refl, (_, refl, (_, (_, refl, refl), refl)))))))))))
+    let arguments = arguments_definition_part.written repeatable_directive.body.arguments refl _ refl in (
+      refl,
+      _,
+      lex_sound text _ refl,
+      (
+        _,
+        refl,
+        (
+          _,
+          refl,
+          (_, refl, (_, (refl, refl), (_, arguments, (_, refl, (_, refl, (_, inr refl, (_, refl, (_, (_, refl, refl), refl)))))))),
+        ),
+      ),
+    )

@@ -1,8 +1,8 @@
 use Rattle.std.proofs.Common.{codes, refl}
-use Rattle.graphql_text.proofs.Readings.{part_reads}
-use Rattle.graphql_values.specs.Values.{NonConst}
+use Rattle.graphql_text.proofs.examples.TextReadings.{part_reads}
+use Rattle.graphql_values.specs.kinds.Values.{NonConst}
 use Rattle.graphql_values.specs.lemmas.Values.{value_part}
-use Rattle.graphql_values.proofs.Readings.{printed}
+use Rattle.graphql_values.proofs.examples.ValueReadings.{printed}
 use Rattle.graphql_values.proofs.laws.readings.worked_strings.Goals as goal
 
 pub returns-clause-empty : goal.returns-clause-empty

@@ -1,4 +1,4 @@
-use Rattle.graphql_values.proofs.Nullability.{assignable_reflexive, assignable_transitive, assignable_antisymmetric}
+use Rattle.graphql_values.proofs.kinds.WrappingLaws.{assignable_reflexive, assignable_transitive, assignable_antisymmetric}
 use Rattle.graphql_values.proofs.laws.types.assignability_is_an_order.Goals as goal
 
 pub returns-clause-reflexive : goal.returns-clause-reflexive

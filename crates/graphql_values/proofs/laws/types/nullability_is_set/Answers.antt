@@ -1,7 +1,7 @@
 use Rattle.std.proofs.Common.{ap, not, sym, ◌∙◌}
-use Rattle.graphql_values.specs.TypeTrees.{type_wrapping}
-use Rattle.graphql_values.specs.Wrappings.{with_nullability}
-use Rattle.graphql_values.proofs.Nullability.{is_set, set_back, set_twice}
+use Rattle.graphql_values.specs.trees.TypeTrees.{type_wrapping}
+use Rattle.graphql_values.specs.kinds.Wrappings.{with_nullability}
+use Rattle.graphql_values.proofs.kinds.WrappingLaws.{is_set, set_back, set_twice}
 use Rattle.graphql_values.proofs.laws.types.nullability_is_set.Goals as goal
 
 pub returns-clause-set : goal.returns-clause-set
@@ -10,7 +10,8 @@ returns-clause-set c = λ non_null. is_set non_null c.args.ty.now c.args.made.no
 pub returns-clause-idempotent : goal.returns-clause-idempotent
 returns-clause-idempotent c = λ non_null made.
     ap (with_nullability non_null) made
-    ∙ ap (λ nullability. record { base = (type_wrapping c.args.ty.now).base; nullability = nullability }) (set_twice non_null non_null (type_wrapping c.args.ty.now).nullability)
+    ∙ ap (λ nullability. record { base = (type_wrapping c.args.ty.now).base; nullability = nullability })
+    (set_twice non_null non_null (type_wrapping c.args.ty.now).nullability)
     ∙ sym made
 
 pub returns-clause-gives_back : goal.returns-clause-gives_back

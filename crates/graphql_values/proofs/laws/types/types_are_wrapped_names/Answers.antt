@@ -1,4 +1,4 @@
-use Rattle.graphql_values.proofs.Nullability.{wrapped, some_nullability, same_wrapping}
+use Rattle.graphql_values.proofs.kinds.WrappingLaws.{wrapped, some_nullability, same_wrapping}
 use Rattle.graphql_values.proofs.laws.types.types_are_wrapped_names.Goals as goal
 
 pub returns-clause-name : goal.returns-clause-name

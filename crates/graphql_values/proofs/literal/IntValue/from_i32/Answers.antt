@@ -3,8 +3,8 @@ use Rattle.std.specs.Fmt.{signed_decimal}
 use Rattle.std.specs.Int.{w32}
 use Rattle.std.specs.Str.Parse.{signed_digits_value}
 use Rattle.std.proofs.lemmas.Int.{to_z-of_z}
-use Rattle.graphql_text.specs.Literals.{is_int}
-use Rattle.graphql_values.proofs.Numerals.{decimal_int, decimal_number}
+use Rattle.graphql_text.specs.lexical.Literals.{is_int}
+use Rattle.graphql_values.proofs.code.DecimalNumerals.{decimal_int, decimal_number}
 use Rattle.graphql_values.proofs.literal.IntValue.from_i32.Goals as goal
 
 pub invariant_of-result : goal.invariant_of-result

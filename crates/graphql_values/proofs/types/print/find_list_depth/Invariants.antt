@@ -1,6 +1,6 @@
 use Rattle.std.proofs.Common.{◌≡◌, ◌+◌}
-use Rattle.graphql_values.specs.TypeReferences.{list_depth}
-use Rattle.graphql_values.specs.TypeTrees.{type_tree}
+use Rattle.graphql_values.specs.kinds.TypeReferences.{list_depth}
+use Rattle.graphql_values.specs.trees.TypeTrees.{type_tree}
 use Rattle.graphql_values.proofs.types.print.find_list_depth.Given as goal
 
 abbrev pub invariant-loop-inner : goal.invariant-loop-inner

@@ -1,13 +1,16 @@
 use Rattle.std.proofs.Common.{arith, ap, ◌∙◌}
-use Rattle.graphql_text.specs.Stack.{stack_entries}
-use Rattle.graphql_text.proofs.WritingLaws.{writes_nothing, writes_then}
-use Rattle.graphql_values.specs.TypeEnds.{ends_items}
-use Rattle.graphql_values.proofs.TypeShapes.{ends_push, ends_balanced}
+use Rattle.graphql_text.specs.code.Stack.{stack_entries}
+use Rattle.graphql_text.proofs.code.WritingSteps.{writes_nothing, writes_then}
+use Rattle.graphql_values.specs.code.TypeEnds.{ends_items}
+use Rattle.graphql_values.proofs.layout.TypeShapes.{ends_push, ends_balanced}
 use Rattle.graphql_values.proofs.types.print.write_ends.Goals as goal
 
 pub returns-then-is_stopped-clause-written : goal.returns-then-is_stopped-clause-written
 returns-then-is_stopped-clause-written g c = λ mode level.
-    c.loop-end.invariant.written c.loop-end.out mode level (record { text = g.met.O.Target.idle _ _ (c.is_stopped.ensures.0 c.if-is_stopped.true); balanced = ends_balanced (stack_entries c.loop-end.stack) })
+    c.loop-end.invariant.written c.loop-end.out mode level (record {
+      text = g.met.O.Target.idle _ _ (c.is_stopped.ensures.0 c.if-is_stopped.true);
+      balanced = ends_balanced (stack_entries c.loop-end.stack);
+    })
 
 pub loop-end-preserved : goal.loop-end-preserved
 loop-end-preserved g c = record {

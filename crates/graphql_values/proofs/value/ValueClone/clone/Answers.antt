@@ -1,4 +1,4 @@
-use Rattle.graphql_values.proofs.Clones.{list_clone, object_clone}
+use Rattle.graphql_values.proofs.comparisons.ValueClones.{list_clone, object_clone}
 use Rattle.graphql_values.proofs.value.ValueClone.clone.Goals as goal
 
 pub returns-in_ok-clone-in-List : goal.returns-in_ok-clone-in-List

@@ -1,8 +1,8 @@
 use Rattle.std.proofs.Common.{◌∷◌, append_assoc, arith}
-use Rattle.graphql_text.specs.Layout.{Tight, is_broken}
-use Rattle.graphql_text.specs.Place.{mode_of}
-use Rattle.graphql_text.proofs.CommaEnds.{levels_end}
-use Rattle.graphql_text.proofs.WritingLaws.{writes_then}
+use Rattle.graphql_text.specs.layout.Layout.{Tight, is_broken}
+use Rattle.graphql_text.specs.code.Place.{mode_of}
+use Rattle.graphql_text.proofs.code.CommaGroupEnd.{levels_end}
+use Rattle.graphql_text.proofs.code.WritingSteps.{writes_then}
 use Rattle.graphql_values.proofs.value.print.write_closing.Goals as goal
 
 pub returns-clause-written : goal.returns-clause-written

@@ -1,10 +1,11 @@
 use Rattle.std.proofs.Common.{[], ◌∷◌, refl, subst}
-use Rattle.graphql_text.specs.Tokens.{dollar, Punctuation, IntValue, FloatValue}
-use Rattle.graphql_text.specs.Writing.{WritesItems}
-use Rattle.graphql_text.specs.Layout.{Word, is_broken}
-use Rattle.graphql_text.specs.Place.{mode_of}
-use Rattle.graphql_text.proofs.WritingLaws.{writes_then}
-use Rattle.graphql_values.proofs.ValueShapes.{value_tree_null, value_tree_enum, value_tree_variable, value_tree_float, value_tree_int, value_tree_boolean, leaf_list, leaf_object}
+use Rattle.graphql_text.specs.lexical.Tokens.{dollar, Punctuation, IntValue, FloatValue}
+use Rattle.graphql_text.specs.code.Writing.{WritesItems}
+use Rattle.graphql_text.specs.layout.Layout.{Word, is_broken}
+use Rattle.graphql_text.specs.code.Place.{mode_of}
+use Rattle.graphql_text.proofs.code.WritingSteps.{writes_then}
+use Rattle.graphql_values.proofs.layout.ValueShapes.{value_tree_null, value_tree_enum, value_tree_variable, value_tree_float}
+use Rattle.graphql_values.proofs.layout.ValueShapes.{value_tree_int, value_tree_boolean, leaf_list, leaf_object}
 use Rattle.graphql_values.proofs.value.print.write_leaf.Goals as goal
 
 pub returns-in-Null : goal.returns-in-Null
@@ -19,17 +20,30 @@ returns-in-Variable g c = rw (c.in-Variable.is, value_tree_variable)
 
 pub returns-in-Float : goal.returns-in-Float
 returns-in-Float g c =
-    let written = subst (λ text. WritesItems g.O.Target.wrote c.args.out.now c.write_float.new.out (mode_of c.args.place.now.prefix) c.args.place.now.level (Word (FloatValue text) ∷ [])) c.as_str-in-Float.ensures.text (c.write_float.ensures _ _) in
+    let written =
+    subst
+    (λ text.
+    WritesItems g.O.Target.wrote c.args.out.now c.write_float.new.out (mode_of c.args.place.now.prefix) c.args.place.now.level
+    (Word (FloatValue text) ∷ []))
+    c.as_str-in-Float.ensures.text
+    (c.write_float.ensures _ _) in
     rw (c.in-Float.is, value_tree_float) written
 
 pub returns-in-Int : goal.returns-in-Int
 returns-in-Int g c =
-    let written = subst (λ text. WritesItems g.O.Target.wrote c.args.out.now c.write_int.new.out (mode_of c.args.place.now.prefix) c.args.place.now.level (Word (IntValue text) ∷ [])) c.as_str-in-Int.ensures.text (c.write_int.ensures _ _) in
+    let written =
+    subst
+    (λ text.
+    WritesItems g.O.Target.wrote c.args.out.now c.write_int.new.out (mode_of c.args.place.now.prefix) c.args.place.now.level
+    (Word (IntValue text) ∷ []))
+    c.as_str-in-Int.ensures.text
+    (c.write_int.ensures _ _) in
     rw (c.in-Int.is, value_tree_int) written
 
 pub returns-in-Boolean : goal.returns-in-Boolean
 returns-in-Boolean g c =
-    rw (c.in-Boolean.is, value_tree_boolean) (c.write_words-in-Boolean.ensures.items _ _ _ (c.boolean_word.ensures (is_broken (mode_of c.args.place.now.prefix))))
+    rw (c.in-Boolean.is, value_tree_boolean)
+    (c.write_words-in-Boolean.ensures.items _ _ _ (c.boolean_word.ensures (is_broken (mode_of c.args.place.now.prefix))))
 
 pub returns-in-List : goal.returns-in-List
 returns-in-List g c =

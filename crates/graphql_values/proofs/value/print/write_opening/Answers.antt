@@ -1,11 +1,11 @@
 use Rattle.std.proofs.Common.{◌++◌, ◌∙◌, ap, arith, refl}
-use Rattle.graphql_text.specs.Layout.{is_broken}
-use Rattle.graphql_text.specs.Place.{mode_of}
-use Rattle.graphql_text.specs.Stack.{stack_entries}
-use Rattle.graphql_text.proofs.WritingLaws.{beginning_none, beginning_next, levels_raise, levels_then, writes_levels}
-use Rattle.graphql_values.specs.ValueTrees.{value_tree}
-use Rattle.graphql_values.specs.ValueWalk.{opening_word, stack_items}
-use Rattle.graphql_values.proofs.ValueShapes.{group_opening, leaf_opening}
+use Rattle.graphql_text.specs.layout.Layout.{is_broken}
+use Rattle.graphql_text.specs.code.Place.{mode_of}
+use Rattle.graphql_text.specs.code.Stack.{stack_entries}
+use Rattle.graphql_text.proofs.code.WritingSteps.{beginning_none, beginning_next, levels_raise, levels_then, writes_levels}
+use Rattle.graphql_values.specs.trees.ValueTrees.{value_tree}
+use Rattle.graphql_values.specs.code.ValueWalk.{opening_word, stack_items}
+use Rattle.graphql_values.proofs.layout.ValueShapes.{group_opening, leaf_opening}
 use Rattle.graphql_values.proofs.value.print.write_opening.Goals as goal
 use Rattle.graphql_values.proofs.value.print.write_opening.Goals.{in-Some, in-None}
 
@@ -20,7 +20,10 @@ returns-clause-opened g c =
       | in-Some w ↦
           let parted = c.put_inner.ensures.items b ∙ ap (λ word. word ++ later) (group_opening b tree w.in-Some.ensures.0) in
           rw (w.out-is, w.here-is) (record {
-            written = beginning_next more (beginning_none nothing) parted (levels_then more (writes_levels (w.write_words.ensures.items _ _ (opening_word tree) w.in-Some.ensures.1)) (levels_raise nothing refl));
+            written =
+                beginning_next more (beginning_none nothing) parted
+                (levels_then more (writes_levels (w.write_words.ensures.items _ _ (opening_word tree) w.in-Some.ensures.1))
+                (levels_raise nothing refl));
             levels = omega (arith, w.in-Some.ensures.0);
             count = c.put_inner.ensures.level;
             need = c.put_inner.ensures.need;

@@ -1,7 +1,7 @@
 use Rattle.std.proofs.Common.{Some}
 use Rattle.serde_json.specs.View.{view}
 use Rattle.graphql_ast_json.specs.lemmas.Leaves.{there}
-use Rattle.graphql_ast_json.proofs.Outcomes.{one_then}
+use Rattle.graphql_ast_json.proofs.general.OkValues.{one_then}
 use Rattle.graphql_ast_json.proofs.write.node.NodeWriter.put.Goals as goal
 
 pub returns : goal.returns

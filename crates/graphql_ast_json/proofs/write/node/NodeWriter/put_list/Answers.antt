@@ -1,8 +1,8 @@
 use Rattle.std.proofs.Common.{Some, map}
 use Rattle.serde_json.specs.View.{view}
-use Rattle.graphql_ast_json.specs.Nodes.{Each}
-use Rattle.graphql_ast_json.proofs.Outcomes.{one_then}
-use Rattle.graphql_ast_json.proofs.Present.{array_there}
+use Rattle.graphql_ast_json.specs.nodes.Nodes.{Each}
+use Rattle.graphql_ast_json.proofs.general.OkValues.{one_then}
+use Rattle.graphql_ast_json.proofs.nodes.GivenMembers.{array_there}
 use Rattle.graphql_ast_json.proofs.write.node.NodeWriter.put_list.Goals as goal
 
 pub returns : goal.returns

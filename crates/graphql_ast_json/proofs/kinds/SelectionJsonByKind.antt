@@ -1,0 +1,43 @@
+-- Where JSON is of one kind of selections, and of none of that kind, it is of no selection. And selections go one by one.
+use Rattle.std.proofs.Common.{ℕ, zero, suc, ◌<◌, List, [], ◌∷◌, ◌++◌, length, get_or, codes, refl, arith}
+use Rattle.graphql_executable.specs.trees.ExecutableTrees.{selection_tree, selection_trees}
+use Rattle.graphql_executable.specs.kinds.Fields.{FieldTree}
+use Rattle.graphql_executable.specs.kinds.InlineFragments.{InlineFragmentTree}
+use Rattle.graphql_executable.specs.kinds.Selections.{SelectionTree, field_selection, spread_selection, inline_selection, SelectionTrees}
+use Rattle.graphql_executable.specs.kinds.Selections.{no_selections, more_selections}
+use Rattle.graphql_executable.specs.declared.selection.Selection.{Selection}
+use Rattle.serde_json.specs.Data.{Data}
+use Rattle.serde_json.specs.View.{view, items_view}
+use Rattle.serde_json.specs.declared.value.Value as json
+use Rattle.graphql_ast_json.specs.kinds.ExecutableJson.{AreSelections, IsField, IsInlineFragment, IsSelection}
+use Rattle.graphql_ast_json.specs.lemmas.Leaves.{IsOfKind, different}
+
+pub only_field : (json : Data) → IsOfKind (codes "Field") json → ((field : FieldTree) → IsField field json → ⊥) → (tree : SelectionTree) →
+    IsSelection tree json → ⊥
+only_field json e none (field_selection head set) is = none (record { head = head; selections = set }) is
+only_field json e none (spread_selection fragment) is = different (codes "FragmentSpread") (codes "Field") json is.0.0 e refl
+only_field json e none (inline_selection head set) is = different (codes "InlineFragment") (codes "Field") json is.0.0 e refl
+
+pub only_inline_fragment : (json : Data) → IsOfKind (codes "InlineFragment") json →
+    ((fragment : InlineFragmentTree) → IsInlineFragment fragment json → ⊥) → (tree : SelectionTree) → IsSelection tree json → ⊥
+only_inline_fragment json e none (inline_selection head set) is = none (record { head = head; selections = set }) is
+only_inline_fragment json e none (field_selection head set) is = different (codes "Field") (codes "InlineFragment") json is.0.0 e refl
+only_inline_fragment json e none (spread_selection fragment) is = different (codes "FragmentSpread") (codes "InlineFragment") json is.0.0 e refl
+
+-- one more selection
+pub selections_more : (selections : List Selection) (jsons : List json.Value) (selection : Selection) (json : json.Value) →
+    AreSelections (selection_trees selections) (items_view jsons) →
+    IsSelection (selection_tree selection) (view json) → AreSelections (selection_trees (selections ++ selection ∷ [])) (items_view (jsons ++ json ∷ []))
+selections_more [] [] selection json are is = (is, tt)
+selections_more (first ∷ selections) (one ∷ jsons) selection json are is = (are.0, selections_more selections jsons selection json are.1 is)
+selections_more [] (one ∷ jsons) selection json are is = absurd are
+selections_more (first ∷ selections) [] selection json are is = absurd are
+
+-- each item is a selection, so where one is none, they are no selections
+pub none_at : (items : List json.Value) (i : ℕ) (item : json.Value) → i < length items →
+    ((tree : SelectionTree) → IsSelection tree (view (get_or items i item)) → ⊥) → (trees : SelectionTrees) →
+    AreSelections trees (items_view items) → ⊥
+none_at [] i item lt none trees are = absurd (omega arith)
+none_at (first ∷ items) i item lt none no_selections are = are
+none_at (first ∷ items) zero item lt none (more_selections tree trees) are = none tree are.0
+none_at (first ∷ items) (suc i) item lt none (more_selections tree trees) are = none_at items i item (omega arith) none trees are.1

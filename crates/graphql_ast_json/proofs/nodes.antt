@@ -1,0 +1,14 @@
+-- Of nodes of any kind.
+
+-- of Drafts and Nodes: what a node is that was begun and given members
+pub mod DraftsAreNodes
+-- of Nodes: a member that is such was given under its name
+pub mod GivenMembers
+-- of Nodes: the text of a kind, as far as it tells kinds apart
+pub mod KindTexts
+-- of Nodes: whether a name is one of some names
+pub mod NamesAmong
+-- of Nodes.Each: lists of nodes go item by item
+pub mod NodeLists
+-- what stands inside of JSON nests less deep than the JSON
+pub mod JsonDepths

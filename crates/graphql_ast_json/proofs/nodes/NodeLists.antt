@@ -1,0 +1,23 @@
+-- Lists of nodes go item by item.
+use Rattle.std.proofs.Common.{ℕ, zero, suc, ◌<◌, List, [], ◌∷◌, ◌++◌, length, get_or, map, arith}
+use Rattle.serde_json.specs.Data.{Data}
+use Rattle.serde_json.specs.View.{view, items_view}
+use Rattle.serde_json.specs.declared.value.Value.{Value}
+use Rattle.graphql_ast_json.specs.nodes.Nodes.{Each}
+
+-- one more item
+pub one_more : {A B : Type 0} (Is : A → Data → Type 0) (tree : B → A) (nodes : List B) (items : List Value) (node : B) (item : Value) →
+    Each Is (map tree nodes) (items_view items) → Is (tree node) (view item)
+    → Each Is (map tree (nodes ++ node ∷ [])) (items_view (items ++ item ∷ []))
+one_more Is tree [] [] node item are is = (is, tt)
+one_more Is tree [] (first ∷ items) node item are is = absurd are
+one_more Is tree (first ∷ nodes) [] node item are is = absurd are
+one_more Is tree (first ∷ nodes) (other ∷ items) node item are is = (are.0, one_more Is tree nodes items node item are.1 is)
+
+-- where an item is of no tree, the items are of none
+pub none_each : {A : Type 0} (Is : A → Data → Type 0) (items : List Value) (i : ℕ) (item : Value) → i < length items →
+    ((tree : A) → Is tree (view (get_or items i item)) → ⊥) → (trees : List A) → Each Is trees (items_view items) → ⊥
+none_each Is [] i item lt none trees are = absurd (omega arith)
+none_each Is (first ∷ items) i item lt none [] are = are
+none_each Is (first ∷ items) zero item lt none (tree ∷ trees) are = none tree are.0
+none_each Is (first ∷ items) (suc i) item lt none (tree ∷ trees) are = none_each Is items i item (omega arith) none trees are.1

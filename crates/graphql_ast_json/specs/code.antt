@@ -1,0 +1,12 @@
+-- What writing and reading make.
+
+-- nodes while they are written
+pub mod Drafts
+-- why no tree was made of JSON
+pub mod Errors
+-- places within JSON, as `fields[0].value`
+pub mod Paths
+-- what a reader finds in a node: its kind, its members and where it stands
+pub mod NodeReading
+-- what a reader finds within a non-null type
+pub mod TypeReading

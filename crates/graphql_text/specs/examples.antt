@@ -1,0 +1,4 @@
+-- Examples that laws speak of.
+
+-- items that laws speak of
+pub mod LayoutExamples

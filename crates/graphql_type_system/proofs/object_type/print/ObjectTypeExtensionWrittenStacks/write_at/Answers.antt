@@ -1,0 +1,14 @@
+use Rattle.std.proofs.Common.{[], ◌∷◌, codes, refl}
+use Rattle.graphql_text.specs.layout.Layout.{Space, Word}
+use Rattle.graphql_text.specs.lexical.Tokens.{amp, Name}
+use Rattle.graphql_text.proofs.code.WritingSteps.{writes_then}
+use Rattle.graphql_type_system.proofs.object_type.print.ObjectTypeExtensionWrittenStacks.write_at.Goals as goal
+
+pub returns-clause-written : goal.returns-clause-written
+returns-clause-written g c =
+    let more = g.met.O.Target.more in
+    let keyword = c.write_words.ensures.items _ _ (Word (Name (codes "extend")) ∷ Space ∷ Word (Name (codes "type")) ∷ Space ∷ []) refl in
+    let names = rw c.deref.ensures.value at c.write_joined_names.ensures in
+    let interfaces = names (Name (codes "implements")) amp refl refl _ _ in
+    let members = rw c.deref-2.ensures.value at c.write_directives_and_members.ensures.written in
+    writes_then more keyword (writes_then more (c.write_name.ensures _ _) (writes_then more interfaces members))

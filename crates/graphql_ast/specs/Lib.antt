@@ -23,6 +23,7 @@ pub use Rattle.graphql_base.specs.Names
 pub use Rattle.graphql_base.specs.Node
 pub use Rattle.graphql_base.specs.NodeLoans
 pub use Rattle.graphql_base.specs.Span
+pub use Rattle.graphql_base.specs.StoredTexts
 pub use Rattle.graphql_text.specs.lexical.Characters
 pub use Rattle.graphql_text.specs.strings.BlockStringValue
 pub use Rattle.graphql_text.specs.strings.Strings

@@ -4,7 +4,7 @@
 pub mod Drafts
 -- why no tree was made of JSON
 pub mod Errors
--- places within JSON, as `fields[0].value`
+-- positions within JSON, as `fields[0].value`
 pub mod Paths
 -- what a reader finds in a node: its kind, its members and where it stands
 pub mod NodeReading

@@ -58,7 +58,7 @@ pub enum AstJsonProblem {
     WrongLength { found: u32, wanted: usize },
 }
 
-/// A place within JSON, as `fields[0].value`. The root is the empty path.
+/// A position within JSON, as `fields[0].value`. The root is the empty path.
 #[derive(Debug, Drop)]
 pub struct JsonPath {
     text: String,
@@ -93,7 +93,7 @@ impl JsonPath {
         }
     }
 
-    /// The same place, told from the object that has it in this member.
+    /// The same position, told from the object that has it in this member.
     pub(crate) fn in_member(&self, alloc: Global, name: &str) -> Result<JsonPath, AllocError>
         ensures { IfOk result (λ path. path_text path ≡ path_in name.now (path_text self.now)) }
     {
@@ -106,7 +106,7 @@ impl JsonPath {
         }
     }
 
-    /// The same place, told from the array that has it in this item.
+    /// The same position, told from the array that has it in this item.
     pub(crate) fn in_item(&self, alloc: Global, index: usize) -> Result<JsonPath, AllocError>
         ensures { IfOk result (λ path.
             path_text path ≡ path_in (item_name index) (path_text self.now)) }
@@ -138,7 +138,7 @@ pub enum AstJsonError {
     /// Arrays and objects of the text stand in one another deeper than JSON is read.
     #[error("arrays and objects stand in one another more than 127 deep")]
     TooDeep,
-    /// The JSON is of no such tree, because of this problem at this place.
+    /// The JSON is of no such tree, because of this problem at this position.
     #[error("at {path}: {problem}")]
     Invalid {
         path: JsonPath,
@@ -177,7 +177,7 @@ impl AstJsonError {
         }
     }
 
-    /// The error, told from the object that has the place in this member.
+    /// The error, told from the object that has the position in this member.
     pub(crate) fn in_member(self, alloc: Global, name: &str) -> AstJsonError
         ensures { IsMemory self → IsMemory result }
     {
@@ -190,7 +190,7 @@ impl AstJsonError {
         }
     }
 
-    /// The error, told from the array that has the place in this item.
+    /// The error, told from the array that has the position in this item.
     pub(crate) fn in_item(self, alloc: Global, index: usize) -> AstJsonError
         ensures { IsMemory self → IsMemory result }
     {

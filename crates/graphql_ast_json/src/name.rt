@@ -28,7 +28,7 @@ pub(crate) fn name_text(alloc: Global, json: &Json) -> Result<Name, AstJsonError
 {
     let text = text_member(alloc, json, "value")?;
     if Name::is_valid_syntax(text) {
-        Ok(Name::new_unchecked(alloc, text)?)
+        Ok(Name::compact_unchecked(alloc, text)?)
     } else {
         Err(AstJsonError::text(alloc, text, "a name").in_member(alloc, "value"))
     }

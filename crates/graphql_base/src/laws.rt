@@ -32,8 +32,8 @@ pub fn names_are_valid(name: &Name)
     ensures { IsTrue (is_name (name_text name.now)) }
 {}
 
-/// Two names are equal exactly if their texts are, wherever they stand, and whether their texts are static
-/// or shared.
+/// Two names are equal exactly if their texts are, wherever they stand, and whether their texts are static,
+/// shared or in place.
 pub fn names_compare_by_text(a: &Name, b: &Name)
     ensures { IsTrue (⟦<Name as PartialEq>⟧.eq a.now b.now) ↔ (name_text a.now ≡ name_text b.now) }
 {}
@@ -50,8 +50,8 @@ pub fn name_order_agrees_with_equality(a: &Name, b: &Name)
         ↔ IsTrue (⟦<Name as PartialEq>⟧.eq a.now b.now) }
 {}
 
-/// A name hashes as its text does, wherever it stands, and whether its text is static or shared: so equal names
-/// hash alike.
+/// A name hashes as its text does, wherever it stands, and whether its text is static, shared or in place: so
+/// equal names hash alike.
 pub fn names_hash_by_text(a: &Name, b: &Name)
     ensures text { ⟦<Name as Hash>⟧.hash_input a.now ≡ fed.str (name_text a.now) }
     ensures alike { IsTrue (⟦<Name as PartialEq>⟧.eq a.now b.now)

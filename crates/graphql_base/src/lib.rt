@@ -1,9 +1,10 @@
-//! What each part of a GraphQL syntax tree is made of: names, values that may be shared, and the places
-//! where they stand in a source text.
+//! What each part of a GraphQL syntax tree is made of: names, values that may be shared, and their
+//! source locations.
 //!
 //! - `span`: numbers of source files, and stretches of their texts.
 //! - `name`: names, with their syntax, and the macro `name!`.
 //! - `node`: values and texts that several trees may share.
+//! - `short_text`: short texts that take no memory.
 //! - `laws`: what holds of all of these, as contracts of functions that do nothing.
 #![tactic(auto)]
 
@@ -15,5 +16,6 @@ pub mod node;
 mod node_str;
 mod shared;
 mod shared_text;
+pub mod short_text;
 pub mod span;
 mod static_text;

@@ -1,5 +1,5 @@
-//! A text that is static or shared, and where it stands, seen as its bytes, that choice and an optional span.
-ghost use Rattle.std.specs.Prelude.{◌≡◌, ◌↔◌, ◌+◌, ◌<◌, ◌^◌, IfOk, IfSome, IsTrue, IsSome, IsOk, Some, None, length};
+//! A text that is static, shared or in place, and where it stands, seen as its bytes, that choice and an optional span.
+ghost use Rattle.std.specs.Prelude.{◌≡◌, ◌↔◌, ◌+◌, ◌<◌, ◌≤◌, ◌^◌, IfOk, IfSome, IsTrue, IsSome, IsOk, Some, None, length};
 ghost use Rattle.std.specs.Prelude.{true, false, nat_eq, refl};
 ghost use Rattle.std.specs.Ordering.{nat_cmp};
 ghost use Rattle.std.specs.Cmp.{on_equiv, on_total, on_per, on_po, partial_equiv_from_equiv};
@@ -8,8 +8,12 @@ ghost use Rattle.std.specs.Cmp.Rules.{hashing};
 ghost use Rattle.std.specs.Hash as fed;
 ghost use Rattle.std.specs.Rc.{rc_str_bytes};
 ghost use Rattle.std.proofs.Common.{rules};
+ghost use Rattle.graphql_base.specs.ShortTexts.{short_bytes};
+ghost use Rattle.graphql_base.specs.StoredTexts.{StaticForm, SharedForm, InPlaceForm};
+ghost use Rattle.graphql_base.specs.StoredTexts.{is_static_form, is_shared_form, is_in_place_form};
 ghost use Rattle.graphql_base.specs.Stretches.{text_stretch};
 
+use crate::short_text::ShortText;
 use crate::span::{FileId, SourceSpan};
 use crate::static_text::StaticText;
 use std::alloc::{AllocError, Global};
@@ -19,7 +23,11 @@ use std::hash::{Hash, Hasher};
 use std::marker::Model;
 use std::rc::RcStr;
 
-// A variant's fields lie right behind its tag, so `start` comes first: it stands in the bytes up to the text.
+/// The most bytes that stand in place. With more it would be longer than one that holds a static text and a location.
+pub const IN_PLACE: usize = 18;
+
+// A variant's fields lie right behind its tag. So `start` comes before a static or shared text, in the bytes up to
+// it, and a text in place comes first: it takes 19 bytes, and with the tag they end where `start` may stand.
 #[derive(Drop)]
 enum Form {
     Static(StaticText),
@@ -34,6 +42,16 @@ enum Form {
         text: RcStr,
         file_id: FileId,
     },
+    InPlace {
+        text: ShortText<IN_PLACE>,
+        alloc: Global,
+    },
+    InPlaceAt {
+        text: ShortText<IN_PLACE>,
+        start: u32,
+        file_id: FileId,
+        alloc: Global,
+    },
 }
 
 /// The stretch of a file from `start` on that is as long as a text.
@@ -44,12 +62,15 @@ fn stretch_of_text(file_id: FileId, start: u32, text: &str) -> Option<SourceSpan
     SourceSpan::new(file_id, start, start + text.len() as u32)
 }
 
-/// A text that is static or shared, and where it stands in a source text, if that is known. It stands on as many
-/// bytes as it has, so the end of that stretch isn't kept.
+/// A text that is static, shared or in place, and where it stands in a source text, if that is known. It stands on
+/// as many bytes as it has, so the end of that stretch isn't kept. A text in place keeps the allocator, which takes no
+/// room, for copies that are shared.
 #[derive(Drop)]
 pub struct LocatedText {
     form: Form,
 }
+
+const _: () = prove!(size_of::<LocatedText>() == 32);
 
 impl Model for LocatedText {
     ghost use Rattle.graphql_base.specs.StoredTexts.{StoredText, stored, EndsInReach};
@@ -65,7 +86,7 @@ impl LocatedText {
     ghost use Rattle.graphql_base.specs.Span.{span_len};
 
     pub fn from_static(text: &'static str) -> LocatedText
-        ensures { result ≡ record { bytes = text.now; is_static = true; location = None } }
+        ensures { result ≡ record { bytes = text.now; form = StaticForm; location = None } }
     {
         LocatedText {
             form: Form::Static(StaticText::new(text)),
@@ -74,19 +95,29 @@ impl LocatedText {
 
     pub fn from_shared(text: RcStr) -> LocatedText
         ensures { result
-            ≡ record { bytes = rc_str_bytes text; is_static = false; location = None } }
+            ≡ record { bytes = rc_str_bytes text; form = SharedForm; location = None } }
     {
         LocatedText {
             form: Form::Shared(text),
         }
     }
 
-    /// The same text at another place.
+    /// `alloc` is kept for copies that are shared: no memory is taken here.
+    pub fn in_place(alloc: Global, text: ShortText<IN_PLACE>) -> LocatedText
+        ensures { result
+            ≡ record { bytes = short_bytes text; form = InPlaceForm; location = None } }
+    {
+        LocatedText {
+            form: Form::InPlace { text, alloc },
+        }
+    }
+
+    /// The same text at another source location.
     #[tactic(auto, using(crate::proofs::SpanStretches::filled))]
     pub fn at(self, span: SourceSpan) -> LocatedText
         requires { span_len span ≡ length self.bytes }
         ensures { result
-            ≡ record { bytes = self.bytes; is_static = self.is_static; location = Some span } }
+            ≡ record { bytes = self.bytes; form = self.form; location = Some span } }
     {
         let LocatedText { form } = self;
         let start = span.start();
@@ -106,6 +137,14 @@ impl LocatedText {
                     file_id,
                 },
             },
+            Form::InPlace { text, alloc } | Form::InPlaceAt { text, alloc, .. } => LocatedText {
+                form: Form::InPlaceAt {
+                    text,
+                    start,
+                    file_id,
+                    alloc,
+                },
+            },
         }
     }
 
@@ -114,9 +153,14 @@ impl LocatedText {
         ensures length { IfSome result (λ span. span_len span ≡ length self.now.bytes) }
     {
         match &self.form {
-            Form::StaticAt { start, file_id, .. } | Form::SharedAt { start, file_id, .. } =>
-                stretch_of_text(*file_id, *start, self.as_str()),
-            Form::Static(_) | Form::Shared(_) => None,
+            Form::StaticAt { start, file_id, .. }
+            | Form::SharedAt { start, file_id, .. }
+            | Form::InPlaceAt { start, file_id, .. } => stretch_of_text(
+                *file_id,
+                *start,
+                self.as_str(),
+            ),
+            Form::Static(_) | Form::Shared(_) | Form::InPlace { .. } => None,
         }
     }
 
@@ -126,34 +170,50 @@ impl LocatedText {
         match &self.form {
             Form::Static(text) | Form::StaticAt { text, .. } => text.as_str(),
             Form::Shared(text) | Form::SharedAt { text, .. } => text.as_str(),
+            Form::InPlace { text, .. } | Form::InPlaceAt { text, .. } => text.as_str(),
         }
     }
 
     pub fn as_static_str(&self) -> Option<&'static str>
-        ensures some { IsSome result ↔ IsTrue self.now.is_static }
+        ensures some { IsSome result ↔ IsTrue (is_static_form self.now.form) }
         ensures value { IfSome result (λ text. text.now ≡ self.now.bytes) }
     {
         match &self.form {
             Form::Static(text) | Form::StaticAt { text, .. } => Some(text.as_str()),
             Form::Shared(_) | Form::SharedAt { .. } => None,
+            Form::InPlace { .. } | Form::InPlaceAt { .. } => None,
+        }
+    }
+
+    pub fn short_text(&self) -> Option<&ShortText<IN_PLACE>>
+        ensures some { IsSome result ↔ IsTrue (is_in_place_form self.now.form) }
+        ensures value { IfSome result (λ text. short_bytes text.now ≡ self.now.bytes) }
+    {
+        match &self.form {
+            Form::InPlace { text, .. } | Form::InPlaceAt { text, .. } => Some(text),
+            Form::Static(_) | Form::StaticAt { .. } => None,
+            Form::Shared(_) | Form::SharedAt { .. } => None,
         }
     }
 
     pub fn to_shared(&self) -> Result<Option<RcStr>, AllocError>
-        ensures static_text { IsTrue self.now.is_static → result ≡ Ok None }
-        ensures shared_text { self.now.is_static ≡ false → IfOk result IsSome }
+        ensures static_text { IsTrue (is_static_form self.now.form) → result ≡ Ok None }
+        ensures other_text { is_static_form self.now.form ≡ false → IfOk result IsSome }
         ensures value { IfOk result
             (λ copy. IfSome copy (λ text. rc_str_bytes text ≡ self.now.bytes)) }
     {
         match &self.form {
             Form::Static(_) | Form::StaticAt { .. } => Ok(None),
             Form::Shared(text) | Form::SharedAt { text, .. } => Ok(Some(text.clone()?)),
+            Form::InPlace { text, alloc } | Form::InPlaceAt { text, alloc, .. } => Ok(Some(
+                RcStr::from_str(*alloc, text.as_str())?,
+            )),
         }
     }
 
     pub fn into_shared(self, alloc: Global) -> Result<RcStr, AllocError>
         ensures value { IfOk result (λ text. rc_str_bytes text ≡ self.bytes) }
-        ensures succeeds { self.is_static ≡ false → IsOk result }
+        ensures succeeds { IsTrue (is_shared_form self.form) → IsOk result }
     {
         let LocatedText { form } = self;
         match form {
@@ -162,6 +222,10 @@ impl LocatedText {
                 text.as_str(),
             ),
             Form::Shared(text) | Form::SharedAt { text, .. } => Ok(text),
+            Form::InPlace { text, .. } | Form::InPlaceAt { text, .. } => RcStr::from_str(
+                alloc,
+                text.as_str(),
+            ),
         }
     }
 }
@@ -177,6 +241,8 @@ impl Clone for LocatedText {
             Form::Shared(text) | Form::SharedAt { text, .. } => LocatedText::from_shared(
                 text.clone()?,
             ),
+            Form::InPlace { text, alloc } | Form::InPlaceAt { text, alloc, .. } =>
+                LocatedText::in_place(*alloc, *text),
         };
         match self.location() {
             Some(span) => Ok(copy.at(span)),

@@ -1,11 +1,12 @@
-//! Names, with their syntax.
-ghost use Rattle.std.specs.Prelude.{◌≡◌, ◌↔◌, true, false, length};
+//! Names, with their syntax. Their texts are static, shared, or in place: in the name itself.
+ghost use Rattle.std.specs.Prelude.{◌≡◌, ◌↔◌, ◌≤◌, false, length};
 ghost use Rattle.std.specs.Prelude.{IfOk, IfErr, IfSome, IsTrue, IsSome, IsOk, Some, None};
 ghost use Rattle.std.specs.List.{list_all};
 ghost use Rattle.std.specs.Rc.{rc_str_bytes};
 ghost use Rattle.graphql_base.specs.Names.{is_name, is_name_start, is_name_continue, begins_in};
 
-use crate::located_text::LocatedText;
+use crate::located_text::{self, LocatedText};
+use crate::short_text::ShortText;
 use crate::span::SourceSpan;
 use std::alloc::{AllocError, Global};
 use std::fmt::{self, Debug, Display, Formatter, Write};
@@ -15,10 +16,15 @@ use thiserror::Error;
 /// A name (the production `Name` of the GraphQL grammar): a letter or `_`, followed by letters, digits
 /// and `_`, all of ASCII.
 ///
-/// A name is its text, which is static or shared, and optionally the place where it stands in a source
-/// text. Equality, order and hash are those of the text alone: a name equals one that stands elsewhere,
-/// or whose text is kept in the other way. The order is that of the bytes. A clone keeps the location,
-/// and whether the text is static.
+/// A name is its text, and optionally its source location. The text has one of
+/// three forms:
+///
+/// - *static*: it lives for the whole program (`new_static`, `name!`);
+/// - *shared*: it has memory of its own, which clones of the name share (`new`, `new_shared`);
+/// - *in place*: it stands in the name itself and takes no memory, at most `Name::IN_PLACE` bytes (`compact`).
+///
+/// Equality, order and hash are those of the text alone: a name equals one that stands elsewhere, or
+/// whose text has another form. The order is that of the bytes. A clone keeps the location and the form.
 ///
 /// ```
 /// let name = Name::new(alloc, "id")?;
@@ -101,9 +107,16 @@ fn continues_as_name(bytes: &[u8]) -> bool
 }
 
 impl Name {
-    ghost use Rattle.graphql_base.specs.Name.{name_text, is_static_name, name_location, IsNewName};
+    ghost use Rattle.graphql_base.specs.Name.{name_text, name_form, name_location, IsNewName, compact_form};
+    ghost use Rattle.graphql_base.specs.Name.{is_static_name, is_shared_name, is_name_in_place};
     ghost use Rattle.graphql_base.specs.NameErrors.{IsRefusalOf};
+    ghost use Rattle.graphql_base.specs.ShortTexts.{short_bytes};
     ghost use Rattle.graphql_base.specs.Span.{span_len};
+    ghost use Rattle.graphql_base.specs.StoredTexts.{StaticForm, SharedForm};
+    ghost use Rattle.graphql_base.specs.declared.name.TheConstants.Name.{IN_PLACE};
+
+    /// The most bytes of a text that stands in the name itself.
+    pub const IN_PLACE: usize = located_text::IN_PLACE;
 
     /// Whether the text is in name syntax: the test of the condition that the constructors without a
     /// test have.
@@ -124,7 +137,7 @@ impl Name {
     /// Name::new(alloc, "1nvalid") // NameError::Invalid
     /// ```
     pub fn new(alloc: Global, text: &str) -> Result<Name, NameError>
-        ensures ok { IfOk result (IsNewName text.now false) }
+        ensures ok { IfOk result (IsNewName text.now SharedForm) }
         ensures err { IfErr result (IsRefusalOf text.now) }
     {
         if !Name::is_valid_syntax(text) {
@@ -133,13 +146,34 @@ impl Name {
         Name::new_unchecked(alloc, text).map_err(|_| NameError::Memory)
     }
 
+    /// A name over a copy of the text, in the name itself where it fits: of at most `IN_PLACE` bytes. Clones
+    /// of the name share a longer text. A text in name syntax that fits always gives a name, and takes no
+    /// memory.
+    ///
+    /// `NameError::Invalid` for a text outside name syntax, and for no other: it holds the text and no
+    /// location. `NameError::Memory` where memory is refused.
+    ///
+    /// ```
+    /// Name::compact(alloc, "id") // a name, in place
+    /// ```
+    pub fn compact(alloc: Global, text: &str) -> Result<Name, NameError>
+        ensures ok { IfOk result (IsNewName text.now (compact_form text.now)) }
+        ensures err { IfErr result (IsRefusalOf text.now) }
+        ensures short { length text.now ≤ IN_PLACE → IsTrue (is_name text.now) → IsOk result }
+    {
+        if !Name::is_valid_syntax(text) {
+            return Err(NameError::invalid(alloc, text));
+        }
+        Name::compact_unchecked(alloc, text).map_err(|_| NameError::Memory)
+    }
+
     /// A name over a shared text. A text in name syntax always gives a name, and takes no memory.
     ///
     /// `NameError::Invalid` for a text outside name syntax, and for no other: it holds the text and no
     /// location. `NameError::Memory` where memory for that text is refused.
     pub fn new_shared(alloc: Global, text: RcStr) -> Result<Name, NameError>
         ensures valid { IsOk result ↔ IsTrue (is_name (rc_str_bytes text)) }
-        ensures ok { IfOk result (IsNewName (rc_str_bytes text) false) }
+        ensures ok { IfOk result (IsNewName (rc_str_bytes text) SharedForm) }
         ensures err { IfErr result (IsRefusalOf (rc_str_bytes text)) }
     {
         if !Name::is_valid_syntax(text.as_str()) {
@@ -154,7 +188,7 @@ impl Name {
     /// location. `NameError::Memory` where memory for that text is refused.
     pub fn new_static(alloc: Global, text: &'static str) -> Result<Name, NameError>
         ensures valid { IsOk result ↔ IsTrue (is_name text.now) }
-        ensures ok { IfOk result (IsNewName text.now true) }
+        ensures ok { IfOk result (IsNewName text.now StaticForm) }
         ensures err { IfErr result (IsRefusalOf text.now) }
     {
         if !Name::is_valid_syntax(text) {
@@ -167,15 +201,30 @@ impl Name {
     /// refused.
     pub fn new_unchecked(alloc: Global, text: &str) -> Result<Name, AllocError>
         requires { IsTrue (is_name text.now) }
-        ensures { IfOk result (IsNewName text.now false) }
+        ensures { IfOk result (IsNewName text.now SharedForm) }
     {
         Ok(Name::from_arc_unchecked(RcStr::from_str(alloc, text)?))
+    }
+
+    /// A name over a copy of a text that is in name syntax, in the name itself where it fits, without a
+    /// test. `AllocError` only for a longer text, where memory is refused.
+    pub fn compact_unchecked(alloc: Global, text: &str) -> Result<Name, AllocError>
+        requires { IsTrue (is_name text.now) }
+        ensures ok { IfOk result (IsNewName text.now (compact_form text.now)) }
+        ensures short { length text.now ≤ IN_PLACE → IsOk result }
+    {
+        if text.len() > Name::IN_PLACE {
+            return Name::new_unchecked(alloc, text);
+        }
+        Ok(Name {
+            text: LocatedText::in_place(alloc, ShortText::new(text)),
+        })
     }
 
     /// A name over a shared text that is in name syntax, without a test. It takes no memory.
     pub fn from_arc_unchecked(text: RcStr) -> Name
         requires { IsTrue (is_name (rc_str_bytes text)) }
-        ensures { IsNewName (rc_str_bytes text) false result }
+        ensures { IsNewName (rc_str_bytes text) SharedForm result }
     {
         Name {
             text: LocatedText::from_shared(text),
@@ -186,7 +235,7 @@ impl Name {
     /// calls it.
     pub fn new_static_unchecked(text: &'static str) -> Name
         requires { IsTrue (is_name text.now) }
-        ensures { IsNewName text.now true result }
+        ensures { IsNewName text.now StaticForm result }
     {
         Name {
             text: LocatedText::from_static(text),
@@ -197,7 +246,7 @@ impl Name {
     pub fn with_location(self, span: SourceSpan) -> Name
         requires { span_len span ≡ length (name_text self) }
         ensures text { name_text result ≡ name_text self }
-        ensures form { is_static_name result ≡ is_static_name self }
+        ensures form { name_form result ≡ name_form self }
         ensures location { name_location result ≡ Some span }
     {
         Name {
@@ -205,7 +254,7 @@ impl Name {
         }
     }
 
-    /// The place where the name stands in a source text, which is as long as the name. A name just made has none.
+    /// The source location of the name, which is as long as the name. A name just made has none.
     pub fn location(&self) -> Option<SourceSpan>
         ensures value { result ≡ name_location self.now }
         ensures length { IfSome result (λ span. span_len span ≡ length (name_text self.now)) }
@@ -236,12 +285,22 @@ impl Name {
         self.text.as_static_str()
     }
 
-    /// The text as one more owner of it, if it is shared; `Ok(None)` exactly if it is static.
+    /// The text, exactly if it stands in the name itself: for writers, which can copy it as it lies there.
+    pub fn short_text(&self) -> Option<&ShortText<{ Name::IN_PLACE }>>
+        ensures some { IsSome result ↔ IsTrue (is_name_in_place self.now) }
+        ensures text { IfSome result (λ text. short_bytes text.now ≡ name_text self.now) }
+    {
+        self.text.short_text()
+    }
+
+    /// The text as a shared one: one more owner of it, if it is shared, and a copy, if it stands in place;
+    /// `Ok(None)` exactly if it is static.
     ///
-    /// `AllocError` only for a shared text, where one more owner is refused.
+    /// `AllocError` only for a text that is not static, where one more owner or memory for the copy is
+    /// refused.
     pub fn to_cloned_arc(&self) -> Result<Option<RcStr>, AllocError>
         ensures static_text { IsTrue (is_static_name self.now) → result ≡ Ok None }
-        ensures shared_text { is_static_name self.now ≡ false → IfOk result IsSome }
+        ensures other_text { is_static_name self.now ≡ false → IfOk result IsSome }
         ensures text { IfOk result
             (λ copy. IfSome copy (λ text. rc_str_bytes text ≡ name_text self.now)) }
     {
@@ -250,10 +309,10 @@ impl Name {
 
     /// The text as a shared one: the name's own, if it is shared, and else a copy.
     ///
-    /// `AllocError` only for a static text, where memory for the copy is refused.
+    /// `AllocError` only for a text that is not shared, where memory for the copy is refused.
     pub fn into_shared(self, alloc: Global) -> Result<RcStr, AllocError>
         ensures text { IfOk result (λ text. rc_str_bytes text ≡ name_text self) }
-        ensures shared { is_static_name self ≡ false → IsOk result }
+        ensures shared { IsTrue (is_shared_name self) → IsOk result }
     {
         self.text.into_shared(alloc)
     }
@@ -293,7 +352,7 @@ impl Debug for Name {
     }
 }
 
-/// A name over a static text: an identifier, or a text literal. It takes no memory.
+/// A name over a static text, of any length: an identifier, or a text literal. It takes no memory.
 ///
 /// That the text is in name syntax is proved at the call, so `name!("1nvalid")` is refused by the check.
 /// It stands in the body of a function.

@@ -1,4 +1,4 @@
-//! Values and texts that may be shared, with the place where they stand in a source text.
+//! Values and texts that may be shared, with their source locations.
 ghost use Rattle.std.specs.Prelude.{◌≡◌, ◌⊎◌, ◌↔◌, IfOk, IfSome, IsTrue, None, Some};
 ghost use Rattle.graphql_base.specs.Span.{IsBuiltIn};
 
@@ -20,8 +20,8 @@ pub(crate) fn is_built_in(location: Option<SourceSpan>) -> bool
     }
 }
 
-/// A part of a tree: a value that several nodes may share, and optionally the place where it stands in a
-/// source text.
+/// A part of a tree: a value that several nodes may share, and optionally its
+/// source location.
 ///
 /// A clone shares the value and keeps the location. A change through `make_mut` or `get_mut` is seen in
 /// that node alone. Equality and hash are those of the value alone.
@@ -83,7 +83,7 @@ impl<T> Node<T> {
         Node::at(alloc, value, self.location())
     }
 
-    /// The place where the value stands in a source text.
+    /// The source location of the value.
     pub fn location(&self) -> Option<SourceSpan>
         ensures { result ≡ node_location self.now }
     {

@@ -1,4 +1,4 @@
-//! Texts that may be shared, with the place where they stand in a source text.
+//! Texts that may be shared, with their source locations.
 ghost use Rattle.std.specs.Prelude.{◌≡◌, ◌↔◌, IfOk, IsTrue, IsUtf8, None, Some, string_bytes};
 ghost use Rattle.graphql_base.specs.Span.{IsBuiltIn};
 
@@ -9,7 +9,7 @@ use crate::span::SourceSpan;
 use std::alloc::{AllocError, Global};
 use std::fmt::{self, Debug, Display, Formatter, Write};
 
-/// A text that several trees may share, and optionally the place where it stands in a source text: what a
+/// A text that several trees may share, and optionally its source location: what a
 /// `Node` is for a sized value.
 ///
 /// A clone shares the text and keeps the location. Equality and hash are those of the text alone.
@@ -74,7 +74,7 @@ impl NodeStr {
         String::from_str(alloc, self.as_str())
     }
 
-    /// The place where the text stands in a source text.
+    /// The source location of the text.
     pub fn location(&self) -> Option<SourceSpan>
         ensures { result ≡ node_str_location self.now }
     {

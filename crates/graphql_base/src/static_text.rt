@@ -9,7 +9,7 @@ use std::str;
 
 mod reads;
 
-/// The right to read these bytes at this place for the whole program.
+/// The right to read these bytes at this address for the whole program.
 #[derive(Drop)]
 pub(crate) struct Readable {
     ghost at: { Ptr },

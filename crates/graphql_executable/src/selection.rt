@@ -24,7 +24,7 @@ pub enum Selection {
 }
 
 impl Selection {
-    /// The place where the selection stands in a source text.
+    /// The source location of the selection.
     pub fn location(&self) -> Option<SourceSpan>
         ensures { result ≡ selection_location self.now }
     {

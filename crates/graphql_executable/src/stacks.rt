@@ -1,11 +1,11 @@
 //! The stacks that operations, fragments and selections are written with.
 ghost use Rattle.std.specs.Prelude.{◌≡◌, ℕ, IfOk, IsOk};
-ghost use Rattle.graphql_text.specs.layout.Levels.{Fits, IsCount};
+ghost use Rattle.graphql_text.specs.layout.Levels.{Fits, capped};
 ghost use Rattle.graphql_text.specs.declared.place.Place.{Place};
 ghost use Rattle.graphql_executable.specs.code.ExecutableStacks.{AreAllKept, CanWriteExecutable};
 
 use crate::selection::Selection;
-use graphql_text::writers::{Stack, WritingStacks};
+use graphql_text::writers::{Depths, Stack, WritingStacks};
 use graphql_values::writers::Stacks;
 use std::alloc::{AllocError, Global};
 
@@ -27,21 +27,16 @@ pub struct ExecutableStacks<'a> {
 
 impl<'a> ExecutableStacks<'a> {
     /// Stacks with room for values and selection sets of a nesting depth, and for types of so many lists. For none no
-    /// memory is asked for. `AllocError` where memory is refused, and where the lists are more than `usize::MAX`.
-    pub fn reserve(
-        alloc: Global,
-        nesting: usize,
-        list_depth: Option<usize>,
-    ) -> Result<ExecutableStacks<'a>, AllocError>
-        ensures ready { (lists : ℕ) → IsCount list_depth lists →
-            IfOk result (λ stacks. (place : Place) →
-            Fits place.level nesting → CanWriteExecutable place stacks nesting lists) }
-        ensures free { (lists : ℕ) → IsCount list_depth lists → nesting ≡ 0 →
-            lists ≡ 0 → IsOk result }
+    /// memory is asked for. `AllocError` where memory is refused, and where the lists are `usize::MAX` or more.
+    pub fn reserve(alloc: Global, depths: Depths) -> Result<ExecutableStacks<'a>, AllocError>
+        ensures ready { (lists : ℕ) → depths.lists ≡ capped lists →
+            IfOk result (λ stacks. (place : Place) → Fits place.level depths.nesting →
+            CanWriteExecutable place stacks depths.nesting lists) }
+        ensures free { depths.nesting ≡ 0 → depths.lists ≡ 0 → IsOk result }
     {
         Ok(ExecutableStacks {
-            definitions: Stacks::reserve(alloc, nesting, list_depth)?,
-            selections: Stack::reserve(Some(alloc), nesting)?,
+            definitions: Stacks::reserve(alloc, depths)?,
+            selections: Stack::reserve(Some(alloc), depths.nesting)?,
         })
     }
 }

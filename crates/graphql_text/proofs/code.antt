@@ -20,6 +20,8 @@ pub mod CurlyGroupSteps
 pub mod JoinedNamesSteps
 -- of Layout.break_text: breaks under two spaces are cut from one text
 pub mod TwoSpaceBreaks
+-- of Buffer: a piece that is copied with bytes behind it
+pub mod PaddedPieces
 -- of Stack: a stack that is emptied again and again
 pub mod KeptStacks
 -- of PendingStack: how the writing of the entries goes on

@@ -16,6 +16,8 @@ pub mod UnescapedCharacter
 pub mod UnescapedLine
 -- of QuotedForm: a text that is written in runs between its escapes
 pub mod EscapeRuns
+-- of BlockForm: the first line of a text, the last one and those that are not indented, told byte by byte
+pub mod LinesByBytes
 -- of BlockForm: the lines of a text, as a loop goes through them
 pub mod LinesOneByOne
 -- of Layout.string_text: which form the text of a string has

@@ -14,6 +14,8 @@ pub mod PendingStack
 pub mod Sinks
 -- what contracts see of a sink over a writer
 pub mod Stream
+-- the texts of breaks at hand
+pub mod Breaks
 -- the bytes that wait in a buffer
 pub mod Buffer
 -- what was written to a text that grows and to a formatter, until a write failed

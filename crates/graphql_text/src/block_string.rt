@@ -1,9 +1,9 @@
 //! Block strings.
 
-ghost use Rattle.std.specs.Prelude.{◌≡◌, ◌==◌, ◌<◌, ℕ, IsTrue, true, false, nat_lt, Decides, length, drop, [], chars, codes, encode_utf8_all};
+ghost use Rattle.std.specs.Prelude.{◌≡◌, ◌-◌, ◌==◌, ◌<◌, ℕ, get_or, IsTrue, true, false, nat_lt, Decides, length, drop, [], chars, codes, encode_utf8_all};
 ghost use Rattle.std.specs.List.{list_any, repeat};
 ghost use Rattle.graphql_text.specs.lexical.Characters.{begins_with, is_space_or_tab, quotes};
-ghost use Rattle.graphql_text.specs.strings.BlockStringValue.{is_blank as holds_only_blanks};
+ghost use Rattle.graphql_text.specs.strings.BlockStringValue.{is_blank as holds_only_blanks, lines_of};
 ghost use Rattle.graphql_text.specs.strings.QuotedForm.{quoted_character};
 ghost use Rattle.graphql_text.specs.strings.BlockForm.{begins_unindented as has_no_indent, block_form, block_on_one_line, block_over_lines, block_text, broken_line, can_be_block as has_block_form, escape_quotes, would_join_closing_quotes};
 
@@ -42,21 +42,69 @@ pub(crate) fn begins_unindented(line: &str) -> bool
     }
 }
 
+/// Whether the first line holds white space only.
+#[tactic(auto, using(crate::proofs::strings::LinesByBytes::first_line))]
+fn begins_blank(value: &[u8]) -> bool
+    ensures { result ≡ holds_only_blanks (get_or (lines_of value.now) 0 []) }
+{
+    let mut rest = value;
+    while let Some((first, after)) = rest.split_first() {
+        if *first == b'\n' {
+            return true;
+        }
+        if !is_space_or_tab_byte(*first) {
+            return false;
+        }
+        rest = after;
+    }
+    true
+}
+
+/// Whether the last line holds white space only. It is looked at from its end.
+#[tactic(auto, using(crate::proofs::strings::LinesByBytes::last_line_steps))]
+fn ends_blank(value: &[u8]) -> bool
+    ensures { result ≡ holds_only_blanks
+        (get_or (lines_of value.now) (length (lines_of value.now) - 1) []) }
+{
+    let mut rest = value;
+    while let Some((last, before)) = rest.split_last() {
+        if *last == b'\n' {
+            return true;
+        }
+        if !is_space_or_tab_byte(*last) {
+            return false;
+        }
+        rest = before;
+    }
+    true
+}
+
+/// Whether a line begins with something other than white space. The first line mostly does.
+#[tactic(auto, using(crate::proofs::strings::LinesByBytes::unindented_steps))]
+fn has_unindented_line(value: &[u8]) -> bool
+    ensures { result ≡ list_any has_no_indent (lines_of value.now) }
+{
+    let mut is_line_start = true;
+    let mut rest = value;
+    while let Some((first, after)) = rest.split_first() {
+        if is_line_start && *first != b'\n' && !is_space_or_tab_byte(*first) {
+            return true;
+        }
+        is_line_start = *first == b'\n';
+        rest = after;
+    }
+    false
+}
+
 /// Whether the printer may write a value as a block string.
 pub(crate) fn can_be_block(value: &str) -> bool
     ensures { result ≡ has_block_form (chars value.now) }
 {
-    let mut seen = false;
-    let mut first_is_blank = true;
-    let mut last_is_blank = true;
-    let mut some_is_unindented = false;
-    for line in value.split('\n') {
-        last_is_blank = is_blank(line);
-        first_is_blank = if seen { first_is_blank } else { last_is_blank };
-        seen = true;
-        some_is_unindented = some_is_unindented | begins_unindented(line);
+    let bytes = value.as_bytes();
+    if ends_blank(bytes) | begins_blank(bytes) {
+        return false;
     }
-    !holds(value, b'\r') & !first_is_blank & !last_is_blank & some_is_unindented
+    !holds(value, b'\r') & has_unindented_line(bytes)
 }
 
 /// Whether `"""` stands in a text. There is no early exit, so the compiler makes it a loop over vectors.

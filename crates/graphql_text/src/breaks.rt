@@ -3,31 +3,11 @@
 ghost use Rattle.std.specs.Prelude.{◌≡◌, ◌≤◌, ◌++◌, IsSome, IsTrue, MatchOption, ⊤, chars, codes, encode_utf8_all};
 ghost use Rattle.std.specs.List.{repeat};
 ghost use Rattle.graphql_text.specs.layout.Layout.{break_text};
-ghost use Rattle.graphql_text.specs.declared.breaks.TheConstants.{READY_LEVELS};
+ghost use Rattle.graphql_text.specs.code.Breaks.{ready_text, ready_comma_text};
+ghost use Rattle.graphql_text.specs.declared.ready_breaks.TheConstants.{READY_LEVELS};
 
+use crate::ready_breaks::{READY_LEVELS, ReadyBreak, ReadyCommaBreak};
 use crate::target::Target;
-
-/// Up to which level a break under a prefix of two spaces is a text at hand.
-const READY_LEVELS: usize = 30;
-
-/// A comma, a line feed and the spaces of a level more than that.
-const COMMA_AND_SPACES: &str = ",\n                                                              ";
-
-/// A break under a prefix of two spaces.
-fn two_space_break(level: usize) -> &'static str
-    requires { level ≤ READY_LEVELS }
-    ensures { result.now ≡ break_text (codes "  ") level }
-{
-    &COMMA_AND_SPACES[1..2 * level + 2]
-}
-
-/// A comma and a break under a prefix of two spaces.
-fn two_space_comma_break(level: usize) -> &'static str
-    requires { level ≤ READY_LEVELS }
-    ensures { result.now ≡ codes "," ++ break_text (codes "  ") level }
-{
-    &COMMA_AND_SPACES[..2 * level + 2]
-}
 
 /// Writes the prefix as often as the level.
 #[inline(never)]
@@ -47,13 +27,13 @@ pub(crate) fn indent<O: Target>(out: &mut O, prefix: &str, level: usize)
 
 /// A line feed, and the prefix as often as the level, where that is a text at hand.
 #[inline(always)]
-fn ready_break(prefix: &str, is_two_spaces: bool, level: usize) -> Option<&'static str>
+fn ready_break(prefix: &str, is_two_spaces: bool, level: usize) -> Option<ReadyBreak>
     requires { IsTrue is_two_spaces → prefix.now ≡ codes "  " }
     ensures { MatchOption result ⊤
-        (λ text. text.now ≡ encode_utf8_all (break_text (chars prefix.now) level)) }
+        (λ ready. ready_text ready ≡ encode_utf8_all (break_text (chars prefix.now) level)) }
 {
     if is_two_spaces && level <= READY_LEVELS {
-        Some(two_space_break(level))
+        Some(ReadyBreak::new(level))
     } else {
         None
     }
@@ -65,14 +45,15 @@ pub(crate) fn ready_comma_break(
     prefix: &str,
     is_two_spaces: bool,
     level: usize,
-) -> Option<&'static str>
+) -> Option<ReadyCommaBreak>
     requires { IsTrue is_two_spaces → prefix.now ≡ codes "  " }
-    ensures text { MatchOption result ⊤ (λ text.
-        text.now ≡ codes "," ++ encode_utf8_all (break_text (chars prefix.now) level)) }
+    ensures text { MatchOption result ⊤ (λ ready.
+        ready_comma_text ready
+        ≡ codes "," ++ encode_utf8_all (break_text (chars prefix.now) level)) }
     ensures ready { IsTrue is_two_spaces → level ≤ READY_LEVELS → IsSome result }
 {
     if is_two_spaces && level <= READY_LEVELS {
-        Some(two_space_comma_break(level))
+        Some(ReadyCommaBreak::new(level))
     } else {
         None
     }
@@ -104,7 +85,7 @@ pub(crate) fn line_break<O: Target>(out: &mut O, prefix: &str, is_two_spaces: bo
     ensures { O.wrote out.old (encode_utf8_all (break_text (chars prefix.now) level)) out.new }
 {
     match ready_break(prefix, is_two_spaces, level) {
-        Some(text) => out.text(text),
+        Some(ready) => out.padded(&ready),
         None => write_break(out, prefix, level),
     }
 }

@@ -2,6 +2,8 @@
 ghost use Rattle.std.specs.Prelude.{◌≡◌, ◌≤◌, ◌+◌, ◌*◌, ◌++◌, [], IsTrue, IsUtf8, false, length, take};
 ghost use Rattle.graphql_text.specs.declared.buffer.TheConstants.{SIZE};
 
+use crate::padded::Padded;
+
 /// How many bytes a buffer holds.
 const SIZE: usize = 1024;
 
@@ -105,6 +107,26 @@ impl Buffer {
             let end = used + text.len();
             copy_piece(&mut self.bytes[used..end], text.as_bytes());
             self.used = end;
+            true
+        } else {
+            false
+        }
+    }
+
+    /// Adds the text, if there is room for it and for what stands behind it. All of that is copied, so nothing depends
+    /// on how long the text is.
+    #[inline(always)]
+    pub(crate) fn add_padded<P: Padded>(&mut self, text: &P) -> bool
+        ensures added { IsTrue result →
+            waiting_bytes self.new ≡ waiting_bytes self.old ++ P.text text.now }
+        ensures full { result ≡ false → self.new ≡ self.old }
+        ensures room { length (waiting_bytes self.old) + P.size ≤ SIZE → IsTrue result }
+    {
+        let used = self.used;
+        let padded = text.padded();
+        if padded.len() <= SIZE - used {
+            self.bytes[used..used + padded.len()].copy_from_slice(padded);
+            self.used = used + text.as_str().len();
             true
         } else {
             false

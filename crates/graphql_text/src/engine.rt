@@ -1,19 +1,22 @@
 //! Kinds of trees that are printed, and their prints.
 ghost use Rattle.std.specs.Prelude.{◌≡◌, ℕ, ◌↔◌, [], true, false, List, Bool, Option, Some, None, codes, IfOk, OnOk, OnErr, IsOk, IsErrOf, IsTrue, MatchOption, string_bytes, encode_utf8_all, chars};
 ghost use Rattle.graphql_text.specs.code.Buffer.{waiting_bytes};
+ghost use Rattle.graphql_text.specs.grammar.Forms.{TokenClass};
 ghost use Rattle.graphql_text.specs.kinds.Kinds.{Kind};
 ghost use Rattle.graphql_text.specs.layout.Layout.{IsBlankMode};
-ghost use Rattle.graphql_text.specs.layout.Levels.{IsCount};
+ghost use Rattle.graphql_text.specs.layout.Levels.{AreDepths, HasDepths};
 ghost use Rattle.graphql_text.specs.kinds.Reading.{Laws};
 ghost use Rattle.graphql_text.specs.code.Sinks.{CanFault, SinkTook, SinkFaulted};
 ghost use Rattle.graphql_text.specs.code.Writing.{WritesTree, bytes_from};
 
 use crate::buffer::Buffer;
+use crate::depths::Depths;
 use crate::place::{Place, Start};
 use crate::sink::TextSink;
 use crate::target::{Target, ToFormatter, ToSink, ToText, finish, into_text};
 use std::alloc::{AllocError, Global};
 use std::fmt;
+use std::hash::Hash;
 use thiserror::Error;
 
 /// A type whose values are trees of a kind (`specs/kinds/Kinds.antt`): what is known of them before they are printed.
@@ -36,9 +39,10 @@ pub trait SyntaxTree {
     fn is_well_formed(&self) -> bool
         ensures { result ≡ kind.obeys (tree self.now) };
 
-    /// The nesting depth of the tree's groups. `None` if it is above `usize::MAX`.
-    fn find_nesting(&self) -> Option<usize>
-        ensures { IsCount result (kind.nesting (tree self.now)) };
+    /// The nesting depth of the tree's groups, and the list depth of its types. `None` if the nesting depth is above
+    /// `usize::MAX`.
+    fn find_depths(&self) -> Option<Depths>
+        ensures { AreDepths result (kind.nesting (tree self.now)) (list_depth (tree self.now)) };
 }
 
 /// A type whose trees are printed, and read back as themselves alone. `Serialize` prints them.
@@ -48,12 +52,27 @@ pub trait Syntax: SyntaxTree {
     fn write<O: Target>(&self, out: &mut O, start: &Start<'_>) -> Result<(), AllocError>
     where
         Self: Sized,
-        requires { start.now.depth ≡ Self.kind.nesting (Self.tree self.now) }
+        requires { HasDepths start.now.depths (Self.kind.nesting (Self.tree self.now))
+            (Self.list_depth (Self.tree self.now)) }
         ensures ok { OnOk result
             (WritesTree O.wrote out.old out.new start.now.place Self.kind (Self.tree self.now)) }
         ensures err { OnErr result (out.new ≡ out.old) }
-        ensures free { start.now.depth ≡ 0 →
+        ensures free { start.now.depths.nesting ≡ 0 →
             Self.list_depth (Self.tree self.now) ≡ 0 → IsOk result };
+}
+
+/// A type whose trees are printed, displayed, compared and hashed: each that has these traits.
+pub trait Printed: SyntaxTree + fmt::Display + PartialEq + Hash {
+    /// All that `IsPrintedKind` says of the type: the kind, its trees and the lists around its types, what may not
+    /// follow a tree among tokens, and what may not follow one that was printed.
+    ghost has_kind: { (kind : Kind) → (Self → kind.Tree) → (kind.Tree → ℕ) →
+        List TokenClass → List TokenClass → Type 0 };
+}
+
+impl<T: SyntaxTree + fmt::Display + PartialEq + Hash> Printed for T {
+    ghost use Rattle.graphql_text.specs.kinds.PrintedKinds.{IsPrintedKind};
+
+    ghost has_kind = { IsPrintedKind T.kind T.tree T.list_depth T.output T.eq T.hash_input };
 }
 
 /// Why a tree was not printed, or not to its end.
@@ -135,13 +154,15 @@ fn send_layout<T: Syntax, S: TextSink>(
     out: &mut ToSink<'_, S>,
     start: &Start<'_>,
 ) -> Result<(), AllocError>
-    requires depth { start.now.depth ≡ T.kind.nesting (T.tree tree.now) }
+    requires depths { HasDepths start.now.depths (T.kind.nesting (T.tree tree.now))
+        (T.list_depth (T.tree tree.now)) }
     requires faults { CanFault (S.fault_count out.old.sink.now) }
     requires fresh { out.old.stopped ≡ false }
     requires empty { waiting_bytes out.old.buffer ≡ [] }
     ensures name { out.new.sink.ghost_name ≡ out.old.sink.ghost_name }
     ensures err { OnErr result (out.new.sink.now ≡ out.old.sink.now) }
-    ensures free { start.now.depth ≡ 0 → T.list_depth (T.tree tree.now) ≡ 0 → IsOk result }
+    ensures free { start.now.depths.nesting ≡ 0 →
+        T.list_depth (T.tree tree.now) ≡ 0 → IsOk result }
     ensures stopped { OnOk result (out.new.stopped ≡ true →
         SinkFaulted S.taken S.fault_count out.old.sink.now
         (bytes_from start.now.place T.kind (T.tree tree.now)) out.new.sink.now) }
@@ -161,12 +182,12 @@ impl<'a, T: Syntax> Serialize<'a, T> {
     /// Where the print begins. `None` if the starting level and the nesting depth don't fit into a `usize` together.
     fn start(&self) -> Option<Start<'a>>
         ensures { MatchOption result (PrintOverflows T.kind T.tree self.now)
-            (IsStart T.kind T.tree self.now) }
+            (IsStart T.kind T.tree T.list_depth self.now) }
     {
-        match self.tree.find_nesting() {
-            Some(depth) if depth <= usize::MAX - self.level => Some(Start {
+        match self.tree.find_depths() {
+            Some(depths) if depths.nesting <= usize::MAX - self.level => Some(Start {
                 place: Place::new(self.prefix, self.level),
-                depth,
+                depths,
             }),
             _ => None,
         }

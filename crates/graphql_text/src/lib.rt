@@ -11,11 +11,14 @@
 mod block_string;
 mod breaks;
 mod buffer;
+mod depths;
 pub mod engine;
 pub mod laws;
 mod node_lists;
+mod padded;
 mod place;
 mod quoted_string;
+mod ready_breaks;
 pub mod sink;
 mod stack;
 mod string;

@@ -2,6 +2,8 @@
 ghost use Rattle.std.specs.Prelude.{◌≡◌, ◌↔◌, ◌+◌, ◌-◌, ◌<◌, ◌^◌, IsTrue, None, Some, codes, option_copied};
 ghost use Rattle.graphql_text.specs.layout.Levels.{Fits};
 
+use crate::depths::Depths;
+
 /// Where a writer stands: the prefix of the lines, or none on one line, and the level, in levels of indentation.
 #[derive(Clone, Copy)]
 pub struct Place<'p> {
@@ -73,10 +75,10 @@ impl<'p> Place<'p> {
     }
 }
 
-/// Where a print begins, and the nesting depth of its tree, which was found before. All its levels can be counted.
+/// Where a print begins, and how deep its tree is, which was found before. All its levels can be counted.
 #[derive(Clone, Copy)]
 pub struct Start<'p> {
     pub place: Place<'p>,
-    pub depth: usize,
-    pub(crate) ghost fits: { Fits place.level depth },
+    pub depths: Depths,
+    pub(crate) ghost fits: { Fits place.level depths.nesting },
 }

@@ -1,5 +1,5 @@
 //! A stack whose memory is asked for once.
-ghost use Rattle.std.specs.Prelude.{◌≡◌, ◌≤◌, ◌<◌, ◌++◌, ◌∷◌, [], length, IfOk, IsOk, IsNone, MatchOption};
+ghost use Rattle.std.specs.Prelude.{◌≡◌, ℕ, ◌≤◌, ◌<◌, ◌++◌, ◌∷◌, [], length, IfOk, IsOk, IsNone, MatchOption};
 
 use std::alloc::{AllocError, Global};
 
@@ -12,13 +12,17 @@ pub struct Stack<T> {
 
 impl<T: Drop> Stack<T> {
     ghost use Rattle.graphql_text.specs.code.Stack.{stack_entries, stack_room};
+    ghost use Rattle.graphql_text.specs.layout.Levels.{capped};
 
-    /// A stack with room for a count of entries. For none no memory is asked for, and then no allocator is needed.
-    /// `AllocError` where memory is refused.
+    /// A stack with room for a count of entries, which `usize::MAX` stands for where it is more. For none no memory is
+    /// asked for, and then no allocator is needed. `AllocError` where memory is refused, as it always is for as many
+    /// as that.
     pub fn reserve(alloc: Option<Global>, count: usize) -> Result<Stack<T>, AllocError>
         requires { IsNone alloc → count ≡ 0 }
         ensures entries { IfOk result (λ s. stack_entries s ≡ []) }
         ensures room { IfOk result (λ s. count ≤ stack_room s) }
+        ensures enough { (wanted : ℕ) → count ≡ capped wanted →
+            IfOk result (λ s. wanted ≤ stack_room s) }
         ensures succeeds { count ≡ 0 → IsOk result }
     {
         match alloc {

@@ -8,6 +8,7 @@ ghost use Rattle.graphql_text.specs.lemmas.Sinks.{buffered_nothing, buffered_idl
 ghost use Rattle.graphql_text.specs.lemmas.Targets.{grew_nothing, grew_idle, grew_more, formatted_nothing, formatted_idle, formatted_more};
 
 use crate::buffer::Buffer;
+use crate::padded::Padded;
 use crate::sink::{TextSink, put_all};
 use std::fmt;
 
@@ -23,6 +24,13 @@ pub trait Target {
     /// Writes the text.
     fn text(&mut self, text: &str)
         ensures { wrote self.old text.now self.new };
+
+    /// Writes a text that can be copied at a fixed size.
+    fn padded<P: Padded>(&mut self, text: &P)
+        ensures { wrote self.old (P.text text.now) self.new }
+    {
+        self.text(text.as_str());
+    }
 
     /// Whether a write failed. A long loop asks, to end early.
     fn is_stopped(&self) -> bool
@@ -43,10 +51,11 @@ pub(crate) struct ToSink<'a, S> {
     pub buffer: Buffer,
 }
 
-/// Sends what waits, and then lets the text wait, or sends it too. It answers whether writing stopped.
+/// Lets the text wait, where there is room for it alone; else sends what waits, and then lets the text wait, or sends
+/// it too. It answers whether writing stopped.
 #[cold]
 #[inline(never)]
-#[tactic(auto, using(crate::proofs::code::SinkTwoPuts::both_taken, crate::specs::lemmas::Sinks::faulted_later))]
+#[tactic(auto, using(crate::proofs::code::SinkTwoPuts::put_steps))]
 fn send<S: TextSink>(sink: &mut S, stopped: bool, buffer: &mut Buffer, text: &str) -> bool
     ensures { SendsBuffered S.taken S.fault_count sink.old stopped
         (waiting_bytes buffer.old) text.now
@@ -54,6 +63,9 @@ fn send<S: TextSink>(sink: &mut S, stopped: bool, buffer: &mut Buffer, text: &st
 {
     if stopped {
         return true;
+    }
+    if buffer.add(text) {
+        return false;
     }
     if sink.faults() == u64::MAX {
         return true;
@@ -122,6 +134,18 @@ impl<'a, S: TextSink> Target for ToSink<'a, S> {
         }
     }
 
+    #[inline(always)]
+    fn padded<P: Padded>(&mut self, text: &P) {
+        if !self.buffer.add_padded(text) {
+            self.stopped = send(
+                &mut *self.sink,
+                self.stopped,
+                &mut self.buffer,
+                text.as_str(),
+            );
+        }
+    }
+
     fn is_stopped(&self) -> bool {
         self.stopped
     }
@@ -135,7 +159,8 @@ pub(crate) struct ToText {
     pub buffer: Buffer,
 }
 
-/// Appends what waits to a text, and then lets more wait, or appends that too. It answers whether memory was refused.
+/// Lets more wait, where there is room for it alone; else appends what waits to a text, and then lets more wait, or
+/// appends that too. It answers whether memory was refused.
 #[cold]
 #[inline(never)]
 fn append(text: &mut String, failed: bool, buffer: &mut Buffer, more: &str) -> bool
@@ -144,6 +169,9 @@ fn append(text: &mut String, failed: bool, buffer: &mut Buffer, more: &str) -> b
 {
     if failed {
         return true;
+    }
+    if buffer.add(more) {
+        return false;
     }
     if text.push_str(buffer.waiting_text()).is_err() {
         return true;
@@ -190,6 +218,13 @@ impl Target for ToText {
     fn text(&mut self, text: &str) {
         if !self.buffer.add(text) {
             self.failed = append(&mut self.text, self.failed, &mut self.buffer, text);
+        }
+    }
+
+    #[inline(always)]
+    fn padded<P: Padded>(&mut self, text: &P) {
+        if !self.buffer.add_padded(text) {
+            self.failed = append(&mut self.text, self.failed, &mut self.buffer, text.as_str());
         }
     }
 

@@ -12,10 +12,11 @@ ghost use Rattle.graphql_text.specs.lexical.Tokens.{Name as NameToken, IntValue,
 ghost use Rattle.graphql_text.specs.code.Writing.{IsCommaLead, Writes, WritesAnywhere, WritesItems, WritesLayout, fixed_text};
 
 use crate::breaks::{comma_break, indent, line_break, ready_comma_break};
-pub use crate::node_lists::{
-    HasTypes, are_parts_well_formed, find_parts_list_depth, find_parts_nesting,
-};
+pub use crate::depths::Depths;
+pub use crate::node_lists::{are_parts_well_formed, find_parts_depths};
+pub use crate::padded::Padded;
 pub use crate::place::{Place, Start};
+pub use crate::ready_breaks::ReadyCommaBreak;
 pub use crate::stack::Stack;
 pub use crate::string::{write_description, write_string_value};
 pub use crate::target::{Target, ToFormatter};
@@ -39,7 +40,10 @@ pub fn write_words<O: Target>(out: &mut O, words: &str)
 pub fn write_name<O: Target>(out: &mut O, name: &Name)
     ensures { WritesAnywhere O.wrote out.old out.new (Word (NameToken (name_text name.now)) ∷ []) }
 {
-    out.text(name.as_str());
+    match name.short_text() {
+        Some(text) => out.padded(text),
+        None => out.text(name.as_str()),
+    }
 }
 
 /// Writes an int.
@@ -51,6 +55,15 @@ pub fn write_int<O: Target>(out: &mut O, int: &str)
     out.text(int);
 }
 
+/// Writes an int that can be copied at a fixed size.
+#[inline(always)]
+pub fn write_padded_int<O: Target, P: Padded>(out: &mut O, int: &P)
+    requires { IsTrue (is_int (P.text int.now)) }
+    ensures { WritesAnywhere O.wrote out.old out.new (Word (IntValue (P.text int.now)) ∷ []) }
+{
+    out.padded(int);
+}
+
 /// Writes a float.
 #[inline(always)]
 pub fn write_float<O: Target>(out: &mut O, float: &str)
@@ -58,6 +71,15 @@ pub fn write_float<O: Target>(out: &mut O, float: &str)
     ensures { WritesAnywhere O.wrote out.old out.new (Word (FloatValue float.now) ∷ []) }
 {
     out.text(float);
+}
+
+/// Writes a float that can be copied at a fixed size.
+#[inline(always)]
+pub fn write_padded_float<O: Target, P: Padded>(out: &mut O, float: &P)
+    requires { IsTrue (is_float (P.text float.now)) }
+    ensures { WritesAnywhere O.wrote out.old out.new (Word (FloatValue (P.text float.now)) ∷ []) }
+{
+    out.padded(float);
 }
 
 /// Writes a description and a break under a prefix, or a space on one line; nothing where there is no description.
@@ -119,10 +141,10 @@ pub fn write_finish<O: Target>(out: &mut O, place: &Place<'_>)
     }
 }
 
-/// What stands before an item of a comma group that isn't the first, where that is a text at hand: under a prefix of
-/// two spaces up to level 30. A writer of many items asks once.
+/// What stands before an item of a comma group that isn't the first, where that is at hand: under a prefix of two
+/// spaces up to level 30. A writer of many items asks once.
 #[inline(always)]
-pub fn ready_comma_lead(place: &Place<'_>) -> Option<&'static str>
+pub fn ready_comma_lead(place: &Place<'_>) -> Option<ReadyCommaBreak>
     ensures text { IsCommaLead (mode_of place.now.prefix) place.now.level result }
     ensures ready { MatchOption place.now.prefix ⊤
         (λ prefix. prefix.now ≡ codes "  " → place.now.level ≤ 30 → IsSome result) }
@@ -134,13 +156,13 @@ pub fn ready_comma_lead(place: &Place<'_>) -> Option<&'static str>
 }
 
 /// Writes what stands before an item of a comma group: a break under a prefix, after a comma unless it is the first
-/// item; on one line a comma and a space, and nothing before the first item. The text that `ready_comma_lead` answers
-/// may be handed over, or none.
+/// item; on one line a comma and a space, and nothing before the first item. What `ready_comma_lead` answers may be
+/// handed over, or none.
 #[inline(always)]
 pub fn write_comma_lead<O: Target>(
     out: &mut O,
     place: &Place<'_>,
-    ready: Option<&'static str>,
+    ready: Option<ReadyCommaBreak>,
     is_first: bool,
 )
     requires { IsCommaLead (mode_of place.now.prefix) place.now.level ready }
@@ -151,7 +173,7 @@ pub fn write_comma_lead<O: Target>(
     }
     match place.prefix {
         Some(prefix) => match ready {
-            Some(text) => out.text(text),
+            Some(ready) => out.padded(&ready),
             None => comma_break(out, prefix, place.level),
         },
         None => out.text(", "),
@@ -177,7 +199,7 @@ pub fn write_comma_end<O: Target>(out: &mut O, place: &Place<'_>)
 {
     match place.prefix {
         Some(prefix) => match ready_comma_break(prefix, place.is_two_spaces, place.level) {
-            Some(text) => out.text(text),
+            Some(ready) => out.padded(&ready),
             None => comma_break(out, prefix, place.level),
         },
         None => {}

@@ -1,11 +1,12 @@
 //! Trees that are written with stacks, and the whole layout of one.
 ghost use Rattle.std.specs.Prelude.{◌≡◌, ℕ, false, IfOk, IsOk, OnErr, OnOk};
-ghost use Rattle.graphql_text.specs.layout.Levels.{Fits};
+ghost use Rattle.graphql_text.specs.layout.Levels.{Fits, HasDepths};
 ghost use Rattle.graphql_text.specs.code.Place.{breaks};
 ghost use Rattle.graphql_text.specs.code.Stack.{CanWrite, IsKept};
 ghost use Rattle.graphql_text.specs.code.Writing.{WritesLayout, WritesPart};
 ghost use Rattle.graphql_text.specs.declared.place.Place.{Place};
 
+use crate::depths::Depths;
 use crate::engine::SyntaxTree;
 use crate::place::{Place, Start};
 use crate::stack::Stack;
@@ -31,13 +32,16 @@ impl<T: Drop> WritingStacks for Stack<T> {
 
 /// A type whose trees are written with stacks, whose entries borrow from them.
 pub trait Written<'t, S: WritingStacks>: SyntaxTree + Sized {
-    /// Stacks with room for the tree, whose nesting depth is handed over. For no entries no memory is asked for.
+    /// Stacks with room for the tree, whose depths are handed over. For no entries no memory is asked for.
     /// `AllocError` where memory is refused.
-    fn reserve(&'t self, depth: usize) -> Result<S, AllocError>
-        requires { depth ≡ Self.kind.nesting (Self.tree self.now) }
-        ensures ready { IfOk result (λ stacks. (place : Place) → Fits place.level depth →
-            S.can_write place stacks depth (Self.list_depth (Self.tree self.now))) }
-        ensures free { depth ≡ 0 → Self.list_depth (Self.tree self.now) ≡ 0 → IsOk result };
+    fn reserve(&'t self, depths: Depths) -> Result<S, AllocError>
+        requires { HasDepths depths (Self.kind.nesting (Self.tree self.now))
+            (Self.list_depth (Self.tree self.now)) }
+        ensures ready { IfOk result
+            (λ stacks. (place : Place) → Fits place.level depths.nesting →
+            S.can_write place stacks depths.nesting (Self.list_depth (Self.tree self.now))) }
+        ensures free { depths.nesting ≡ 0 →
+            Self.list_depth (Self.tree self.now) ≡ 0 → IsOk result };
 
     /// Writes the tree behind what stands before it.
     fn write_at<O: Target>(&'t self, out: &mut O, place: &Place<'_>, stacks: &mut S)
@@ -55,13 +59,15 @@ pub fn write_whole<'t, S: WritingStacks, T: Written<'t, S>, O: Target>(
     out: &mut O,
     start: &Start<'_>,
 ) -> Result<(), AllocError>
-    requires { start.now.depth ≡ T.kind.nesting (T.tree tree.now) }
+    requires { HasDepths start.now.depths (T.kind.nesting (T.tree tree.now))
+        (T.list_depth (T.tree tree.now)) }
     ensures ok { OnOk result (WritesLayout O.wrote out.old out.new start.now.place
         (T.kind.shape (breaks start.now.place) false (T.tree tree.now))) }
     ensures err { OnErr result (out.new ≡ out.old) }
-    ensures free { start.now.depth ≡ 0 → T.list_depth (T.tree tree.now) ≡ 0 → IsOk result }
+    ensures free { start.now.depths.nesting ≡ 0 →
+        T.list_depth (T.tree tree.now) ≡ 0 → IsOk result }
 {
-    let mut stacks = tree.reserve(start.depth)?;
+    let mut stacks = tree.reserve(start.depths)?;
     write_first_indent(out, &start.place);
     tree.write_at(out, &start.place, &mut stacks);
     Ok(())

@@ -32,14 +32,14 @@ impl FieldDefinition {
         ensures { option_copied result
             ≡ first_input_value_definition_named name.now self.now.arguments.items }
     {
-        let place = self.argument_position(name)?;
-        Some(&self.arguments[place])
+        let index = self.argument_position(name)?;
+        Some(&self.arguments[index])
     }
 
     fn argument_position(&self, name: &str) -> Option<usize>
-        ensures place { result
+        ensures index { result
             ≡ position (is_input_value_definition_named name.now) self.now.arguments.items }
-        ensures within { IfSome result (λ place. place < length self.now.arguments.items) }
+        ensures within { IfSome result (λ index. index < length self.now.arguments.items) }
     {
         self.arguments
             .iter()

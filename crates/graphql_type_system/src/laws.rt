@@ -2,7 +2,7 @@
 //!
 //! Each function does nothing: its contract is the law, with one clause a kind.
 ghost use Rattle.std.specs.Prelude.{[], ◌∷◌, codes};
-ghost use Rattle.graphql_text.specs.grammar.Forms.{a_keyword, a_punctuator};
+ghost use Rattle.graphql_text.specs.grammar.Forms.{a_keyword, marks};
 ghost use Rattle.graphql_text.specs.kinds.PrintedKinds.{IsPrintedKind, no_types};
 ghost use Rattle.graphql_text.specs.lexical.Tokens.{amp, at, bang, bar, equals, lbrace, lparen};
 ghost use Rattle.graphql_type_system.specs.kinds.EnumTypes.{enum_type_definition_kind, enum_type_extension_kind};
@@ -36,9 +36,7 @@ use crate::object_type::{ObjectTypeDefinition, ObjectTypeExtension};
 use crate::scalar_type::{ScalarTypeDefinition, ScalarTypeExtension};
 use crate::schema::{SchemaDefinition, SchemaExtension};
 use crate::union_type::{UnionTypeDefinition, UnionTypeExtension};
-use graphql_text::engine::SyntaxTree;
-use std::fmt::Display;
-use std::hash::Hash;
+use graphql_text::engine::Printed;
 
 /// Each of these types has the kind that its clause names, and all that `IsPrintedKind` says of it: what is printed and
 /// what is displayed of it is read back, and it is compared and hashed by its tree.
@@ -49,112 +47,56 @@ use std::hash::Hash;
 /// `implements`, `&`, `@` and `(`. Where braces are left out, the form itself says that no `{` follows, and the printed
 /// words and strings derive the tree before anything but `{`.
 pub fn printed_kinds()
-    ensures schema_definitions { IsPrintedKind ⟦<SchemaDefinition as SyntaxTree>⟧.kind
-        ⟦<SchemaDefinition as SyntaxTree>⟧.tree ⟦<SchemaDefinition as SyntaxTree>⟧.list_depth
-        ⟦<SchemaDefinition as Display>⟧.output ⟦<SchemaDefinition as PartialEq>⟧.eq
-        ⟦<SchemaDefinition as Hash>⟧.hash_input schema_definition_kind schema_definition_tree
-        no_types [] [] }
-    ensures scalar_type_definitions { IsPrintedKind ⟦<ScalarTypeDefinition as SyntaxTree>⟧.kind
-        ⟦<ScalarTypeDefinition as SyntaxTree>⟧.tree
-        ⟦<ScalarTypeDefinition as SyntaxTree>⟧.list_depth ⟦<ScalarTypeDefinition as Display>⟧.output
-        ⟦<ScalarTypeDefinition as PartialEq>⟧.eq ⟦<ScalarTypeDefinition as Hash>⟧.hash_input
-        scalar_type_definition_kind scalar_type_definition_tree no_types
-        (a_punctuator at ∷ a_punctuator lparen ∷ []) [] }
-    ensures object_type_definitions { IsPrintedKind ⟦<ObjectTypeDefinition as SyntaxTree>⟧.kind
-        ⟦<ObjectTypeDefinition as SyntaxTree>⟧.tree
-        ⟦<ObjectTypeDefinition as SyntaxTree>⟧.list_depth ⟦<ObjectTypeDefinition as Display>⟧.output
-        ⟦<ObjectTypeDefinition as PartialEq>⟧.eq ⟦<ObjectTypeDefinition as Hash>⟧.hash_input
+    ensures schema_definitions { ⟦<SchemaDefinition as Printed>⟧.has_kind schema_definition_kind
+        schema_definition_tree no_types [] [] }
+    ensures scalar_type_definitions { ⟦<ScalarTypeDefinition as Printed>⟧.has_kind
+        scalar_type_definition_kind scalar_type_definition_tree no_types (marks (at ∷ lparen ∷ []))
+        [] }
+    ensures object_type_definitions { ⟦<ObjectTypeDefinition as Printed>⟧.has_kind
         object_type_definition_kind object_type_definition_tree
         (λ type. fields_list_depth type.body.fields)
-        (a_keyword (codes "implements") ∷ a_punctuator amp ∷ a_punctuator at
-        ∷ a_punctuator lparen ∷ [])
-        (a_punctuator lbrace ∷ []) }
-    ensures interface_type_definitions { IsPrintedKind
-        ⟦<InterfaceTypeDefinition as SyntaxTree>⟧.kind
-        ⟦<InterfaceTypeDefinition as SyntaxTree>⟧.tree
-        ⟦<InterfaceTypeDefinition as SyntaxTree>⟧.list_depth
-        ⟦<InterfaceTypeDefinition as Display>⟧.output ⟦<InterfaceTypeDefinition as PartialEq>⟧.eq
-        ⟦<InterfaceTypeDefinition as Hash>⟧.hash_input interface_type_definition_kind
-        interface_type_definition_tree (λ type. fields_list_depth type.body.fields)
-        (a_keyword (codes "implements") ∷ a_punctuator amp ∷ a_punctuator at
-        ∷ a_punctuator lparen ∷ [])
-        (a_punctuator lbrace ∷ []) }
-    ensures union_type_definitions { IsPrintedKind ⟦<UnionTypeDefinition as SyntaxTree>⟧.kind
-        ⟦<UnionTypeDefinition as SyntaxTree>⟧.tree ⟦<UnionTypeDefinition as SyntaxTree>⟧.list_depth
-        ⟦<UnionTypeDefinition as Display>⟧.output ⟦<UnionTypeDefinition as PartialEq>⟧.eq
-        ⟦<UnionTypeDefinition as Hash>⟧.hash_input union_type_definition_kind
-        union_type_definition_tree no_types
-        (a_punctuator at ∷ a_punctuator lparen ∷ a_punctuator equals ∷ a_punctuator bar ∷ []) [] }
-    ensures enum_type_definitions { IsPrintedKind ⟦<EnumTypeDefinition as SyntaxTree>⟧.kind
-        ⟦<EnumTypeDefinition as SyntaxTree>⟧.tree ⟦<EnumTypeDefinition as SyntaxTree>⟧.list_depth
-        ⟦<EnumTypeDefinition as Display>⟧.output ⟦<EnumTypeDefinition as PartialEq>⟧.eq
-        ⟦<EnumTypeDefinition as Hash>⟧.hash_input enum_type_definition_kind
-        enum_type_definition_tree no_types (a_punctuator at ∷ a_punctuator lparen ∷ [])
-        (a_punctuator lbrace ∷ []) }
-    ensures input_object_type_definitions { IsPrintedKind
-        ⟦<InputObjectTypeDefinition as SyntaxTree>⟧.kind
-        ⟦<InputObjectTypeDefinition as SyntaxTree>⟧.tree
-        ⟦<InputObjectTypeDefinition as SyntaxTree>⟧.list_depth
-        ⟦<InputObjectTypeDefinition as Display>⟧.output
-        ⟦<InputObjectTypeDefinition as PartialEq>⟧.eq
-        ⟦<InputObjectTypeDefinition as Hash>⟧.hash_input input_object_type_definition_kind
-        input_object_type_definition_tree (λ type. arguments_list_depth type.body.members)
-        (a_punctuator at ∷ a_punctuator lparen ∷ []) (a_punctuator lbrace ∷ []) }
-    ensures field_definitions { IsPrintedKind ⟦<FieldDefinition as SyntaxTree>⟧.kind
-        ⟦<FieldDefinition as SyntaxTree>⟧.tree ⟦<FieldDefinition as SyntaxTree>⟧.list_depth
-        ⟦<FieldDefinition as Display>⟧.output ⟦<FieldDefinition as PartialEq>⟧.eq
-        ⟦<FieldDefinition as Hash>⟧.hash_input field_definition_kind field_definition_tree
-        (λ field. field_definition_list_depth field.body)
-        (a_punctuator bang ∷ a_punctuator at ∷ a_punctuator lparen ∷ []) [] }
-    ensures enum_value_definitions { IsPrintedKind ⟦<EnumValueDefinition as SyntaxTree>⟧.kind
-        ⟦<EnumValueDefinition as SyntaxTree>⟧.tree ⟦<EnumValueDefinition as SyntaxTree>⟧.list_depth
-        ⟦<EnumValueDefinition as Display>⟧.output ⟦<EnumValueDefinition as PartialEq>⟧.eq
-        ⟦<EnumValueDefinition as Hash>⟧.hash_input enum_value_definition_kind
-        enum_value_definition_tree no_types (a_punctuator at ∷ a_punctuator lparen ∷ []) [] }
-    ensures schema_extensions { IsPrintedKind ⟦<SchemaExtension as SyntaxTree>⟧.kind
-        ⟦<SchemaExtension as SyntaxTree>⟧.tree ⟦<SchemaExtension as SyntaxTree>⟧.list_depth
-        ⟦<SchemaExtension as Display>⟧.output ⟦<SchemaExtension as PartialEq>⟧.eq
-        ⟦<SchemaExtension as Hash>⟧.hash_input schema_extension_kind schema_extension_tree no_types
-        (a_punctuator at ∷ a_punctuator lparen ∷ []) (a_punctuator lbrace ∷ []) }
-    ensures scalar_type_extensions { IsPrintedKind ⟦<ScalarTypeExtension as SyntaxTree>⟧.kind
-        ⟦<ScalarTypeExtension as SyntaxTree>⟧.tree ⟦<ScalarTypeExtension as SyntaxTree>⟧.list_depth
-        ⟦<ScalarTypeExtension as Display>⟧.output ⟦<ScalarTypeExtension as PartialEq>⟧.eq
-        ⟦<ScalarTypeExtension as Hash>⟧.hash_input scalar_type_extension_kind
-        scalar_type_extension_tree no_types (a_punctuator at ∷ a_punctuator lparen ∷ []) [] }
-    ensures object_type_extensions { IsPrintedKind ⟦<ObjectTypeExtension as SyntaxTree>⟧.kind
-        ⟦<ObjectTypeExtension as SyntaxTree>⟧.tree ⟦<ObjectTypeExtension as SyntaxTree>⟧.list_depth
-        ⟦<ObjectTypeExtension as Display>⟧.output ⟦<ObjectTypeExtension as PartialEq>⟧.eq
-        ⟦<ObjectTypeExtension as Hash>⟧.hash_input object_type_extension_kind
-        object_type_extension_tree (λ type. fields_list_depth type.fields)
-        (a_keyword (codes "implements") ∷ a_punctuator amp ∷ a_punctuator at
-        ∷ a_punctuator lparen ∷ [])
-        (a_punctuator lbrace ∷ []) }
-    ensures interface_type_extensions { IsPrintedKind ⟦<InterfaceTypeExtension as SyntaxTree>⟧.kind
-        ⟦<InterfaceTypeExtension as SyntaxTree>⟧.tree
-        ⟦<InterfaceTypeExtension as SyntaxTree>⟧.list_depth
-        ⟦<InterfaceTypeExtension as Display>⟧.output ⟦<InterfaceTypeExtension as PartialEq>⟧.eq
-        ⟦<InterfaceTypeExtension as Hash>⟧.hash_input interface_type_extension_kind
-        interface_type_extension_tree (λ type. fields_list_depth type.fields)
-        (a_keyword (codes "implements") ∷ a_punctuator amp ∷ a_punctuator at
-        ∷ a_punctuator lparen ∷ [])
-        (a_punctuator lbrace ∷ []) }
-    ensures union_type_extensions { IsPrintedKind ⟦<UnionTypeExtension as SyntaxTree>⟧.kind
-        ⟦<UnionTypeExtension as SyntaxTree>⟧.tree ⟦<UnionTypeExtension as SyntaxTree>⟧.list_depth
-        ⟦<UnionTypeExtension as Display>⟧.output ⟦<UnionTypeExtension as PartialEq>⟧.eq
-        ⟦<UnionTypeExtension as Hash>⟧.hash_input union_type_extension_kind
-        union_type_extension_tree no_types
-        (a_punctuator at ∷ a_punctuator lparen ∷ a_punctuator equals ∷ a_punctuator bar ∷ []) [] }
-    ensures enum_type_extensions { IsPrintedKind ⟦<EnumTypeExtension as SyntaxTree>⟧.kind
-        ⟦<EnumTypeExtension as SyntaxTree>⟧.tree ⟦<EnumTypeExtension as SyntaxTree>⟧.list_depth
-        ⟦<EnumTypeExtension as Display>⟧.output ⟦<EnumTypeExtension as PartialEq>⟧.eq
-        ⟦<EnumTypeExtension as Hash>⟧.hash_input enum_type_extension_kind enum_type_extension_tree
-        no_types (a_punctuator at ∷ a_punctuator lparen ∷ []) (a_punctuator lbrace ∷ []) }
-    ensures input_object_type_extensions { IsPrintedKind
-        ⟦<InputObjectTypeExtension as SyntaxTree>⟧.kind
-        ⟦<InputObjectTypeExtension as SyntaxTree>⟧.tree
-        ⟦<InputObjectTypeExtension as SyntaxTree>⟧.list_depth
-        ⟦<InputObjectTypeExtension as Display>⟧.output ⟦<InputObjectTypeExtension as PartialEq>⟧.eq
-        ⟦<InputObjectTypeExtension as Hash>⟧.hash_input input_object_type_extension_kind
-        input_object_type_extension_tree (λ type. arguments_list_depth type.members)
-        (a_punctuator at ∷ a_punctuator lparen ∷ []) (a_punctuator lbrace ∷ []) }
+        (a_keyword (codes "implements") ∷ marks (amp ∷ at ∷ lparen ∷ [])) (marks (lbrace ∷ [])) }
+    ensures interface_type_definitions { ⟦<InterfaceTypeDefinition as Printed>⟧.has_kind
+        interface_type_definition_kind interface_type_definition_tree
+        (λ type. fields_list_depth type.body.fields)
+        (a_keyword (codes "implements") ∷ marks (amp ∷ at ∷ lparen ∷ [])) (marks (lbrace ∷ [])) }
+    ensures union_type_definitions { ⟦<UnionTypeDefinition as Printed>⟧.has_kind
+        union_type_definition_kind union_type_definition_tree no_types
+        (marks (at ∷ lparen ∷ equals ∷ bar ∷ [])) [] }
+    ensures enum_type_definitions { ⟦<EnumTypeDefinition as Printed>⟧.has_kind
+        enum_type_definition_kind enum_type_definition_tree no_types (marks (at ∷ lparen ∷ []))
+        (marks (lbrace ∷ [])) }
+    ensures input_object_type_definitions { ⟦<InputObjectTypeDefinition as Printed>⟧.has_kind
+        input_object_type_definition_kind input_object_type_definition_tree
+        (λ type. arguments_list_depth type.body.members) (marks (at ∷ lparen ∷ []))
+        (marks (lbrace ∷ [])) }
+    ensures field_definitions { ⟦<FieldDefinition as Printed>⟧.has_kind field_definition_kind
+        field_definition_tree (λ field. field_definition_list_depth field.body)
+        (marks (bang ∷ at ∷ lparen ∷ [])) [] }
+    ensures enum_value_definitions { ⟦<EnumValueDefinition as Printed>⟧.has_kind
+        enum_value_definition_kind enum_value_definition_tree no_types (marks (at ∷ lparen ∷ []))
+        [] }
+    ensures schema_extensions { ⟦<SchemaExtension as Printed>⟧.has_kind schema_extension_kind
+        schema_extension_tree no_types (marks (at ∷ lparen ∷ [])) (marks (lbrace ∷ [])) }
+    ensures scalar_type_extensions { ⟦<ScalarTypeExtension as Printed>⟧.has_kind
+        scalar_type_extension_kind scalar_type_extension_tree no_types (marks (at ∷ lparen ∷ []))
+        [] }
+    ensures object_type_extensions { ⟦<ObjectTypeExtension as Printed>⟧.has_kind
+        object_type_extension_kind object_type_extension_tree
+        (λ type. fields_list_depth type.fields)
+        (a_keyword (codes "implements") ∷ marks (amp ∷ at ∷ lparen ∷ [])) (marks (lbrace ∷ [])) }
+    ensures interface_type_extensions { ⟦<InterfaceTypeExtension as Printed>⟧.has_kind
+        interface_type_extension_kind interface_type_extension_tree
+        (λ type. fields_list_depth type.fields)
+        (a_keyword (codes "implements") ∷ marks (amp ∷ at ∷ lparen ∷ [])) (marks (lbrace ∷ [])) }
+    ensures union_type_extensions { ⟦<UnionTypeExtension as Printed>⟧.has_kind
+        union_type_extension_kind union_type_extension_tree no_types
+        (marks (at ∷ lparen ∷ equals ∷ bar ∷ [])) [] }
+    ensures enum_type_extensions { ⟦<EnumTypeExtension as Printed>⟧.has_kind
+        enum_type_extension_kind enum_type_extension_tree no_types (marks (at ∷ lparen ∷ []))
+        (marks (lbrace ∷ [])) }
+    ensures input_object_type_extensions { ⟦<InputObjectTypeExtension as Printed>⟧.has_kind
+        input_object_type_extension_kind input_object_type_extension_tree
+        (λ type. arguments_list_depth type.members) (marks (at ∷ lparen ∷ []))
+        (marks (lbrace ∷ [])) }
 {}

@@ -1,8 +1,8 @@
 -- Lemmas that know nothing of GraphQL.
 
--- the first place at which a test passes, or the length
+-- the first index at which a test passes, or the length
 pub mod FirstPlace
--- what stands at the place that `position` answers, and whether `find` finds anything
+-- what stands at the index that `position` answers, and whether `find` finds anything
 pub mod PositionAndFind
 -- how `any`, `find` and `filter` of a list agree
 pub mod LookUpsAgree

@@ -1,9 +1,9 @@
-//! Places that admit variables, and places that don't.
+//! Contexts that admit variables, and const contexts, which don't.
 ghost use Rattle.std.specs.Prelude.{◌≡◌};
 ghost use Rattle.graphql_values.specs.trees.ValueTrees.{constness_of};
 ghost use Rattle.graphql_values.specs.kinds.Values.{admits_variables};
 
-/// Whether a place is constant (`Value[Const]`), which admits no variable at any depth.
+/// Whether a value stands in a const context (`Value[Const]`), which admits no variable at any depth.
 #[derive(Clone, Copy, Debug, PartialEq, Eq)]
 pub enum Constness {
     /// `Value[Const]`: no variable.

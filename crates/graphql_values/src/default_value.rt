@@ -13,7 +13,7 @@ use crate::value::print::{ValueEntry, find_value_nesting, is_value_well_formed};
 use graphql_base::node::Node;
 use graphql_text::writers::{Place, Stack, Target, Written, write_words};
 
-/// Whether a default value, if there is one, is well formed at its constant place.
+/// Whether a default value, if there is one, is well formed in its const context.
 pub fn is_default_value_well_formed(default_value: Option<&Node<Value>>) -> bool
     ensures { result ≡ default_value_obeys (default_value_tree default_value.entry) }
 {

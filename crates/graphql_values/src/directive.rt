@@ -100,8 +100,8 @@ impl Directive {
     }
 
     fn specified_argument_position(&self, name: &str) -> Option<usize>
-        ensures place { result ≡ position (is_argument_named name.now) self.now.arguments.items }
-        ensures within { IfSome result (λ place. place < length self.now.arguments.items) }
+        ensures index { result ≡ position (is_argument_named name.now) self.now.arguments.items }
+        ensures within { IfSome result (λ index. index < length self.now.arguments.items) }
     {
         self.arguments
             .iter()
@@ -113,8 +113,8 @@ impl Directive {
         ensures { option_copied result
             ≡ option_map argument_value (first_argument_named name.now self.now.arguments.items) }
     {
-        let place = self.specified_argument_position(name)?;
-        Some(&self.arguments[place].value)
+        let index = self.specified_argument_position(name)?;
+        Some(&self.arguments[index].value)
     }
 
     /// The value of the argument of that name: the value of the first one that the directive specifies, whatever the
@@ -149,16 +149,16 @@ impl Directive {
         }
     }
 
-    /// The value of the argument at that place, counted from 0.
-    fn value_at(&mut self, place: usize) -> Result<&mut Node<Value>, SpecifiedArgumentError>
-        requires { place < length self.old.arguments.items }
-        ensures* writes_back { sem 𝓛 (LendsValueAt self.entry place result) }
+    /// The value of the argument at that index.
+    fn value_at(&mut self, index: usize) -> Result<&mut Node<Value>, SpecifiedArgumentError>
+        requires { index < length self.old.arguments.items }
+        ensures* writes_back { sem 𝓛 (LendsValueAt self.entry index result) }
         ensures value { IfOk result (λ value.
             HoldsAt
-            (λ argument. value.now ≡ argument_value argument) self.old.arguments.items place) }
+            (λ argument. value.now ≡ argument_value argument) self.old.arguments.items index) }
         ensures memory { IfErr result (λ error. error ≡ SpecifiedArgumentError.Memory) }
     {
-        value_mut(&mut self.arguments[place])
+        value_mut(&mut self.arguments[index])
     }
 
     /// The value of the first argument of that name, to write to. Where another directive shares the argument, this
@@ -179,7 +179,7 @@ impl Directive {
             ↔ (first_argument_named name.now self.old.arguments.items ≡ None) }
     {
         match self.specified_argument_position(name) {
-            Some(place) => self.value_at(place),
+            Some(index) => self.value_at(index),
             None => Err(SpecifiedArgumentError::NotSpecified),
         }
     }

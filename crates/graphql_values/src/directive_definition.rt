@@ -22,7 +22,7 @@ pub struct DirectiveDefinition {
     pub name: Name,
     /// The arguments that the directive takes, in order.
     pub arguments: Vec<Node<InputValueDefinition>>,
-    /// Whether the directive may stand several times at one place.
+    /// Whether the directive may stand several times at one location.
     pub repeatable: bool,
     /// Where the directive may stand. A definition without a location isn't well formed.
     pub locations: Vec<DirectiveLocation>,
@@ -34,14 +34,14 @@ impl DirectiveDefinition {
         ensures { option_copied result
             ≡ first_input_value_definition_named name.now self.now.arguments.items }
     {
-        let place = self.argument_position(name)?;
-        Some(&self.arguments[place])
+        let index = self.argument_position(name)?;
+        Some(&self.arguments[index])
     }
 
     fn argument_position(&self, name: &str) -> Option<usize>
-        ensures place { result
+        ensures index { result
             ≡ position (is_input_value_definition_named name.now) self.now.arguments.items }
-        ensures within { IfSome result (λ place. place < length self.now.arguments.items) }
+        ensures within { IfSome result (λ index. index < length self.now.arguments.items) }
     {
         self.arguments
             .iter()
@@ -56,7 +56,7 @@ impl DirectiveDefinition {
             ≡ first_input_value_definition_named name.now self.old.arguments.items }
     {
         match self.argument_position(name) {
-            Some(place) => Some(&mut self.arguments[place]),
+            Some(index) => Some(&mut self.arguments[index]),
             None => None,
         }
     }

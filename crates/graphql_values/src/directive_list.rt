@@ -57,8 +57,8 @@ impl DirectiveList {
     pub fn get(&self, name: &str) -> Option<&Node<Directive>>
         ensures { option_copied result ≡ first_directive_named name.now self.now.0.items }
     {
-        let place = first_position(&self.0, name)?;
-        Some(&self.0[place])
+        let index = first_position(&self.0, name)?;
+        Some(&self.0[index])
     }
 
     /// Whether there is a directive of that name.
@@ -89,7 +89,7 @@ impl DirectiveList {
             return None;
         }
         match first_position(&self.0[from..], name) {
-            Some(place) => Some(from + place),
+            Some(index) => Some(from + index),
             None => None,
         }
     }
@@ -120,10 +120,10 @@ impl DirectiveList {
     }
 }
 
-/// The place of the first directive of that name.
+/// The index of the first directive of that name.
 fn first_position(directives: &[Node<Directive>], name: &str) -> Option<usize>
-    ensures place { result ≡ position (is_directive_named name.now) directives.now }
-    ensures within { IfSome result (λ place. place < length directives.now) }
+    ensures index { result ≡ position (is_directive_named name.now) directives.now }
+    ensures within { IfSome result (λ index. index < length directives.now) }
 {
     directives
         .iter()

@@ -4,7 +4,7 @@
 //! Each function does nothing: its contract is the law, with one clause a kind.
 ghost use Rattle.std.specs.Prelude.{[], ◌∷◌};
 ghost use Rattle.graphql_text.specs.parts.Descriptions.{description_form};
-ghost use Rattle.graphql_text.specs.grammar.Forms.{a_punctuator, a_string_value};
+ghost use Rattle.graphql_text.specs.grammar.Forms.{a_string_value, marks};
 ghost use Rattle.graphql_text.specs.grammar.OneReading.{IsReadOneWay};
 ghost use Rattle.graphql_text.specs.kinds.PrintedKinds.{IsPrintedKind, no_types};
 ghost use Rattle.graphql_text.specs.kinds.Reading.{Laws};
@@ -46,7 +46,7 @@ pub use crate::laws::types::{
 };
 use crate::types::Type;
 use crate::value::Value;
-use graphql_text::engine::SyntaxTree;
+use graphql_text::engine::Printed;
 use std::fmt::Display;
 use std::hash::Hash;
 
@@ -55,35 +55,20 @@ use std::hash::Hash;
 /// by its tree. A type has no `Syntax`, and is displayed on one line. A list of directives may be empty, and a type obeys
 /// the side conditions always.
 pub fn printed_kinds()
-    ensures values { IsPrintedKind ⟦<Value as SyntaxTree>⟧.kind ⟦<Value as SyntaxTree>⟧.tree
-        ⟦<Value as SyntaxTree>⟧.list_depth ⟦<Value as Display>⟧.output ⟦<Value as PartialEq>⟧.eq
-        ⟦<Value as Hash>⟧.hash_input value_kind value_tree no_types [] [] }
+    ensures values { ⟦<Value as Printed>⟧.has_kind value_kind value_tree no_types [] [] }
     ensures types { IsPrintedKind type_kind type_tree list_depth ⟦<Type as Display>⟧.output
         ⟦<Type as PartialEq>⟧.eq ⟦<Type as Hash>⟧.hash_input type_kind type_tree list_depth
-        (a_punctuator bang ∷ []) [] }
-    ensures directives { IsPrintedKind ⟦<Directive as SyntaxTree>⟧.kind
-        ⟦<Directive as SyntaxTree>⟧.tree ⟦<Directive as SyntaxTree>⟧.list_depth
-        ⟦<Directive as Display>⟧.output ⟦<Directive as PartialEq>⟧.eq
-        ⟦<Directive as Hash>⟧.hash_input directive_kind directive_tree no_types
-        (a_punctuator lparen ∷ []) [] }
-    ensures directive_lists { IsPrintedKind ⟦<DirectiveList as SyntaxTree>⟧.kind
-        ⟦<DirectiveList as SyntaxTree>⟧.tree ⟦<DirectiveList as SyntaxTree>⟧.list_depth
-        ⟦<DirectiveList as Display>⟧.output ⟦<DirectiveList as PartialEq>⟧.eq
-        ⟦<DirectiveList as Hash>⟧.hash_input directives_kind directive_trees no_types
-        (a_punctuator at ∷ a_punctuator lparen ∷ []) [] }
-    ensures input_value_definitions { IsPrintedKind ⟦<InputValueDefinition as SyntaxTree>⟧.kind
-        ⟦<InputValueDefinition as SyntaxTree>⟧.tree
-        ⟦<InputValueDefinition as SyntaxTree>⟧.list_depth ⟦<InputValueDefinition as Display>⟧.output
-        ⟦<InputValueDefinition as PartialEq>⟧.eq ⟦<InputValueDefinition as Hash>⟧.hash_input
+        (marks (bang ∷ [])) [] }
+    ensures directives { ⟦<Directive as Printed>⟧.has_kind directive_kind directive_tree no_types
+        (marks (lparen ∷ [])) [] }
+    ensures directive_lists { ⟦<DirectiveList as Printed>⟧.has_kind directives_kind directive_trees
+        no_types (marks (at ∷ lparen ∷ [])) [] }
+    ensures input_value_definitions { ⟦<InputValueDefinition as Printed>⟧.has_kind
         input_value_definition_kind input_value_definition_tree
-        (λ input. list_depth input.body.type)
-        (a_punctuator bang ∷ a_punctuator equals ∷ a_punctuator at ∷ a_punctuator lparen ∷ []) [] }
-    ensures directive_definitions { IsPrintedKind ⟦<DirectiveDefinition as SyntaxTree>⟧.kind
-        ⟦<DirectiveDefinition as SyntaxTree>⟧.tree ⟦<DirectiveDefinition as SyntaxTree>⟧.list_depth
-        ⟦<DirectiveDefinition as Display>⟧.output ⟦<DirectiveDefinition as PartialEq>⟧.eq
-        ⟦<DirectiveDefinition as Hash>⟧.hash_input directive_definition_kind
-        directive_definition_tree (λ definition. arguments_list_depth definition.body.arguments)
-        (a_punctuator bar ∷ []) [] }
+        (λ input. list_depth input.body.type) (marks (bang ∷ equals ∷ at ∷ lparen ∷ [])) [] }
+    ensures directive_definitions { ⟦<DirectiveDefinition as Printed>⟧.has_kind
+        directive_definition_kind directive_definition_tree
+        (λ definition. arguments_list_depth definition.body.arguments) (marks (bar ∷ [])) [] }
 {}
 
 /// Arguments, which are printed only as parts, have the laws of a kind.
@@ -100,14 +85,12 @@ pub fn parts_are_read_in_one_way()
     ensures values { (c : Constness) → IsReadOneWay (value_form c) [] }
     ensures arguments { (c : Constness) → IsReadOneWay (argument_form c) [] }
     ensures argument_lists { (c : Constness) →
-        IsReadOneWay (arguments_form c) (a_punctuator lparen ∷ []) }
-    ensures directives { (c : Constness) →
-        IsReadOneWay (directive_form c) (a_punctuator lparen ∷ []) }
+        IsReadOneWay (arguments_form c) (marks (lparen ∷ [])) }
+    ensures directives { (c : Constness) → IsReadOneWay (directive_form c) (marks (lparen ∷ [])) }
     ensures directive_lists { (c : Constness) →
-        IsReadOneWay (directives_form c) (a_punctuator at ∷ a_punctuator lparen ∷ []) }
+        IsReadOneWay (directives_form c) (marks (at ∷ lparen ∷ [])) }
     ensures descriptions { IsReadOneWay description_form (a_string_value ∷ []) }
-    ensures default_values { IsReadOneWay default_value_form (a_punctuator equals ∷ []) }
-    ensures arguments_definitions { IsReadOneWay arguments_definition_form
-        (a_punctuator lparen ∷ []) }
+    ensures default_values { IsReadOneWay default_value_form (marks (equals ∷ [])) }
+    ensures arguments_definitions { IsReadOneWay arguments_definition_form (marks (lparen ∷ [])) }
     ensures operation_types { IsReadOneWay operation_type_form [] }
 {}

@@ -1,12 +1,14 @@
 //! Numbers as they are written: IntValue and FloatValue of the GraphQL specification.
-ghost use Rattle.std.specs.Prelude.{◌≡◌, FitsSigned, IfOk, IsTrue, Some};
+ghost use Rattle.std.specs.Prelude.{◌≡◌, FitsSigned, IfOk, IfSome, IsTrue, Some};
 ghost use Rattle.std.specs.Fmt.{signed_decimal};
 ghost use Rattle.std.specs.Int.{w32};
 ghost use Rattle.std.specs.Result.{OkIff};
+ghost use Rattle.graphql_base.specs.ShortTexts.{short_bytes};
 ghost use Rattle.graphql_text.specs.lexical.Literals.{is_float, is_int};
 
 use crate::number_syntax::{is_float, is_int};
-use crate::numeral::Numeral;
+use crate::numeral::{Numeral, ROOM};
+use graphql_base::short_text::ShortText;
 use std::alloc::{AllocError, Global};
 use std::fmt::{self, Debug, Display, Formatter, Write};
 use std::num::ParseIntError;
@@ -69,6 +71,15 @@ impl IntValue {
     {
         self.numeral.as_str()
     }
+
+    /// The text, if it stands in the int itself: for the writer, which can copy it as it lies there.
+    #[inline(always)]
+    pub(crate) fn short_text(&self) -> Option<&ShortText<ROOM>>
+        ensures text { IfSome result (λ text. short_bytes text.now ≡ int_text self.now) }
+        ensures syntax { IfSome result (λ text. IsTrue (is_int (short_bytes text.now))) }
+    {
+        self.numeral.short_text()
+    }
 }
 
 impl Clone for IntValue {
@@ -130,6 +141,15 @@ impl FloatValue {
         ensures syntax { IsTrue (is_float result.now) }
     {
         self.text.as_str()
+    }
+
+    /// The text, if it stands in the float itself: for the writer, which can copy it as it lies there.
+    #[inline(always)]
+    pub(crate) fn short_text(&self) -> Option<&ShortText<ROOM>>
+        ensures text { IfSome result (λ text. short_bytes text.now ≡ float_text self.now) }
+        ensures syntax { IfSome result (λ text. IsTrue (is_float (short_bytes text.now))) }
+    {
+        self.text.short_text()
     }
 }
 

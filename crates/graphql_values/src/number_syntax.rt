@@ -77,9 +77,9 @@ fn first_exponent_indicator(bytes: &[u8]) -> Option<usize>
     bytes.iter().position(|byte| is_exponent_indicator(*byte))
 }
 
-/// The place of the first byte that begins an `ExponentPart`, or the length.
-fn exponent_place(bytes: &[u8]) -> usize
-    ensures place { result ≡ position_or_len is_exponent_indicator bytes.now }
+/// The index of the first byte that begins an `ExponentPart`, or the length.
+fn exponent_index(bytes: &[u8]) -> usize
+    ensures index { result ≡ position_or_len is_exponent_indicator bytes.now }
     ensures within { result ≤ length bytes.now }
 {
     first_exponent_indicator(bytes).unwrap_or(bytes.len())
@@ -91,9 +91,9 @@ fn first_float_mark(bytes: &[u8]) -> Option<usize>
     bytes.iter().position(|byte| begins_float_part(*byte))
 }
 
-/// The place of the first byte that begins a `FractionalPart` or an `ExponentPart`, or the length.
-fn float_part_place(bytes: &[u8]) -> usize
-    ensures place { result ≡ position_or_len begins_float_part bytes.now }
+/// The index of the first byte that begins a `FractionalPart` or an `ExponentPart`, or the length.
+fn float_part_index(bytes: &[u8]) -> usize
+    ensures index { result ≡ position_or_len begins_float_part bytes.now }
     ensures within { result ≤ length bytes.now }
 {
     first_float_mark(bytes).unwrap_or(bytes.len())
@@ -103,7 +103,7 @@ fn float_part_place(bytes: &[u8]) -> usize
 fn is_float_part(bytes: &[u8]) -> bool
     ensures { result ≡ is_float_part bytes.now }
 {
-    let (fraction, exponent) = bytes.split_at(exponent_place(bytes));
+    let (fraction, exponent) = bytes.split_at(exponent_index(bytes));
     is_fraction(bytes) || is_exponent(bytes) || is_fraction(fraction) && is_exponent(exponent)
 }
 
@@ -111,6 +111,6 @@ fn is_float_part(bytes: &[u8]) -> bool
 pub fn is_float(bytes: &[u8]) -> bool
     ensures { result ≡ is_float bytes.now }
 {
-    let (integer, part) = bytes.split_at(float_part_place(bytes));
+    let (integer, part) = bytes.split_at(float_part_index(bytes));
     is_int(integer) && is_float_part(part)
 }

@@ -1,54 +1,25 @@
 //! The text of a number, which takes no memory where it is short.
-ghost use Rattle.std.specs.Prelude.{◌≡◌, ◌≤◌, IfOk, IsOk, IsUtf8, length, nat_eq, take};
+ghost use Rattle.std.specs.Prelude.{◌≡◌, ◌≤◌, IfOk, IfSome, IsOk, length, nat_eq};
 ghost use Rattle.std.specs.Cmp.{partial_equiv_from_equiv};
 ghost use Rattle.std.specs.Cmp.Lexicographic.{pointwise, nat_list_eq_equiv};
 ghost use Rattle.std.specs.Cmp.Rules.{hashing};
 ghost use Rattle.std.specs.Hash as fed;
 ghost use Rattle.std.proofs.Common.{rules};
+ghost use Rattle.graphql_base.specs.ShortTexts.{short_bytes};
 ghost use Rattle.graphql_values.specs.declared.numeral.TheConstants.{ROOM};
 
+use graphql_base::short_text::ShortText;
 use std::alloc::{AllocError, Global};
 use std::fmt::{self, Debug, Formatter, Write};
 use std::hash::{Hash, Hasher};
 use std::marker::Model;
 
 /// The most bytes that a numeral holds in place. With more it would be longer than one that holds a `String`.
-const ROOM: usize = 30;
-
-/// A text that stands in its owner.
-#[derive(Clone, Copy)]
-struct ShortText {
-    used: u8,
-    bytes: [u8; ROOM],
-    ghost fits: { used ≤ ROOM },
-    ghost utf8: { ∥ IsUtf8 (take used bytes) ∥₁ },
-}
-
-impl ShortText {
-    ghost use Rattle.graphql_values.specs.code.Numerals.{short_bytes};
-
-    fn new(text: &str) -> ShortText
-        requires { length text.now ≤ ROOM }
-        ensures { short_bytes result ≡ text.now }
-    {
-        let mut bytes = [0u8; ROOM];
-        bytes[..text.len()].copy_from_slice(text.as_bytes());
-        ShortText {
-            used: text.len() as u8,
-            bytes,
-        }
-    }
-
-    fn as_str(&self) -> &str
-        ensures { result.now ≡ short_bytes self.now }
-    {
-        unsafe { str::from_utf8_unchecked(&self.bytes[..self.used as usize]) }
-    }
-}
+pub(crate) const ROOM: usize = 30;
 
 #[derive(Drop)]
 enum Form {
-    Short(ShortText),
+    Short(ShortText<ROOM>),
     Long(String),
 }
 
@@ -88,6 +59,17 @@ impl Numeral {
         match &self.form {
             Form::Short(text) => text.as_str(),
             Form::Long(text) => text.as_str(),
+        }
+    }
+
+    /// The text, if it stands in place.
+    #[inline(always)]
+    pub fn short_text(&self) -> Option<&ShortText<ROOM>>
+        ensures { IfSome result (λ text. short_bytes text.now ≡ self.now) }
+    {
+        match &self.form {
+            Form::Short(text) => Some(text),
+            Form::Long(_) => None,
         }
     }
 }

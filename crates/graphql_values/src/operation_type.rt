@@ -1,6 +1,7 @@
 //! The types of operations.
-ghost use Rattle.std.specs.Prelude.{◌≡◌, ◌↔◌, IsTrue, true};
+ghost use Rattle.std.specs.Prelude.{◌≡◌, ◌↔◌, IsTrue};
 ghost use Rattle.graphql_base.specs.Name.{IsNewName};
+ghost use Rattle.graphql_base.specs.StoredTexts.{StaticForm};
 ghost use Rattle.graphql_values.specs.trees.LocationTrees.{default_type_name, operation_type_tree};
 ghost use Rattle.graphql_values.specs.kinds.OperationTypes.{operation_type_name};
 ghost use Rattle.graphql_values.specs.kinds.OperationTypes as tree;
@@ -32,7 +33,7 @@ impl OperationType {
     /// The name of the type that such operations begin at where no schema definition says otherwise (section 3.3.1):
     /// `Query`, `Mutation` or `Subscription`. It is static and has no location.
     pub fn default_type_name(self) -> NamedType
-        ensures { IsNewName (default_type_name (operation_type_tree self)) true result }
+        ensures { IsNewName (default_type_name (operation_type_tree self)) StaticForm result }
     {
         match self {
             OperationType::Query => name!(Query),

@@ -1,12 +1,12 @@
 //! The stacks that definitions are written with.
 ghost use Rattle.std.specs.Prelude.{◌≡◌, ℕ, IfOk, IsOk};
-ghost use Rattle.graphql_text.specs.layout.Levels.{Fits, IsCount};
+ghost use Rattle.graphql_text.specs.layout.Levels.{Fits, capped};
 ghost use Rattle.graphql_text.specs.declared.place.Place.{Place};
 ghost use Rattle.graphql_values.specs.code.Stacks.{AreKept, CanWriteDefinition};
 
 use crate::types::print::TypeEntry;
 use crate::value::print::ValueEntry;
-use graphql_text::writers::{Stack, WritingStacks};
+use graphql_text::writers::{Depths, Stack, WritingStacks};
 use std::alloc::{AllocError, Global};
 
 /// The stacks that a definition is written with: of the values in it, and of the types. Both are empty before and
@@ -21,22 +21,16 @@ pub struct Stacks<'a> {
 
 impl<'a> Stacks<'a> {
     /// Stacks with room for values of a nesting depth, and for types of so many lists. For none no memory is asked
-    /// for. `AllocError` where memory is refused, and where the lists are more than `usize::MAX`.
-    pub fn reserve(
-        alloc: Global,
-        nesting: usize,
-        list_depth: Option<usize>,
-    ) -> Result<Stacks<'a>, AllocError>
-        ensures ready { (lists : ℕ) → IsCount list_depth lists →
-            IfOk result (λ stacks. (place : Place) →
-            Fits place.level nesting → CanWriteDefinition place stacks nesting lists) }
-        ensures free { (lists : ℕ) → IsCount list_depth lists → nesting ≡ 0 →
-            lists ≡ 0 → IsOk result }
+    /// for. `AllocError` where memory is refused, and where the lists are `usize::MAX` or more.
+    pub fn reserve(alloc: Global, depths: Depths) -> Result<Stacks<'a>, AllocError>
+        ensures ready { (lists : ℕ) → depths.lists ≡ capped lists →
+            IfOk result (λ stacks. (place : Place) → Fits place.level depths.nesting →
+            CanWriteDefinition place stacks depths.nesting lists) }
+        ensures free { depths.nesting ≡ 0 → depths.lists ≡ 0 → IsOk result }
     {
-        let list_depth = list_depth.ok_or(AllocError)?;
         Ok(Stacks {
-            values: Stack::reserve(Some(alloc), nesting)?,
-            types: Stack::reserve(Some(alloc), list_depth)?,
+            values: Stack::reserve(Some(alloc), depths.nesting)?,
+            types: Stack::reserve(Some(alloc), depths.lists)?,
         })
     }
 }

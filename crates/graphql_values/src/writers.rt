@@ -7,7 +7,7 @@ pub use crate::constness::Constness;
 pub use crate::default_value::{
     find_default_value_nesting, is_default_value_well_formed, write_default_value,
 };
-pub use crate::directive_list::print::are_directives_well_formed;
+pub use crate::directive_list::print::{are_directives_well_formed, find_directives_nesting};
 pub use crate::input_value_definition::print::some_want_lines;
 pub use crate::parameters::write_parameters;
 pub use crate::stacks::Stacks;

@@ -1,3 +1,4 @@
 //! Prints into sinks.
 mod buffered;
+mod pieces;
 mod sinks;

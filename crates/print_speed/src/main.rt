@@ -8,7 +8,8 @@
 //!   many such queries). Operations and types are printed one after another, each into a text of its own, or all into one sink.
 //! - LAYOUT: `default`, `one_line`, or `two_tabs`, which has the bytes of the default layout with two tabs for each prefix.
 //! - TARGET: `text`, `sink` (a `VecSink`) or `stream` (a `StreamSink` over a vector).
-//! - NAMES: `own` (each has memory of its own), `shared` (equal ones share it) or `static`.
+//! - NAMES: `own` (each has memory of its own), `compact` (each of up to 18 bytes stands in place), `shared` (equal ones
+//!   share memory) or `static`.
 //! - LISTS: `grown` (by pushes) or `exact` (with room for what they hold, and no more).
 //!
 //! It prints the bytes of one round.
@@ -33,7 +34,7 @@ use thiserror::Error;
 /// Why nothing was printed.
 #[derive(Debug, Drop, Error)]
 enum SpeedError {
-    #[error("usage: print_speed objects|texts|nested|operations|types|queries|schema|document COUNT ROUNDS default|one_line|two_tabs text|sink|stream own|shared|static grown|exact")]
+    #[error("usage: print_speed objects|texts|nested|operations|types|queries|schema|document COUNT ROUNDS default|one_line|two_tabs text|sink|stream own|compact|shared|static grown|exact")]
     Usage,
     #[error("out of memory")]
     Memory,
@@ -141,8 +142,9 @@ const TARGETS: [(&str, Target); 3] = [
     ("stream", Target::Stream),
 ];
 
-const NAMES: [(&str, Naming); 3] = [
+const NAMES: [(&str, Naming); 4] = [
     ("own", Naming::Own),
+    ("compact", Naming::Compact),
     ("shared", Naming::Shared),
     ("static", Naming::Static),
 ];

@@ -20,6 +20,8 @@ type Fields = Vec<(Name, Node<Value>)>;
 pub enum Naming {
     /// Each in memory of its own.
     Own,
+    /// Each in the name itself, if it is short enough.
+    Compact,
     /// Each shares its text with all names that are equal to it.
     Shared,
     /// Each over a static text.
@@ -52,6 +54,7 @@ impl Builder {
     {
         match self.naming {
             Naming::Own => Name::new_unchecked(self.alloc, text),
+            Naming::Compact => Name::compact_unchecked(self.alloc, text),
             Naming::Shared => self.shared_name(text),
             Naming::Static => Ok(Name::new_static_unchecked(text)),
         }

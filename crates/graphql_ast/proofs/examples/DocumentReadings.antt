@@ -1,11 +1,9 @@
 -- What definitions and documents are printed as and what their readers find, by computing.
-use Rattle.std.proofs.Common.{◌≡◌, ℕ, Bool, true, List, [], IsTrue, Option, Some, None, refl}
+use Rattle.std.proofs.Common.{◌≡◌, ℕ, Bool, true, List, [], IsTrue, Option, Some, refl}
 use Rattle.std.specs.Str.{all_scalars}
 use Rattle.graphql_text.specs.lexical.Tokens.{Token}
 use Rattle.graphql_text.specs.kinds.Reading.{ReadsAs}
-use Rattle.graphql_text.proofs.grammar.FormParsers.{not_read}
 use Rattle.graphql_text.proofs.reader.TokenReader.{lex}
-use Rattle.graphql_text.proofs.examples.TextReadings.{no_tree_read}
 use Rattle.graphql_text.proofs.reader.ReaderSound.{lex_sound}
 use Rattle.graphql_executable.proofs.examples.ExecutableReadings as executable
 use Rattle.graphql_executable.specs.lemmas.Definitions as operations
@@ -41,9 +39,3 @@ document_reads front text document holds source lexes = (
   lex_sound text (documents.document_tokens front document []) lexes,
   documents.document_written front document holds [] refl,
 )
-
--- a text that lexes to tokens in which the reader of documents finds nothing
-pub document_refuses : (text : List ℕ) (tokens : List Token) → lex text ≡ Some tokens → documents.document_reader tokens ≡ None →
-    (document : List DefinitionTree) → ReadsAs document_kind.form text document → ⊥
-document_refuses text tokens lexes none document =
-    no_tree_read document_kind.form text tokens lexes document (not_read (documents.document_is_read _ document) none refl)

@@ -8,7 +8,7 @@ ghost use Rattle.graphql_ast.specs.lemmas.Definitions.{definition_laws};
 
 use crate::definition::Definition;
 use graphql_text::engine::{Serialize, Syntax, SyntaxTree};
-use graphql_text::writers::{HasTypes, Start, Target};
+use graphql_text::writers::{Depths, Start, Target};
 use std::alloc::AllocError;
 use std::fmt;
 
@@ -59,49 +59,25 @@ impl SyntaxTree for Definition {
         Definition::is_well_formed(self)
     }
 
-    fn find_nesting(&self) -> Option<usize> {
+    fn find_depths(&self) -> Option<Depths> {
         match self {
-            Definition::OperationDefinition(operation) => operation.find_nesting(),
-            Definition::FragmentDefinition(fragment) => fragment.find_nesting(),
-            Definition::DirectiveDefinition(directive) => directive.find_nesting(),
-            Definition::SchemaDefinition(schema) => schema.find_nesting(),
-            Definition::ScalarTypeDefinition(scalar) => scalar.find_nesting(),
-            Definition::ObjectTypeDefinition(object) => object.find_nesting(),
-            Definition::InterfaceTypeDefinition(interface) => interface.find_nesting(),
-            Definition::UnionTypeDefinition(union_type) => union_type.find_nesting(),
-            Definition::EnumTypeDefinition(enum_type) => enum_type.find_nesting(),
-            Definition::InputObjectTypeDefinition(input) => input.find_nesting(),
-            Definition::SchemaExtension(schema) => schema.find_nesting(),
-            Definition::ScalarTypeExtension(scalar) => scalar.find_nesting(),
-            Definition::ObjectTypeExtension(object) => object.find_nesting(),
-            Definition::InterfaceTypeExtension(interface) => interface.find_nesting(),
-            Definition::UnionTypeExtension(union_type) => union_type.find_nesting(),
-            Definition::EnumTypeExtension(enum_type) => enum_type.find_nesting(),
-            Definition::InputObjectTypeExtension(input) => input.find_nesting(),
-        }
-    }
-}
-
-impl HasTypes for Definition {
-    fn find_list_depth(&self) -> Option<usize> {
-        match self {
-            Definition::OperationDefinition(operation) => operation.find_list_depth(),
-            Definition::DirectiveDefinition(directive) => directive.find_list_depth(),
-            Definition::ObjectTypeDefinition(object) => object.find_list_depth(),
-            Definition::InterfaceTypeDefinition(interface) => interface.find_list_depth(),
-            Definition::InputObjectTypeDefinition(input) => input.find_list_depth(),
-            Definition::ObjectTypeExtension(object) => object.find_list_depth(),
-            Definition::InterfaceTypeExtension(interface) => interface.find_list_depth(),
-            Definition::InputObjectTypeExtension(input) => input.find_list_depth(),
-            Definition::FragmentDefinition(_)
-            | Definition::SchemaDefinition(_)
-            | Definition::ScalarTypeDefinition(_)
-            | Definition::UnionTypeDefinition(_)
-            | Definition::EnumTypeDefinition(_)
-            | Definition::SchemaExtension(_)
-            | Definition::ScalarTypeExtension(_)
-            | Definition::UnionTypeExtension(_)
-            | Definition::EnumTypeExtension(_) => Some(0),
+            Definition::OperationDefinition(operation) => operation.find_depths(),
+            Definition::FragmentDefinition(fragment) => fragment.find_depths(),
+            Definition::DirectiveDefinition(directive) => directive.find_depths(),
+            Definition::SchemaDefinition(schema) => schema.find_depths(),
+            Definition::ScalarTypeDefinition(scalar) => scalar.find_depths(),
+            Definition::ObjectTypeDefinition(object) => object.find_depths(),
+            Definition::InterfaceTypeDefinition(interface) => interface.find_depths(),
+            Definition::UnionTypeDefinition(union_type) => union_type.find_depths(),
+            Definition::EnumTypeDefinition(enum_type) => enum_type.find_depths(),
+            Definition::InputObjectTypeDefinition(input) => input.find_depths(),
+            Definition::SchemaExtension(schema) => schema.find_depths(),
+            Definition::ScalarTypeExtension(scalar) => scalar.find_depths(),
+            Definition::ObjectTypeExtension(object) => object.find_depths(),
+            Definition::InterfaceTypeExtension(interface) => interface.find_depths(),
+            Definition::UnionTypeExtension(union_type) => union_type.find_depths(),
+            Definition::EnumTypeExtension(enum_type) => enum_type.find_depths(),
+            Definition::InputObjectTypeExtension(input) => input.find_depths(),
         }
     }
 }

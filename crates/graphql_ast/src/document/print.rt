@@ -3,7 +3,7 @@ ghost use Rattle.std.specs.Prelude.{◌≡◌, ◌≤◌, if◌then◌else◌, I
 ghost use Rattle.std.specs.List.{list_all, list_any};
 ghost use Rattle.graphql_text.specs.parts.Greatest.{greatest};
 ghost use Rattle.graphql_text.specs.layout.Layout.{is_front};
-ghost use Rattle.graphql_text.specs.layout.Levels.{Fits, IsCount};
+ghost use Rattle.graphql_text.specs.layout.Levels.{AreDepths, Fits, HasDepths};
 ghost use Rattle.graphql_text.specs.code.Place.{breaks, mode_of};
 ghost use Rattle.graphql_text.specs.kinds.Printing.{IsDefaultPrint, default_bytes};
 ghost use Rattle.graphql_text.specs.code.Writing.{Writes};
@@ -20,7 +20,7 @@ use crate::document::Document;
 use graphql_executable::writers::ExecutableStacks;
 use graphql_text::engine::{Serialize, Syntax, SyntaxTree};
 use graphql_text::writers::{
-    HasTypes, Place, Stack, Start, Target, write_blank, write_finish, write_first_indent,
+    Depths, Place, Stack, Start, Target, write_blank, write_finish, write_first_indent,
 };
 use graphql_values::writers::Stacks;
 use std::alloc::{AllocError, Global};
@@ -38,25 +38,15 @@ fn are_definitions_well_formed(definitions: &[Definition]) -> bool
     true
 }
 
-/// How deep the groups of definitions stand in one another. `None` if it is above `usize::MAX`.
-fn find_definitions_nesting(definitions: &[Definition]) -> Option<usize>
-    ensures { IsCount result (greatest definition_kind.nesting (definition_trees definitions.now)) }
+/// The depths of definitions: of each the greatest. `None` if the nesting depth is above `usize::MAX`.
+fn find_definitions_depths(definitions: &[Definition]) -> Option<Depths>
+    ensures { AreDepths result
+        (greatest definition_kind.nesting (definition_trees definitions.now))
+        (greatest definition_list_depth (definition_trees definitions.now)) }
 {
-    let mut most = 0;
+    let mut most = Depths::without_types(0);
     for definition in definitions {
-        most = most.max(definition.find_nesting()?);
-    }
-    Some(most)
-}
-
-/// How many lists stand around the type in definitions that has the most of them. `None` if they are more than
-/// `usize::MAX`.
-fn find_definitions_list_depth(definitions: &[Definition]) -> Option<usize>
-    ensures { IsCount result (greatest definition_list_depth (definition_trees definitions.now)) }
-{
-    let mut most = 0;
-    for definition in definitions {
-        most = most.max(definition.find_list_depth()?);
+        most = most.max(definition.find_depths()?);
     }
     Some(most)
 }
@@ -107,23 +97,26 @@ fn write_definitions<'a, O: Target>(
     write_finish(out, place);
 }
 
-/// The stacks that definitions of this nesting depth are written with. `AllocError` where memory is refused.
+/// The stacks that definitions of these depths are written with. `AllocError` where memory is refused.
 fn reserve_stacks<'t>(
     alloc: Global,
     definitions: &'t [Definition],
-    depth: usize,
+    depths: Depths,
 ) -> Result<ExecutableStacks<'t>, AllocError>
-    requires { greatest definition_kind.nesting (definition_trees definitions.now) ≡ depth }
+    requires { HasDepths depths
+        (greatest definition_kind.nesting (definition_trees definitions.now))
+        (greatest definition_list_depth (definition_trees definitions.now)) }
     ensures ready { IfOk result
-        (λ stacks. (place : Place) → Fits place.level depth → CanWriteAst place stacks depth
+        (λ stacks. (place : Place) → Fits place.level depths.nesting →
+        CanWriteAst place stacks depths.nesting
         (greatest definition_list_depth (definition_trees definitions.now))
         (greatest selection_depth (definition_trees definitions.now))) }
-    ensures free { depth ≡ 0 →
+    ensures free { depths.nesting ≡ 0 →
         greatest definition_list_depth (definition_trees definitions.now) ≡ 0 → IsOk result }
 {
     Ok(ExecutableStacks {
-        definitions: Stacks::reserve(alloc, depth, find_definitions_list_depth(definitions))?,
-        selections: Stack::reserve(Some(alloc), selection_room(definitions, depth))?,
+        definitions: Stacks::reserve(alloc, depths)?,
+        selections: Stack::reserve(Some(alloc), selection_room(definitions, depths.nesting))?,
     })
 }
 
@@ -156,15 +149,15 @@ impl SyntaxTree for Document {
         Document::is_well_formed(self)
     }
 
-    fn find_nesting(&self) -> Option<usize> {
-        find_definitions_nesting(&self.definitions)
+    fn find_depths(&self) -> Option<Depths> {
+        find_definitions_depths(&self.definitions)
     }
 }
 
 impl Syntax for Document {
     fn write<O: Target>(&self, out: &mut O, start: &Start<'_>) -> Result<(), AllocError> {
         let alloc = *self.definitions.allocator();
-        let mut stacks = reserve_stacks(alloc, &self.definitions, start.depth)?;
+        let mut stacks = reserve_stacks(alloc, &self.definitions, start.depths)?;
         write_first_indent(out, &start.place);
         write_definitions(out, &start.place, &mut stacks, &self.definitions);
         Ok(())

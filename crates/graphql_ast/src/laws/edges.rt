@@ -1,5 +1,6 @@
 //! Texts at the edges of the grammar: where it is easy to read too much, or too little.
 ghost use Rattle.std.specs.Prelude.{[], ◌∷◌, codes, None};
+ghost use Rattle.graphql_text.specs.examples.Tables.{AreRead, AreRefused};
 ghost use Rattle.graphql_text.specs.kinds.Reading.{ReadsAs};
 ghost use Rattle.graphql_executable.specs.kinds.Fields.{field_kind};
 ghost use Rattle.graphql_executable.specs.kinds.FragmentSpreads.{fragment_spread_kind};
@@ -27,10 +28,10 @@ pub fn edge_readings()
     ensures leading_bar_of_locations { ReadsAs definition_kind.form
         (codes "directive @d on | FIELD")
         directive_on_fields }
-    ensures query_named_query { ReadsAs definition_kind.form
-        (codes "query query{query}") query_query }
-    ensures inline_fragment { ReadsAs selection_kind.form (codes "...on T{a}") fragment_on_t }
-    ensures spread_of_once { ReadsAs selection_kind.form (codes "...once") spread_of_once }
+    ensures definitions { AreRead definition_kind.form
+        ((codes "query query{query}", query_query) ∷ []) }
+    ensures selections { AreRead selection_kind.form
+        ((codes "...on T{a}", fragment_on_t) ∷ (codes "...once", spread_of_once) ∷ []) }
 {}
 
 /// Texts that are not read though they may look so: fields without a type, an extension of a schema with a selection
@@ -38,30 +39,15 @@ pub fn edge_readings()
 /// directive, a description before an extension, brackets and braces without anything in them, `on` without a type
 /// condition, a spread with a selection set, a type that is non-null twice, and a fragment with variables.
 pub fn edge_refusals()
-    ensures untyped_field { (tree : document_kind.Tree) →
-        ReadsAs document_kind.form (codes "type A @d { a }") tree → ⊥ }
-    ensures extended_schema { (tree : document_kind.Tree) →
-        ReadsAs document_kind.form (codes "extend schema @d { a }") tree → ⊥ }
-    ensures name_behind { (tree : document_kind.Tree) →
-        ReadsAs document_kind.form (codes "enum E { a b } { a: b }x") tree → ⊥ }
-    ensures nothing_but_ignored { (tree : document_kind.Tree) →
-        ReadsAs document_kind.form (0xFEFF ∷ codes " # x") tree → ⊥ }
-    ensures interfaces_without_ampersand { (tree : definition_kind.Tree) →
-        ReadsAs definition_kind.form (codes "type A implements B C") tree → ⊥ }
-    ensures extended_directive { (tree : definition_kind.Tree) →
-        ReadsAs definition_kind.form (codes "extend directive @d on FIELD") tree → ⊥ }
-    ensures described_extension { (tree : definition_kind.Tree) →
-        ReadsAs definition_kind.form (codes "\"d\" extend type T @d") tree → ⊥ }
-    ensures fragment_with_variables { (tree : definition_kind.Tree) →
-        ReadsAs definition_kind.form (codes "fragment F($a: Int) on T { a }") tree → ⊥ }
-    ensures no_arguments { (tree : field_kind.Tree) →
-        ReadsAs field_kind.form (codes "f()") tree → ⊥ }
-    ensures no_selections { (tree : field_kind.Tree) →
-        ReadsAs field_kind.form (codes "f {}") tree → ⊥ }
-    ensures on_without_type { (tree : inline_fragment_kind.Tree) →
-        ReadsAs inline_fragment_kind.form (codes "... on { a }") tree → ⊥ }
-    ensures spread_with_set { (tree : fragment_spread_kind.Tree) →
-        ReadsAs fragment_spread_kind.form (codes "... on T { a }") tree → ⊥ }
-    ensures non_null_twice { (tree : variable_definition_kind.Tree) →
-        ReadsAs variable_definition_kind.form (codes "$v: [Int!!]") tree → ⊥ }
+    ensures documents { AreRefused document_kind.form
+        (codes "type A @d { a }" ∷ codes "extend schema @d { a }" ∷ codes "enum E { a b } { a: b }x"
+        ∷ (0xFEFF ∷ codes " # x") ∷ []) }
+    ensures definitions { AreRefused definition_kind.form
+        (codes "type A implements B C" ∷ codes "extend directive @d on FIELD"
+        ∷ codes "\"d\" extend type T @d" ∷ codes "fragment F($a: Int) on T { a }" ∷ []) }
+    ensures fields { AreRefused field_kind.form (codes "f()" ∷ codes "f {}" ∷ []) }
+    ensures inline_fragments { AreRefused inline_fragment_kind.form (codes "... on { a }" ∷ []) }
+    ensures fragment_spreads { AreRefused fragment_spread_kind.form (codes "... on T { a }" ∷ []) }
+    ensures variable_definitions { AreRefused variable_definition_kind.form
+        (codes "$v: [Int!!]" ∷ []) }
 {}

@@ -1,6 +1,7 @@
 //! What layouts give, texts that are read, and texts that are not. Not all of these are printed of any tree.
 ghost use Rattle.std.specs.Prelude.{[], ◌∷◌, ◌≡◌, codes, false, refl, None, Some};
 ghost use Rattle.graphql_text.specs.kinds.Kinds.{layout_of};
+ghost use Rattle.graphql_text.specs.examples.Tables.{AreRead, AreRefused};
 ghost use Rattle.graphql_text.specs.kinds.Reading.{ReadsAs};
 ghost use Rattle.graphql_values.specs.examples.ValueExamples.{bare_directive, named, repeatable_directive};
 ghost use Rattle.graphql_executable.specs.examples.ExecutableExamples.{description, fragment_of_a, query_with_fragments};
@@ -12,6 +13,7 @@ ghost use Rattle.graphql_ast.specs.examples.DocumentExamples.{a_definition, quer
 /// What layouts give, under a prefix and on one line. The shorthand stands only at the very front: not behind another
 /// definition, a description or a prefix, be it an empty one. The empty document is nothing but the indentation of its
 /// first line, and isn't well formed.
+#[tactic(auto, unfolding(graphql_text::specs::layout::Layout::text_of_items, graphql_text::specs::layout::Layout::each_after, graphql_text::specs::layout::Layout::flat, graphql_values::specs::kinds::Directives::directive_shape, graphql_executable::specs::kinds::OperationDefinitions::operation_shape, graphql_executable::specs::kinds::SelectionHeads::field_head_shape, graphql_executable::specs::kinds::Selections::selection_shape, crate::specs::Documents::document_shape, crate::specs::Documents::more_definitions_shape))]
 pub fn worked_layouts()
     ensures document { layout_of document_kind (Some (codes "  ")) 0 (type_and_query None)
         ≡ codes "type A\n\nquery {\n  a\n}\n" }
@@ -63,47 +65,53 @@ pub fn worked_layouts()
 
 /// Each of the seventeen kinds is read as a definition.
 pub fn definitions_are_read()
-    ensures operation { ReadsAs definition_kind.form
-        (codes
-        "query N($v: Int = 1 @d) { r: s(a: $v) @include(if: true) { ...F ... on T { id } } }")
-        (a_definition OperationDefinition query_with_fragments) }
-    ensures fragment { ReadsAs definition_kind.form (codes "fragment F on T @d { a }")
-        (a_definition FragmentDefinition
-        (fragment_of_a None (named (codes "T") refl) (bare_directive (codes "d") refl ∷ []))) }
-    ensures directive { ReadsAs definition_kind.form
-        (codes "directive @d(a: Int @x, b: Int) repeatable on FIELD | QUERY")
-        (a_definition DirectiveDefinition repeatable_directive) }
-    ensures schema { ReadsAs definition_kind.form (codes "schema @d { query: Q mutation: M }")
-        (a_definition SchemaDefinition (plain schema_with_all)) }
-    ensures scalar { ReadsAs definition_kind.form (codes "scalar S @d")
-        (a_definition ScalarTypeDefinition (plain scalar_with_directive)) }
-    ensures object { ReadsAs definition_kind.form
-        (codes "type T implements A & B @d { \"d\" f(a: Int = 1): [String!]! @e }")
-        (a_definition ObjectTypeDefinition (plain type_with_all)) }
-    ensures interface { ReadsAs definition_kind.form (codes "interface T @d")
-        (a_definition InterfaceTypeDefinition (plain type_with_directive)) }
-    ensures union_type { ReadsAs definition_kind.form (codes "union U @d = A | B")
-        (a_definition UnionTypeDefinition (plain union_with_both)) }
-    ensures enum_type { ReadsAs definition_kind.form (codes "enum E @d { A B @e }")
-        (a_definition EnumTypeDefinition (plain enum_with_all)) }
-    ensures input_object { ReadsAs definition_kind.form (codes "input I @d { a: Int = 1 b: Int }")
-        (a_definition InputObjectTypeDefinition (plain input_with_all)) }
-    ensures extended_schema { ReadsAs definition_kind.form
-        (codes "extend schema { subscription: S }")
-        (a_definition SchemaExtension schema_with_operation) }
-    ensures extended_scalar { ReadsAs definition_kind.form (codes "extend scalar S @d")
-        (a_definition ScalarTypeExtension scalar_with_directive) }
-    ensures extended_object { ReadsAs definition_kind.form (codes "extend type T implements A & B")
-        (a_definition ObjectTypeExtension type_with_interfaces) }
-    ensures extended_interface { ReadsAs definition_kind.form (codes "extend interface T @d")
-        (a_definition InterfaceTypeExtension type_with_directive) }
-    ensures extended_union { ReadsAs definition_kind.form (codes "extend union U = A")
-        (a_definition UnionTypeExtension union_with_member) }
-    ensures extended_enum { ReadsAs definition_kind.form (codes "extend enum E { A }")
-        (a_definition EnumTypeExtension enum_with_value) }
-    ensures extended_input_object { ReadsAs definition_kind.form
-        (codes "extend input I { a: Int = 1 }")
-        (a_definition InputObjectTypeExtension input_with_field) }
+    ensures definitions { AreRead definition_kind.form
+        ((
+          codes
+              "query N($v: Int = 1 @d) { r: s(a: $v) @include(if: true) { ...F ... on T { id } } }",
+          a_definition OperationDefinition query_with_fragments,
+        )
+        ∷ (
+          codes "fragment F on T @d { a }",
+          a_definition FragmentDefinition
+              (fragment_of_a None (named (codes "T") refl) (bare_directive (codes "d") refl ∷ [])),
+        )
+        ∷ (
+          codes "directive @d(a: Int @x, b: Int) repeatable on FIELD | QUERY",
+          a_definition DirectiveDefinition repeatable_directive,
+        )
+        ∷ (
+          codes "schema @d { query: Q mutation: M }",
+          a_definition SchemaDefinition (plain schema_with_all),
+        )
+        ∷ (codes "scalar S @d", a_definition ScalarTypeDefinition (plain scalar_with_directive))
+        ∷ (
+          codes "type T implements A & B @d { \"d\" f(a: Int = 1): [String!]! @e }",
+          a_definition ObjectTypeDefinition (plain type_with_all),
+        )
+        ∷ (codes "interface T @d", a_definition InterfaceTypeDefinition (plain type_with_directive))
+        ∷ (codes "union U @d = A | B", a_definition UnionTypeDefinition (plain union_with_both))
+        ∷ (codes "enum E @d { A B @e }", a_definition EnumTypeDefinition (plain enum_with_all))
+        ∷ (
+          codes "input I @d { a: Int = 1 b: Int }",
+          a_definition InputObjectTypeDefinition (plain input_with_all),
+        )
+        ∷ (
+          codes "extend schema { subscription: S }",
+          a_definition SchemaExtension schema_with_operation,
+        )
+        ∷ (codes "extend scalar S @d", a_definition ScalarTypeExtension scalar_with_directive)
+        ∷ (
+          codes "extend type T implements A & B",
+          a_definition ObjectTypeExtension type_with_interfaces,
+        )
+        ∷ (codes "extend interface T @d", a_definition InterfaceTypeExtension type_with_directive)
+        ∷ (codes "extend union U = A", a_definition UnionTypeExtension union_with_member)
+        ∷ (codes "extend enum E { A }", a_definition EnumTypeExtension enum_with_value)
+        ∷ (
+          codes "extend input I { a: Int = 1 }",
+          a_definition InputObjectTypeExtension input_with_field,
+        ) ∷ []) }
     ensures leading_bar { ReadsAs definition_kind.form (codes "union U = | A")
         (a_definition UnionTypeDefinition (plain union_with_member)) }
 {}
@@ -126,40 +134,16 @@ pub fn worked_readings()
 /// Texts that are read as no definition: a selection set without a selection, fields without a type, extensions that
 /// add nothing, a directive definition without a location, and a description before the shorthand or an extension.
 pub fn refused_definitions()
-    ensures empty_operation { (tree : definition_kind.Tree) →
-        ReadsAs definition_kind.form (codes "{}") tree → ⊥ }
-    ensures untyped_field { (tree : definition_kind.Tree) →
-        ReadsAs definition_kind.form (codes "type A { a }") tree → ⊥ }
-    ensures empty_scalar_extension { (tree : definition_kind.Tree) →
-        ReadsAs definition_kind.form (codes "extend scalar A") tree → ⊥ }
-    ensures empty_object_extension { (tree : definition_kind.Tree) →
-        ReadsAs definition_kind.form (codes "extend type T") tree → ⊥ }
-    ensures directive_without_location { (tree : definition_kind.Tree) →
-        ReadsAs definition_kind.form (codes "directive @d") tree → ⊥ }
-    ensures described_shorthand { (tree : definition_kind.Tree) →
-        ReadsAs definition_kind.form (codes "\"D\" { a }") tree → ⊥ }
-    ensures described_extension { (tree : definition_kind.Tree) →
-        ReadsAs definition_kind.form (codes "\"D\" extend scalar A @d") tree → ⊥ }
-    ensures no_definition { (tree : definition_kind.Tree) →
-        ReadsAs definition_kind.form (codes "") tree → ⊥ }
+    ensures { AreRefused definition_kind.form
+        (codes "{}" ∷ codes "type A { a }" ∷ codes "extend scalar A" ∷ codes "extend type T"
+        ∷ codes "directive @d" ∷ codes "\"D\" { a }" ∷ codes "\"D\" extend scalar A @d"
+        ∷ codes "" ∷ []) }
 {}
 
 /// Texts that are read as no document: those of which none is a definition, and the empty text.
 pub fn refused_documents()
-    ensures empty_operation { (tree : document_kind.Tree) →
-        ReadsAs document_kind.form (codes "{}") tree → ⊥ }
-    ensures untyped_field { (tree : document_kind.Tree) →
-        ReadsAs document_kind.form (codes "type A { a }") tree → ⊥ }
-    ensures empty_scalar_extension { (tree : document_kind.Tree) →
-        ReadsAs document_kind.form (codes "extend scalar A") tree → ⊥ }
-    ensures empty_object_extension { (tree : document_kind.Tree) →
-        ReadsAs document_kind.form (codes "extend type T") tree → ⊥ }
-    ensures described_shorthand { (tree : document_kind.Tree) →
-        ReadsAs document_kind.form (codes "\"D\" { a }") tree → ⊥ }
-    ensures described_extension { (tree : document_kind.Tree) →
-        ReadsAs document_kind.form (codes "\"D\" extend scalar A @d") tree → ⊥ }
-    ensures description_alone { (tree : document_kind.Tree) →
-        ReadsAs document_kind.form (codes "type A \"D\"") tree → ⊥ }
-    ensures empty_text { (tree : document_kind.Tree) →
-        ReadsAs document_kind.form (codes "") tree → ⊥ }
+    ensures { AreRefused document_kind.form
+        (codes "{}" ∷ codes "type A { a }" ∷ codes "extend scalar A" ∷ codes "extend type T"
+        ∷ codes "\"D\" { a }" ∷ codes "\"D\" extend scalar A @d" ∷ codes "type A \"D\""
+        ∷ codes "" ∷ []) }
 {}

@@ -11,7 +11,7 @@ abbrev pub begins_with_name : List ℕ → Bool
 begins_with_name [] = false
 begins_with_name (first ∷ _) = not (first == 0x5B)
 
--- The path of a place, told from the object that has it in a member.
+-- The path of a position, told from the object that has it in a member.
 abbrev pub path_in : List ℕ → List ℕ → List ℕ
 path_in name path = if begins_with_name path then name ++ 0x2E ∷ path else name ++ path
 

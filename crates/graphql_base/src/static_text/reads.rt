@@ -5,7 +5,7 @@ use super::Readable;
 use std::slice;
 
 impl Readable {
-    /// The place where static bytes lie, and the right to read them there.
+    /// The address where static bytes lie, and the right to read them there.
     pub(crate) fn of(bytes: &'static [u8]) -> (*const u8, Readable)
         ensures { (result.1.at ≡ result.0) × (result.1.bytes ≡ bytes.now) }
     {

@@ -166,3 +166,10 @@ pub empty_inline_shape : (n : Node InlineFragment) → has_set (selection_tree (
 empty_inline_shape n none =
     ap selection_shape (selection_is_inline n)
     ∙ empty_inline (inline_fragment_tree n.value).head (inline_fragment_tree n.value).selections (rw (selection_is_inline n) at none)
+
+-- what the walk over selections cites
+pub ruleset selection_obeys_steps = (obeys_field, obeys_spread, obeys_inline)
+
+pub ruleset selection_nesting_steps = (nesting_field, nesting_spread, nesting_inline)
+
+pub ruleset selection_set_steps = (has_set_field, has_set_spread, has_set_inline)

@@ -28,7 +28,7 @@ variable_definition_body = record {
   form = λ variable.
       token (Punctuation dollar) ⨟ name_except [] variable.name ⨟ token (Punctuation colon) ⨟ type_form variable.type
       ⨟ default_value_form variable.default_value ⨟ directives_form Const variable.directives;
-  -- the side conditions are those of the default value and the directives, both at constant places
+  -- the side conditions are those of the default value and the directives, both in const contexts
   obeys = λ variable. default_value_obeys variable.default_value && directives_obey Const variable.directives;
   -- the layout of a variable definition, behind its description
   shape = λ broken front variable.

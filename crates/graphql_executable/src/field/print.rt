@@ -22,11 +22,11 @@ use crate::stacks::ExecutableStacks;
 use graphql_base::name::Name;
 use graphql_text::engine::{Serialize, Syntax, SyntaxTree};
 use graphql_text::writers::{
-    Place, Stack, Start, Target, Written, write_name, write_whole, write_words,
+    Depths, Place, Stack, Start, Target, Written, write_name, write_whole, write_words,
 };
 use graphql_values::writers::{
     Constness, ValueEntry, are_arguments_well_formed, are_directives_well_formed,
-    find_arguments_nesting,
+    find_arguments_nesting, find_directives_nesting,
 };
 use std::alloc::AllocError;
 use std::fmt;
@@ -47,7 +47,7 @@ pub(crate) fn find_field_head_nesting(field: &Field) -> Option<usize>
     ensures { IsCount result (field_head_nesting (field_tree field.now).head) }
 {
     let arguments = find_arguments_nesting(&field.arguments)?;
-    Some(arguments.max(field.directives.find_nesting()?))
+    Some(arguments.max(find_directives_nesting(&field.directives)?))
 }
 
 /// Writes an alias and `:`; nothing where there is none.
@@ -121,9 +121,10 @@ impl SyntaxTree for Field {
     }
 
     #[tactic(auto, using(crate::proofs::layout::SelectionShapes::field_selections_are))]
-    fn find_nesting(&self) -> Option<usize> {
+    fn find_depths(&self) -> Option<Depths> {
         let head = find_field_head_nesting(self)?;
-        Some(head.max(find_selection_set_nesting(&self.selection_set)?))
+        let selections = find_selection_set_nesting(&self.selection_set)?;
+        Some(Depths::without_types(head.max(selections)))
     }
 }
 
@@ -134,8 +135,8 @@ impl Syntax for Field {
 }
 
 impl<'t> Written<'t, ExecutableStacks<'t>> for Field {
-    fn reserve(&'t self, depth: usize) -> Result<ExecutableStacks<'t>, AllocError> {
-        ExecutableStacks::reserve(self.directives.allocator(), depth, Some(0))
+    fn reserve(&'t self, depths: Depths) -> Result<ExecutableStacks<'t>, AllocError> {
+        ExecutableStacks::reserve(self.directives.allocator(), depths)
     }
 
     fn write_at<O: Target>(

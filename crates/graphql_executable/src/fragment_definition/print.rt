@@ -14,9 +14,10 @@ use crate::selection::print::{
 use crate::stacks::ExecutableStacks;
 use graphql_text::engine::{Serialize, Syntax, SyntaxTree};
 use graphql_text::writers::{
-    Place, Start, Target, Written, write_leading_description, write_name, write_whole, write_words,
+    Depths, Place, Start, Target, Written, write_leading_description, write_name, write_whole,
+    write_words,
 };
-use graphql_values::writers::{Constness, are_directives_well_formed};
+use graphql_values::writers::{Constness, are_directives_well_formed, find_directives_nesting};
 use std::alloc::AllocError;
 use std::fmt;
 
@@ -51,9 +52,10 @@ impl SyntaxTree for FragmentDefinition {
         FragmentDefinition::is_well_formed(self)
     }
 
-    fn find_nesting(&self) -> Option<usize> {
-        let directives = self.directives.find_nesting()?;
-        Some(directives.max(find_selection_set_nesting(&self.selection_set)?))
+    fn find_depths(&self) -> Option<Depths> {
+        let directives = find_directives_nesting(&self.directives)?;
+        let selections = find_selection_set_nesting(&self.selection_set)?;
+        Some(Depths::without_types(directives.max(selections)))
     }
 }
 
@@ -64,8 +66,8 @@ impl Syntax for FragmentDefinition {
 }
 
 impl<'t> Written<'t, ExecutableStacks<'t>> for FragmentDefinition {
-    fn reserve(&'t self, depth: usize) -> Result<ExecutableStacks<'t>, AllocError> {
-        ExecutableStacks::reserve(self.directives.allocator(), depth, Some(0))
+    fn reserve(&'t self, depths: Depths) -> Result<ExecutableStacks<'t>, AllocError> {
+        ExecutableStacks::reserve(self.directives.allocator(), depths)
     }
 
     fn write_at<O: Target>(

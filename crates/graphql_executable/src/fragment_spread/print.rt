@@ -11,7 +11,7 @@ use crate::fragment_spread::FragmentSpread;
 use crate::optional_parts::write_optional_directives;
 use graphql_text::engine::{Serialize, Syntax, SyntaxTree};
 use graphql_text::writers::{
-    Place, Stack, Start, Target, Written, write_name, write_whole, write_words,
+    Depths, Place, Stack, Start, Target, Written, write_name, write_whole, write_words,
 };
 use graphql_values::writers::{Constness, ValueEntry, are_directives_well_formed};
 use std::alloc::AllocError;
@@ -55,8 +55,8 @@ impl SyntaxTree for FragmentSpread {
         FragmentSpread::is_well_formed(self)
     }
 
-    fn find_nesting(&self) -> Option<usize> {
-        self.directives.find_nesting()
+    fn find_depths(&self) -> Option<Depths> {
+        self.directives.find_depths()
     }
 }
 
@@ -67,8 +67,8 @@ impl Syntax for FragmentSpread {
 }
 
 impl<'t> Written<'t, Stack<ValueEntry<'t>>> for FragmentSpread {
-    fn reserve(&'t self, depth: usize) -> Result<Stack<ValueEntry<'t>>, AllocError> {
-        Stack::reserve(Some(self.directives.allocator()), depth)
+    fn reserve(&'t self, depths: Depths) -> Result<Stack<ValueEntry<'t>>, AllocError> {
+        Stack::reserve(Some(self.directives.allocator()), depths.nesting)
     }
 
     fn write_at<O: Target>(

@@ -23,9 +23,11 @@ use crate::stacks::ExecutableStacks;
 use graphql_base::name::NamedType;
 use graphql_text::engine::{Serialize, Syntax, SyntaxTree};
 use graphql_text::writers::{
-    Place, Stack, Start, Target, Written, write_name, write_whole, write_words,
+    Depths, Place, Stack, Start, Target, Written, write_name, write_whole, write_words,
 };
-use graphql_values::writers::{Constness, ValueEntry, are_directives_well_formed};
+use graphql_values::writers::{
+    Constness, ValueEntry, are_directives_well_formed, find_directives_nesting,
+};
 use std::alloc::AllocError;
 use std::fmt;
 
@@ -44,7 +46,7 @@ pub(crate) fn find_inline_fragment_head_nesting(fragment: &InlineFragment) -> Op
     ensures { IsCount result
         (inline_fragment_head_nesting (inline_fragment_tree fragment.now).head) }
 {
-    fragment.directives.find_nesting()
+    find_directives_nesting(&fragment.directives)
 }
 
 /// Writes `on` and a type; nothing where there is none.
@@ -116,9 +118,10 @@ impl SyntaxTree for InlineFragment {
     }
 
     #[tactic(auto, using(crate::proofs::layout::SelectionShapes::inline_selections_are))]
-    fn find_nesting(&self) -> Option<usize> {
+    fn find_depths(&self) -> Option<Depths> {
         let head = find_inline_fragment_head_nesting(self)?;
-        Some(head.max(find_selection_set_nesting(&self.selection_set)?))
+        let selections = find_selection_set_nesting(&self.selection_set)?;
+        Some(Depths::without_types(head.max(selections)))
     }
 }
 
@@ -129,8 +132,8 @@ impl Syntax for InlineFragment {
 }
 
 impl<'t> Written<'t, ExecutableStacks<'t>> for InlineFragment {
-    fn reserve(&'t self, depth: usize) -> Result<ExecutableStacks<'t>, AllocError> {
-        ExecutableStacks::reserve(self.directives.allocator(), depth, Some(0))
+    fn reserve(&'t self, depths: Depths) -> Result<ExecutableStacks<'t>, AllocError> {
+        ExecutableStacks::reserve(self.directives.allocator(), depths)
     }
 
     fn write_at<O: Target>(

@@ -1,6 +1,7 @@
 //! What layouts give, texts that are read, and texts that are not. Not all of these are printed of any tree.
 ghost use Rattle.std.specs.Prelude.{[], ◌∷◌, ◌++◌, ◌≡◌, codes, refl, None, Some};
 ghost use Rattle.graphql_text.specs.kinds.Kinds.{layout_of};
+ghost use Rattle.graphql_text.specs.examples.Tables.{AreRead, AreRefused};
 ghost use Rattle.graphql_text.specs.kinds.Reading.{ReadsAs};
 ghost use Rattle.graphql_values.specs.examples.ValueExamples.{bare_directive, named};
 ghost use Rattle.graphql_values.specs.kinds.OperationTypes.{Mutation, Query, Subscription};
@@ -16,6 +17,7 @@ ghost use Rattle.graphql_executable.specs.kinds.VariableDefinitions.{variable_de
 /// What layouts give, under a prefix and on one line. The shorthand stands only where nothing is written before the
 /// query, be it a prefix. Variable definitions stand on one line unless one of them has a description: a directive
 /// breaks nothing.
+#[tactic(auto, unfolding(graphql_text::specs::layout::Layout::text_of_items, graphql_text::specs::layout::Layout::each_after, graphql_text::specs::layout::Layout::flat, graphql_values::specs::kinds::Directives::directive_shape, graphql_values::specs::kinds::TypeReferences::type_shape, crate::specs::kinds::FragmentSpreads::fragment_spread_shape, crate::specs::kinds::OperationDefinitions::operation_shape, crate::specs::kinds::SelectionHeads::field_head_shape, crate::specs::kinds::SelectionHeads::inline_fragment_head_shape, crate::specs::kinds::Selections::selection_shape))]
 pub fn worked_layouts()
     ensures fragments { layout_of operation_definition_kind None 0 query_with_fragments
         ≡ codes
@@ -73,39 +75,40 @@ pub fn worked_layouts()
 
 /// Texts that are read, and as what: each word of these kinds stands in one of them.
 pub fn worked_readings()
-    ensures fragments { ReadsAs operation_definition_kind.form
-        (codes
-        "query N($v: Int = 1 @d) { r: s(a: $v) @include(if: true) { ...F ... on T { id } } }")
-        query_with_fragments }
+    ensures operation_definitions { AreRead operation_definition_kind.form
+        ((
+          codes
+              "query N($v: Int = 1 @d) { r: s(a: $v) @include(if: true) { ...F ... on T { id } } }",
+          query_with_fragments,
+        ) ∷ (codes "query{a}", query_of_a None)
+        ∷ (codes "mutation { a }", operation_of_a Mutation None [] [])
+        ∷ (
+          codes "subscription @d,{,a #{\n}",
+          operation_of_a Subscription None [] (bare_directive (codes "d") refl ∷ []),
+        )
+        ∷ (codes "\"D\" query { a }", query_of_a (description (codes "D") refl))
+        ∷ (codes "\"\"\"\n  D\n\"\"\"query{a}", query_of_a (description (codes "D") refl))
+        ∷ (
+          codes "query(\"V\" $v: Int) { a }",
+          operation_of_a Query None (described_variable ∷ []) [],
+        )
+        ∷ (codes "query N(\"A\" $a: Int, $b: Int = 1) { a }", query_with_described_variable) ∷ []) }
     ensures shorthand { ReadsAs operation_definition_kind.form (codes "{ a }") (query_of_a None) }
-    ensures query { ReadsAs operation_definition_kind.form (codes "query{a}") (query_of_a None) }
-    ensures mutation { ReadsAs operation_definition_kind.form (codes "mutation { a }")
-        (operation_of_a Mutation None [] []) }
-    ensures subscription { ReadsAs operation_definition_kind.form
-        (codes "subscription @d,{,a #{\n}")
-        (operation_of_a Subscription None [] (bare_directive (codes "d") refl ∷ [])) }
-    ensures described { ReadsAs operation_definition_kind.form (codes "\"D\" query { a }")
-        (query_of_a (description (codes "D") refl)) }
-    ensures described_by_block { ReadsAs operation_definition_kind.form
-        (codes "\"\"\"\n  D\n\"\"\"query{a}")
-        (query_of_a (description (codes "D") refl)) }
-    ensures variable_of_query { ReadsAs operation_definition_kind.form
-        (codes "query(\"V\" $v: Int) { a }")
-        (operation_of_a Query None (described_variable ∷ []) []) }
-    ensures described_variable { ReadsAs operation_definition_kind.form
-        (codes "query N(\"A\" $a: Int, $b: Int = 1) { a }") query_with_described_variable }
-    ensures variable { ReadsAs variable_definition_kind.form
-        (codes "$v:[Int]=[1]@d") variable_with_directive }
-    ensures spread { ReadsAs selection_kind.form (codes "... F @a(x: $v)") spread_with_directive }
-    ensures untyped_inline_fragment { ReadsAs selection_kind.form
-        (codes "...@d{a}") untyped_inline_fragment }
-    ensures fragment { ReadsAs fragment_definition_kind.form (codes "fragment F on T @d { a }")
-        (fragment_of_a None (named (codes "T") refl) (bare_directive (codes "d") refl ∷ [])) }
-    ensures fragment_on_on { ReadsAs fragment_definition_kind.form (codes "fragment F on on { a }")
-        (fragment_of_a None (named (codes "on") refl) []) }
-    ensures described_fragment { ReadsAs fragment_definition_kind.form
-        (codes "\"\"\"\nx\ny\n\"\"\"\nfragment F on T {\n  a\n}")
-        (fragment_of_a (description (codes "x\ny") refl) (named (codes "T") refl) []) }
+    ensures variable_definitions { AreRead variable_definition_kind.form
+        ((codes "$v:[Int]=[1]@d", variable_with_directive) ∷ []) }
+    ensures selections { AreRead selection_kind.form
+        ((codes "... F @a(x: $v)", spread_with_directive)
+        ∷ (codes "...@d{a}", untyped_inline_fragment) ∷ []) }
+    ensures fragment_definitions { AreRead fragment_definition_kind.form
+        ((
+          codes "fragment F on T @d { a }",
+          fragment_of_a None (named (codes "T") refl) (bare_directive (codes "d") refl ∷ []),
+        )
+        ∷ (codes "fragment F on on { a }", fragment_of_a None (named (codes "on") refl) [])
+        ∷ (
+          codes "\"\"\"\nx\ny\n\"\"\"\nfragment F on T {\n  a\n}",
+          fragment_of_a (description (codes "x\ny") refl) (named (codes "T") refl) [],
+        ) ∷ []) }
 {}
 
 /// Texts that are read as no operation: selection sets without a selection, the shorthand with a description, brackets
@@ -114,33 +117,14 @@ pub fn worked_readings()
 /// fragment: one without a selection, and one without a set; as no fragment definition: one that is named `on`, one
 /// without a type condition, and one without a selection.
 pub fn refused_readings()
-    ensures empty_operation { (tree : operation_definition_kind.Tree) →
-        ReadsAs operation_definition_kind.form (codes "{}") tree → ⊥ }
-    ensures empty_query { (tree : operation_definition_kind.Tree) →
-        ReadsAs operation_definition_kind.form (codes "query {}") tree → ⊥ }
-    ensures described_shorthand { (tree : operation_definition_kind.Tree) →
-        ReadsAs operation_definition_kind.form (codes "\"D\" { a }") tree → ⊥ }
-    ensures no_variables { (tree : operation_definition_kind.Tree) →
-        ReadsAs operation_definition_kind.form (codes "query() { a }") tree → ⊥ }
-    ensures variable_in_default { (tree : operation_definition_kind.Tree) →
-        ReadsAs operation_definition_kind.form (codes "query($v: Int = $x) { a }") tree → ⊥ }
-    ensures variable_in_directive { (tree : operation_definition_kind.Tree) →
-        ReadsAs operation_definition_kind.form (codes "query($v: Int @d(a: $x)) { a }") tree → ⊥ }
-    ensures empty_field { (tree : field_kind.Tree) →
-        ReadsAs field_kind.form (codes "a {}") tree → ⊥ }
-    ensures no_arguments { (tree : field_kind.Tree) →
-        ReadsAs field_kind.form (codes "a()") tree → ⊥ }
-    ensures alias_alone { (tree : field_kind.Tree) → ReadsAs field_kind.form (codes "a:") tree → ⊥ }
-    ensures spread_of_on { (tree : fragment_spread_kind.Tree) →
-        ReadsAs fragment_spread_kind.form (codes "...on") tree → ⊥ }
-    ensures empty_inline_fragment { (tree : inline_fragment_kind.Tree) →
-        ReadsAs inline_fragment_kind.form (codes "... {}") tree → ⊥ }
-    ensures inline_fragment_without_set { (tree : inline_fragment_kind.Tree) →
-        ReadsAs inline_fragment_kind.form (codes "... on T") tree → ⊥ }
-    ensures fragment_named_on { (tree : fragment_definition_kind.Tree) →
-        ReadsAs fragment_definition_kind.form (codes "fragment on on T { a }") tree → ⊥ }
-    ensures untyped_fragment { (tree : fragment_definition_kind.Tree) →
-        ReadsAs fragment_definition_kind.form (codes "fragment F { a }") tree → ⊥ }
-    ensures empty_fragment { (tree : fragment_definition_kind.Tree) →
-        ReadsAs fragment_definition_kind.form (codes "fragment F on T {}") tree → ⊥ }
+    ensures operation_definitions { AreRefused operation_definition_kind.form
+        (codes "{}" ∷ codes "query {}" ∷ codes "\"D\" { a }" ∷ codes "query() { a }"
+        ∷ codes "query($v: Int = $x) { a }" ∷ codes "query($v: Int @d(a: $x)) { a }" ∷ []) }
+    ensures fields { AreRefused field_kind.form (codes "a {}" ∷ codes "a()" ∷ codes "a:" ∷ []) }
+    ensures fragment_spreads { AreRefused fragment_spread_kind.form (codes "...on" ∷ []) }
+    ensures inline_fragments { AreRefused inline_fragment_kind.form
+        (codes "... {}" ∷ codes "... on T" ∷ []) }
+    ensures fragment_definitions { AreRefused fragment_definition_kind.form
+        (codes "fragment on on T { a }" ∷ codes "fragment F { a }"
+        ∷ codes "fragment F on T {}" ∷ []) }
 {}

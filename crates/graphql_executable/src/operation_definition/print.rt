@@ -23,11 +23,13 @@ use crate::variable_definition::print::some_variables_want_lines;
 use graphql_base::name::Name;
 use graphql_text::engine::{Serialize, Syntax, SyntaxTree};
 use graphql_text::writers::{
-    HasTypes, Place, Start, Target, Written, are_parts_well_formed, find_parts_list_depth,
-    find_parts_nesting, write_first_indent, write_leading_description, write_name, write_words,
+    Depths, Place, Start, Target, Written, are_parts_well_formed, find_parts_depths,
+    write_first_indent, write_leading_description, write_name, write_words,
 };
 use graphql_values::operation_type::OperationType;
-use graphql_values::writers::{Constness, are_directives_well_formed, write_parameters};
+use graphql_values::writers::{
+    Constness, are_directives_well_formed, find_directives_nesting, write_parameters,
+};
 use std::alloc::AllocError;
 use std::fmt;
 
@@ -127,23 +129,17 @@ impl SyntaxTree for OperationDefinition {
         OperationDefinition::is_well_formed(self)
     }
 
-    fn find_nesting(&self) -> Option<usize> {
-        let variables = find_parts_nesting(&self.variables)?;
-        let directives = self.directives.find_nesting()?;
+    fn find_depths(&self) -> Option<Depths> {
+        let variables = find_parts_depths(&self.variables)?;
+        let directives = find_directives_nesting(&self.directives)?;
         let selections = find_selection_set_nesting(&self.selection_set)?;
-        Some(variables.max(directives.max(selections)))
-    }
-}
-
-impl HasTypes for OperationDefinition {
-    fn find_list_depth(&self) -> Option<usize> {
-        find_parts_list_depth(&self.variables)
+        Some(variables.max(Depths::without_types(directives.max(selections))))
     }
 }
 
 impl Syntax for OperationDefinition {
     fn write<O: Target>(&self, out: &mut O, start: &Start<'_>) -> Result<(), AllocError> {
-        let mut stacks = self.reserve(start.depth)?;
+        let mut stacks = self.reserve(start.depths)?;
         write_first_indent(out, &start.place);
         write_first_operation_definition(out, &start.place, &mut stacks, self);
         Ok(())
@@ -151,8 +147,8 @@ impl Syntax for OperationDefinition {
 }
 
 impl<'t> Written<'t, ExecutableStacks<'t>> for OperationDefinition {
-    fn reserve(&'t self, depth: usize) -> Result<ExecutableStacks<'t>, AllocError> {
-        ExecutableStacks::reserve(self.directives.allocator(), depth, self.find_list_depth())
+    fn reserve(&'t self, depths: Depths) -> Result<ExecutableStacks<'t>, AllocError> {
+        ExecutableStacks::reserve(self.directives.allocator(), depths)
     }
 
     /// Not in shorthand, since something stands before it.

@@ -27,16 +27,16 @@ use crate::selection::Selection;
 use crate::stacks::{ExecutableStacks, SelectionEntry};
 use graphql_text::engine::{Serialize, Syntax, SyntaxTree};
 use graphql_text::writers::{
-    Place, Stack, Start, Target, Written, write_soft, write_whole, write_words,
+    Depths, Place, Stack, Start, Target, Written, write_soft, write_whole, write_words,
 };
-use graphql_values::writers::ValueEntry;
+use graphql_values::writers::{ValueEntry, find_directives_nesting};
 use std::alloc::{AllocError, Global};
 use std::fmt;
 
 /// Whether a selection is well formed: no fragment spread in it is named `on`, each inline fragment in it has a
 /// selection, and no enum value in its arguments and directives is `true`, `false` or `null`.
 #[cycle(selection_is_well_formed)]
-#[tactic(auto, using(crate::proofs::layout::SelectionShapes::obeys_field, crate::proofs::layout::SelectionShapes::obeys_spread, crate::proofs::layout::SelectionShapes::obeys_inline))]
+#[tactic(auto, using(crate::proofs::layout::SelectionShapes::selection_obeys_steps))]
 fn is_selection_well_formed(selection: &Selection) -> bool
     ensures { result ≡ selection_obeys (selection_tree selection.now) }
 {
@@ -73,7 +73,7 @@ pub(crate) fn is_selection_set_well_formed(selections: &[Selection]) -> bool
 
 /// How deep the groups of a selection stand in one another. `None` if it is above `usize::MAX`.
 #[cycle(nesting)]
-#[tactic(auto, using(crate::proofs::layout::SelectionShapes::nesting_field, crate::proofs::layout::SelectionShapes::nesting_spread, crate::proofs::layout::SelectionShapes::nesting_inline))]
+#[tactic(auto, using(crate::proofs::layout::SelectionShapes::selection_nesting_steps))]
 fn find_selection_nesting(selection: &Selection) -> Option<usize>
     ensures { IsCount result (selection_nesting (selection_tree selection.now)) }
 {
@@ -82,7 +82,7 @@ fn find_selection_nesting(selection: &Selection) -> Option<usize>
             let head = find_field_head_nesting(field)?;
             Some(head.max(find_selection_set_nesting(&field.selection_set)?))
         }
-        Selection::FragmentSpread(spread) => spread.find_nesting(),
+        Selection::FragmentSpread(spread) => find_directives_nesting(&spread.directives),
         Selection::InlineFragment(fragment) => {
             let head = find_inline_fragment_head_nesting(fragment)?;
             Some(head.max(find_selection_set_nesting(&fragment.selection_set)?))
@@ -232,7 +232,7 @@ fn open_selection<'a, O: Target>(
 
 /// Whether there are selections within a selection. Any other is written whole at once.
 #[inline(always)]
-#[tactic(auto, using(crate::proofs::layout::SelectionShapes::has_set_field, crate::proofs::layout::SelectionShapes::has_set_spread, crate::proofs::layout::SelectionShapes::has_set_inline))]
+#[tactic(auto, using(crate::proofs::layout::SelectionShapes::selection_set_steps))]
 fn has_set(selection: &Selection) -> bool
     ensures { result ≡ has_set (selection_tree selection.now) }
 {
@@ -245,7 +245,7 @@ fn has_set(selection: &Selection) -> bool
 
 /// Writes a selection without selections of its own.
 #[inline(always)]
-#[tactic(auto, using(crate::proofs::layout::SelectionShapes::nesting_field, crate::proofs::layout::SelectionShapes::nesting_spread, crate::proofs::layout::SelectionShapes::nesting_inline))]
+#[tactic(auto, using(crate::proofs::layout::SelectionShapes::selection_nesting_steps))]
 fn write_leaf<'a, O: Target>(
     out: &mut O,
     place: &Place<'_>,
@@ -427,8 +427,8 @@ impl SyntaxTree for Selection {
         Selection::is_well_formed(self)
     }
 
-    fn find_nesting(&self) -> Option<usize> {
-        find_selection_nesting(self)
+    fn find_depths(&self) -> Option<Depths> {
+        Some(Depths::without_types(find_selection_nesting(self)?))
     }
 }
 
@@ -439,8 +439,8 @@ impl Syntax for Selection {
 }
 
 impl<'t> Written<'t, ExecutableStacks<'t>> for Selection {
-    fn reserve(&'t self, depth: usize) -> Result<ExecutableStacks<'t>, AllocError> {
-        ExecutableStacks::reserve(self.allocator(), depth, Some(0))
+    fn reserve(&'t self, depths: Depths) -> Result<ExecutableStacks<'t>, AllocError> {
+        ExecutableStacks::reserve(self.allocator(), depths)
     }
 
     fn write_at<O: Target>(

@@ -12,12 +12,13 @@ use crate::variable_definition::VariableDefinition;
 use graphql_base::node::Node;
 use graphql_text::engine::{Serialize, Syntax, SyntaxTree};
 use graphql_text::writers::{
-    HasTypes, Place, Start, Target, Written, write_leading_description, write_name, write_whole,
+    Depths, Place, Start, Target, Written, write_leading_description, write_name, write_whole,
     write_words,
 };
 use graphql_values::writers::{
-    Constness, Stacks, are_directives_well_formed, find_default_value_nesting, find_list_depth,
-    is_default_value_well_formed, write_default_value, write_type,
+    Constness, Stacks, are_directives_well_formed, find_default_value_nesting,
+    find_directives_nesting, find_list_depth, is_default_value_well_formed, write_default_value,
+    write_type,
 };
 use std::alloc::AllocError;
 use std::fmt;
@@ -66,15 +67,12 @@ impl SyntaxTree for VariableDefinition {
         VariableDefinition::is_well_formed(self)
     }
 
-    fn find_nesting(&self) -> Option<usize> {
+    fn find_depths(&self) -> Option<Depths> {
         let value = find_default_value_nesting(self.default_value.as_ref())?;
-        Some(value.max(self.directives.find_nesting()?))
-    }
-}
-
-impl HasTypes for VariableDefinition {
-    fn find_list_depth(&self) -> Option<usize> {
-        find_list_depth(&self.ty)
+        Some(Depths {
+            nesting: value.max(find_directives_nesting(&self.directives)?),
+            lists: find_list_depth(&self.ty),
+        })
     }
 }
 
@@ -85,8 +83,8 @@ impl Syntax for VariableDefinition {
 }
 
 impl<'t> Written<'t, Stacks<'t>> for VariableDefinition {
-    fn reserve(&'t self, depth: usize) -> Result<Stacks<'t>, AllocError> {
-        Stacks::reserve(self.directives.allocator(), depth, self.find_list_depth())
+    fn reserve(&'t self, depths: Depths) -> Result<Stacks<'t>, AllocError> {
+        Stacks::reserve(self.directives.allocator(), depths)
     }
 
     fn write_at<O: Target>(&'t self, out: &mut O, place: &Place<'_>, stacks: &mut Stacks<'t>) {

@@ -1,12 +1,13 @@
 -- What a writer does with the items of a layout. `wrote a bytes b` says what a target does with bytes, from a to b.
 use Rattle.std.specs.Prelude.{◌≡◌, ℕ, ◌+◌, List, [], ◌∷◌, ◌++◌, codes, false, if◌then◌else◌, Option, None, Some, option_map, encode_utf8_all, ⊤}
-use Rattle.std.specs.Borrow.{Bor}
 use Rattle.graphql_base.specs.Names.{is_name}
 use Rattle.graphql_text.specs.lexical.Tokens.{Punctuation, Name, punctuator_text}
 use Rattle.graphql_text.specs.layout.Layout.{Item, Word, Space, Comma, Soft, item_text, raises, lowers, text_of_items, is_front, layout}
 use Rattle.graphql_text.specs.code.Place.{mode_of, breaks}
 use Rattle.graphql_text.specs.kinds.Kinds.{Kind, layout_of}
+use Rattle.graphql_text.specs.code.Breaks.{ready_comma_text}
 use Rattle.graphql_text.specs.declared.place.Place.{Place}
+use Rattle.graphql_text.specs.declared.ready_breaks.ReadyCommaBreak.{ReadyCommaBreak}
 
 -- From a to b the text of the items was written, in UTF-8, at a level. They raise it as often as they lower it.
 pub record WritesItems {O : Type 0} (wrote : O → List ℕ → O → Type 0) (a b : O) (mode : Option (List ℕ)) (level : ℕ) (items : List Item) : Type 0 where
@@ -68,6 +69,6 @@ fixed_text [] = Some []
 fixed_text (item ∷ items) = after_text (fixed_item_text item) (fixed_text items)
 
 -- What leads to a further item of a comma group at a place, or nothing is said.
-abbrev pub IsCommaLead : Option (List ℕ) → ℕ → Option (Bor (List ℕ)) → Type 0
+abbrev pub IsCommaLead : Option (List ℕ) → ℕ → Option ReadyCommaBreak → Type 0
 IsCommaLead mode level None = ⊤
-IsCommaLead mode level (Some text) = text.now ≡ encode_utf8_all (codes "," ++ item_text mode level Soft)
+IsCommaLead mode level (Some ready) = ready_comma_text ready ≡ encode_utf8_all (codes "," ++ item_text mode level Soft)

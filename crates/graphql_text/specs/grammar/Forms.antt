@@ -61,6 +61,11 @@ pub data TokenClass : Type 0 where
   a_name : List (List ℕ) → TokenClass
   an_int a_float a_string_value : TokenClass
 
+-- the classes of some punctuators
+abbrev pub marks : List Punctuator → List TokenClass
+marks [] = []
+marks (mark ∷ more) = a_punctuator mark ∷ marks more
+
 -- whether a token is of a class
 abbrev pub admits : TokenClass → Token → Bool
 admits (a_punctuator mark) (Punctuation other) = pointwise nat_eq (punctuator_text mark) (punctuator_text other)

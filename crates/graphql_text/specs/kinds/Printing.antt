@@ -1,7 +1,7 @@
 -- What a print is asked for, and how what was printed is read.
 use Rattle.std.specs.Prelude.{◌≡◌, ◌↔◌, ℕ, List, Option, Some, IsTrue, MatchOption, codes, encode_utf8_all}
 use Rattle.graphql_text.specs.kinds.Kinds.{Kind, layout_of}
-use Rattle.graphql_text.specs.layout.Levels.{Overflows}
+use Rattle.graphql_text.specs.layout.Levels.{HasDepths, Overflows}
 use Rattle.graphql_text.specs.code.Place.{mode_of}
 use Rattle.graphql_text.specs.kinds.Reading.{ReadsAlone}
 use Rattle.graphql_text.specs.declared.engine.Serialize.{Serialize}
@@ -28,9 +28,9 @@ module _ {T : Type 0} where
   abbrev pub PrintOverflows : (kind : Kind) → (T → kind.Tree) → Serialize T → Type 0
   PrintOverflows kind tree_of s = Overflows (print_level s) (kind.nesting (tree_of (print_tree s)))
 
-  -- There the print begins, with the nesting depth of its tree.
-  pub record IsStart (kind : Kind) (tree_of : T → kind.Tree) (s : Serialize T) (start : Start) : Type 0 where
-    pub depth : start.depth ≡ kind.nesting (tree_of (print_tree s))
+  -- There the print begins, with the depths of its tree.
+  pub record IsStart (kind : Kind) (tree_of : T → kind.Tree) (list_depth : kind.Tree → ℕ) (s : Serialize T) (start : Start) : Type 0 where
+    pub depths : HasDepths start.depths (kind.nesting (tree_of (print_tree s))) (list_depth (tree_of (print_tree s)))
     pub mode : mode_of start.place.prefix ≡ print_mode s
     pub level : start.place.level ≡ print_level s
 

@@ -8,3 +8,12 @@ IsComparedBy {T} eq tree = (a b : T) → IsTrue (eq a b) ↔ (tree a ≡ tree b)
 -- What is equal is hashed alike.
 abbrev pub IsHashedAlike : {T X : Type 0} → (T → T → Bool) → (T → X) → Type 0
 IsHashedAlike {T} eq hash_input = (a b : T) → IsTrue (eq a b) → hash_input a ≡ hash_input b
+
+infixr 30 ◌&◌
+-- two things that are taken of a value
+abbrev pub ◌&◌ : {X Y : Type 0} → X → Y → X × Y
+◌&◌ one other = (one, other)
+
+-- A clone has what is taken of the value that it is a clone of.
+abbrev pub AreKept : {T X : Type 0} → (T → T → Type 0) → (T → X) → Type 0
+AreKept {T} is_clone taken = (value copy : T) → is_clone value copy → taken copy ≡ taken value

@@ -71,6 +71,7 @@ fn other_texts_are_refused(rt: HostRuntime) {
         let error = invalid(rt.alloc(), text).expect(&rt, "memory");
         assert!(rt; !Name::is_valid_syntax(text));
         check_refused(&rt, Name::new(rt.alloc(), text), &error);
+        check_refused(&rt, Name::compact(rt.alloc(), text), &error);
         check_refused(&rt, Name::new_static(rt.alloc(), text), &error);
         check_refused(&rt, new_shared(rt.alloc(), text), &error);
     }
@@ -162,6 +163,80 @@ fn a_text_is_static_or_shared(rt: HostRuntime) {
     check_static(&rt, &copy, Some("abc"));
 }
 
+/// How many bytes of text names have, and whether they stand in place.
+const LENGTHS: [(u32, bool); 5] = [
+    (1, true),
+    (17, true),
+    (18, true),
+    (19, false),
+    (1_000_000, false),
+];
+
+fn check_compact(rt: &impl Abort, name: &Name, text: &str, in_place: bool) {
+    assert_eq!(rt; (name.as_str(), name.len()), (text, text.len()));
+    assert_eq!(rt; name.as_static_str(), None);
+    let short = name.short_text().map(|short| short.as_str());
+    assert_eq!(rt; short, in_place.then_some(text));
+}
+
+/// A name of so many bytes, so that it ends at the last offset that there is.
+fn placed_last(rt: &impl Abort, name: Name, count: u32) -> Name {
+    let span = SourceSpan::new(FileId::new(5), u32::MAX - count, u32::MAX).expect(rt, "in order");
+    assert_eq!(rt; span.len() as usize, name.len());
+    let placed = name.with_location(span);
+    assert_eq!(rt; placed.location(), Some(span));
+    placed
+}
+
+#[test]
+fn texts_that_fit_stand_in_place(rt: HostRuntime) {
+    let alloc = rt.alloc();
+    for (count, in_place) in LENGTHS {
+        let long = letters(alloc, count as usize).expect(&rt, "memory");
+        let text = long.as_str();
+        let name = Name::compact(alloc, text).expect(&rt, "a name");
+        assert_eq!(rt; name.location(), None);
+        check_compact(&rt, &name, text, in_place);
+        let placed = placed_last(&rt, name, count);
+        check_compact(&rt, &placed, text, in_place);
+        let copy = placed.clone().expect(&rt, "memory");
+        assert_eq!(rt; copy.location(), placed.location());
+        check_compact(&rt, &copy, text, in_place);
+        assert!(rt; Name::is_valid_syntax(text));
+        let name = Name::compact_unchecked(alloc, text).expect(&rt, "memory");
+        assert_eq!(rt; name.location(), None);
+        check_compact(&rt, &name, text, in_place);
+    }
+}
+
+/// A key that is found by any other: equal, in no order before or behind, and printed alike.
+fn check_alike(rt: &impl Abort, alloc: Global, name: &Name, other: &Name) {
+    check_order(rt, name, other, Ordering::Equal);
+    let mut names = HashSet::new(alloc);
+    names
+        .insert(name.clone().expect(rt, "memory"))
+        .expect(rt, "memory");
+    assert!(rt; names.contains(other));
+    check_made(rt, format!(in alloc; "{name}"), other.as_str());
+}
+
+#[test]
+fn names_of_one_text_are_alike(rt: HostRuntime) {
+    let alloc = rt.alloc();
+    for text in ["a", "aaaaaaaaaaaaaaaaaa", "aaaaaaaaaaaaaaaaaaa"] {
+        let names = [
+            Name::new_static(alloc, text).expect(&rt, "a name"),
+            Name::new(alloc, text).expect(&rt, "a name"),
+            Name::compact(alloc, text).expect(&rt, "a name"),
+        ];
+        for name in &names {
+            for other in &names {
+                check_alike(&rt, alloc, name, other);
+            }
+        }
+    }
+}
+
 fn check_shared(rt: &impl Abort, made: Result<RcStr, AllocError>, wanted: &str) {
     let text = made.expect(rt, "memory");
     check_text(rt, text.as_str(), wanted);
@@ -174,6 +249,15 @@ fn a_shared_text_is_taken_out(rt: HostRuntime) {
     let text = copy.expect(&rt, "a shared text");
     check_text(&rt, text.as_str(), "abc");
     check_shared(&rt, shared.into_shared(rt.alloc()), "abc");
+}
+
+#[test]
+fn a_text_in_place_is_shared_anew(rt: HostRuntime) {
+    let name = Name::compact(rt.alloc(), "abc").expect(&rt, "a name");
+    let copy = name.to_cloned_arc().expect(&rt, "memory");
+    let text = copy.expect(&rt, "no static text");
+    check_text(&rt, text.as_str(), "abc");
+    check_shared(&rt, name.into_shared(rt.alloc()), "abc");
 }
 
 #[test]
@@ -193,7 +277,8 @@ fn check_order(rt: &impl Abort, name: &Name, other: &Name, order: Ordering) {
 #[test]
 fn names_are_in_byte_order(rt: HostRuntime) {
     let shared = Name::new(rt.alloc(), "a").expect(&rt, "memory");
-    let names = [name!(A), name!("_"), shared, name!(aa)];
+    let in_place = Name::compact(rt.alloc(), "aa").expect(&rt, "a name");
+    let names = [name!(A), name!("_"), shared, in_place];
     for (place, name) in names.iter().enumerate() {
         for (other_place, other) in names.iter().enumerate() {
             check_order(&rt, name, other, place.cmp(&other_place));

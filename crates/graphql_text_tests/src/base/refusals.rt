@@ -143,6 +143,7 @@ fn names_are_made_or_refused(rt: HostRuntime) {
 #[test]
 fn other_texts_are_refused(rt: HostRuntime) {
     check_refused(&rt, Name::new(rt.alloc(), "1nvalid"), "1nvalid");
+    check_refused(&rt, Name::compact(rt.alloc(), "1nvalid"), "1nvalid");
     check_refused(&rt, Name::new_static(rt.alloc(), "1nvalid"), "1nvalid");
 }
 
@@ -164,6 +165,33 @@ fn texts_of_names_are_shared_or_refused(rt: HostRuntime) {
     match shared.into_shared(alloc) {
         Ok(text) => assert_eq!(rt; text.as_str(), "abc"),
         Err(AllocError) => assert!(rt; false, "a shared text takes no memory"),
+    }
+}
+
+/// The name takes no memory, nor does a clone: only a copy of its text that is shared does.
+fn check_in_place(rt: &impl Abort, alloc: Global, made: Result<Name, NameError>, text: &str) {
+    let name = made.expect(rt, "a text in place takes no memory");
+    let copy = name.clone().expect(rt, "a text in place takes no memory");
+    assert_eq!(rt; (name.as_str(), copy.as_str()), (text, text));
+    if let Ok(shared) = name.to_cloned_arc() {
+        check_text(rt, shared.expect(rt, "no static text").as_str(), text);
+    }
+    assert_eq!(rt; name.as_str(), text);
+    if let Ok(shared) = name.into_shared(alloc) {
+        check_text(rt, shared.as_str(), text);
+    }
+    assert_eq!(rt; copy.as_str(), text);
+}
+
+#[test]
+fn names_in_place_take_no_memory(rt: HostRuntime) {
+    let alloc = rt.alloc();
+    for text in ["a", "aaaaaaaaaaaaaaaaa", "aaaaaaaaaaaaaaaaaa"] {
+        check_in_place(&rt, alloc, Name::compact(alloc, text), text);
+    }
+    match Name::compact(alloc, "aaaaaaaaaaaaaaaaaaa") {
+        Ok(name) => check_text(&rt, name.as_str(), "aaaaaaaaaaaaaaaaaaa"),
+        Err(error) => assert_eq!(rt; error, NameError::Memory),
     }
 }
 

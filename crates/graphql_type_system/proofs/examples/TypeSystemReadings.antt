@@ -1,26 +1,12 @@
 -- What the kinds of the type system are printed as and what their readers find, by computing.
-use Rattle.std.proofs.Common.{◌≡◌, ◌∙◌, ℕ, Bool, List, [], ◌∷◌, length, Option, None, Some, ap, le_refl, refl, sym}
+use Rattle.std.proofs.Common.{ℕ, Bool, List, Option}
 use Rattle.graphql_text.specs.lexical.Tokens.{Token}
 use Rattle.graphql_text.specs.grammar.Forms.{Form, TokenClass}
 use Rattle.graphql_text.specs.layout.Layout.{Item}
-use Rattle.graphql_text.specs.kinds.Reading.{ReadsAs}
-use Rattle.graphql_text.proofs.grammar.FormParsers.{Parser, Reads}
 use Rattle.graphql_text.proofs.parts.Parts.{Part}
-use Rattle.graphql_text.proofs.reader.TokenReader.{lex}
-use Rattle.graphql_text.proofs.examples.TextReadings.{no_tree_read}
 use Rattle.graphql_values.proofs.examples.ValueReadings as readings
 use Rattle.graphql_type_system.specs.lemmas.Bodies as bodies
 use Rattle.graphql_type_system.specs.lemmas.Kinds as kinds
-
--- what a reader leaves over
-abbrev left_over : {A : Type 0} → Option (A × List Token) → List Token
-left_over None = []
-left_over (Some found) = found.1
-
--- a reader that leaves something over does not read all of the tokens
-nothing_left : {A : Type 0} {q : Parser A} {a x : A} {f : Form} {F L : List TokenClass} {b : Bool} {ts rest : List Token} {t : Token} →
-    Reads (length ts) q a f F L b → q ts ≡ Some (x, t ∷ rest) → f ts [] → ⊥
-nothing_left {ts = ts} r left d = let all = ap left_over (sym (r.finds ts [] d (le_refl _) refl) ∙ left) in cc
 
 module _ {A : Type 0} {f : A → Form} {s : Bool → A → List Item} {n : A → ℕ} {o : A → Bool} {F L S : List TokenClass} {b opens : Bool}
     (p : Part f s n o F L b S opens) where
@@ -49,8 +35,3 @@ module _ {A : Type 0} {f : A → Form} {s : Bool → A → List Item} {n : A →
       kinds.object_type_extension_part kinds.interface_type_extension_part kinds.union_type_extension_part kinds.enum_type_extension_part
       kinds.input_object_type_extension_part
   found tokens = readings.found p tokens
-
-  -- a text that lexes to tokens of which its reader leaves some over
-  pub part_leaves : (text : List ℕ) (tokens : List Token) {x : A} {t : Token} {rest : List Token} → lex text ≡ Some tokens →
-      p.parser tokens ≡ Some (x, t ∷ rest) → (a : A) → ReadsAs f text a → ⊥
-  part_leaves text tokens lexes left a = no_tree_read f text tokens lexes a (nothing_left (p.read (length tokens) a) left)

@@ -30,7 +30,7 @@ module _ (member : Kind) where
     Tree = BracedTypeTree member.Tree;
     -- the grammar of a type, sections 3.9 and 3.10, behind its keyword. Where the members are left out no `{` follows.
     form = λ type. name_except [] type.name ⨟ directives_form Const type.directives ⨟ members_form member type.members;
-    -- the side conditions are those of the directives, at a constant place, and of the members
+    -- the side conditions are those of the directives, in a const context, and of the members
     obeys = λ type. directives_obey Const type.directives && members_obey member type.members;
     shape = λ broken front. braced_type_shape broken;
     nesting = braced_type_nesting;

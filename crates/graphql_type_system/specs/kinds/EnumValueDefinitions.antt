@@ -19,7 +19,7 @@ enum_value_definition_body = record {
   Tree = EnumValueDefinitionTree;
   -- the grammar of EnumValueDefinition, section 3.9, behind its description. EnumValue is a name other than `true`, `false` and `null`.
   form = λ definition. name_except not_enum_values definition.value ⨟ directives_form Const definition.directives;
-  -- the side conditions: the value is none of the three words, and the directives obey theirs, at a constant place
+  -- the side conditions: the value is none of the three words, and the directives obey theirs, in a const context
   obeys = λ definition. is_enum_name definition.value.text && directives_obey Const definition.directives;
   -- the layout of a definition, behind its description
   shape = λ broken front definition. Word (Name definition.value.text) ∷ directives_shape definition.directives;

@@ -31,7 +31,7 @@ field_definition_body = record {
   form = λ field.
       name_except [] field.name ⨟ arguments_definition_form field.arguments ⨟ token (Punctuation colon) ⨟ type_form field.type
       ⨟ directives_form Const field.directives;
-  -- the side conditions are those of its arguments and of its directives, at constant places
+  -- the side conditions are those of its arguments and of its directives, in const contexts
   obeys = λ field. arguments_definition_obeys field.arguments && directives_obey Const field.directives;
   -- the layout of a definition, behind its description. Its arguments have the mode around it.
   shape = λ broken front field.

@@ -39,7 +39,7 @@ implementing_type = record {
   form = λ type.
       name_except [] type.name ⨟ interfaces_form type.interfaces ⨟ directives_form Const type.directives
       ⨟ members_form field_definition_kind type.fields;
-  -- the side conditions are those of the directives, at a constant place, and of the fields
+  -- the side conditions are those of the directives, in a const context, and of the fields
   obeys = λ type. directives_obey Const type.directives && members_obey field_definition_kind type.fields;
   -- the layout of a type, behind its keyword
   shape = λ broken front type.

@@ -26,7 +26,7 @@ scalar_type = record {
   Tree = ScalarTypeTree;
   -- the grammar of a scalar type, section 3.5, behind `scalar`
   form = λ scalar. name_except [] scalar.name ⨟ directives_form Const scalar.directives;
-  -- the side conditions are those of the directives, at a constant place
+  -- the side conditions are those of the directives, in a const context
   obeys = λ scalar. directives_obey Const scalar.directives;
   -- the layout of a scalar type, behind `scalar`
   shape = λ broken front scalar. Word (Name scalar.name.text) ∷ directives_shape scalar.directives;

@@ -49,7 +49,7 @@ schema_body = record {
   -- the grammar of SchemaDefinition, section 3.3, behind its description
   form = λ schema.
       keyword (codes "schema") ⨟ directives_form Const schema.directives ⨟ required_members_form root_operation_kind schema.root_operations;
-  -- the side conditions: the directives obey theirs, at a constant place, and there is a root operation
+  -- the side conditions: the directives obey theirs, in a const context, and there is a root operation
   obeys = λ schema. directives_obey Const schema.directives && has_some schema.root_operations;
   -- the layout of a definition, behind its description
   shape = λ broken front schema.

@@ -32,7 +32,7 @@ union_type = record {
   Tree = UnionTypeTree;
   -- the grammar of a union type, section 3.8, behind `union`
   form = λ union. name_except [] union.name ⨟ directives_form Const union.directives ⨟ union_members_form union.members;
-  -- the side conditions are those of the directives, at a constant place
+  -- the side conditions are those of the directives, in a const context
   obeys = λ union. directives_obey Const union.directives;
   -- the layout of a union type, behind `union`
   shape = λ broken front union.

@@ -10,7 +10,7 @@ use crate::enum_type::{EnumTypeDefinition, EnumTypeExtension};
 use crate::members::write_directives_and_members;
 use graphql_text::engine::{Serialize, Syntax, SyntaxTree};
 use graphql_text::writers::{
-    Place, Start, Target, Written, are_parts_well_formed, find_parts_nesting,
+    Depths, Place, Start, Target, Written, are_parts_well_formed, find_parts_depths,
     write_leading_description, write_name, write_whole, write_words,
 };
 use graphql_values::writers::{Constness, Stacks, are_directives_well_formed};
@@ -25,7 +25,7 @@ impl EnumTypeDefinition {
         Serialize::new(self)
     }
 
-    /// Whether the directives and the values are well formed, each at a constant place.
+    /// Whether the directives and the values are well formed, each in a const context.
     pub fn is_well_formed(&self) -> bool
         ensures { result ≡ enum_type_definition_kind.obeys (enum_type_definition_tree self.now) }
     {
@@ -47,9 +47,10 @@ impl SyntaxTree for EnumTypeDefinition {
         EnumTypeDefinition::is_well_formed(self)
     }
 
-    fn find_nesting(&self) -> Option<usize> {
-        let directives = self.directives.find_nesting()?;
-        Some(directives.max(find_parts_nesting(&self.values)?))
+    #[tactic(auto, using(crate::proofs::CanWriteWithoutTypes::no_lists))]
+    fn find_depths(&self) -> Option<Depths> {
+        let directives = self.directives.find_depths()?;
+        Some(directives.max(find_parts_depths(&self.values)?))
     }
 }
 
@@ -60,8 +61,8 @@ impl Syntax for EnumTypeDefinition {
 }
 
 impl<'t> Written<'t, Stacks<'t>> for EnumTypeDefinition {
-    fn reserve(&'t self, depth: usize) -> Result<Stacks<'t>, AllocError> {
-        Stacks::reserve(self.directives.allocator(), depth, Some(0))
+    fn reserve(&'t self, depths: Depths) -> Result<Stacks<'t>, AllocError> {
+        Stacks::reserve(self.directives.allocator(), depths)
     }
 
     fn write_at<O: Target>(&'t self, out: &mut O, place: &Place<'_>, stacks: &mut Stacks<'t>) {
@@ -95,7 +96,7 @@ impl EnumTypeExtension {
         Serialize::new(self)
     }
 
-    /// Whether it adds something, and the directives and the values are well formed, each at a constant place.
+    /// Whether it adds something, and the directives and the values are well formed, each in a const context.
     pub fn is_well_formed(&self) -> bool
         ensures { result ≡ enum_type_extension_kind.obeys (enum_type_extension_tree self.now) }
     {
@@ -118,9 +119,10 @@ impl SyntaxTree for EnumTypeExtension {
         EnumTypeExtension::is_well_formed(self)
     }
 
-    fn find_nesting(&self) -> Option<usize> {
-        let directives = self.directives.find_nesting()?;
-        Some(directives.max(find_parts_nesting(&self.values)?))
+    #[tactic(auto, using(crate::proofs::CanWriteWithoutTypes::no_lists))]
+    fn find_depths(&self) -> Option<Depths> {
+        let directives = self.directives.find_depths()?;
+        Some(directives.max(find_parts_depths(&self.values)?))
     }
 }
 
@@ -131,8 +133,8 @@ impl Syntax for EnumTypeExtension {
 }
 
 impl<'t> Written<'t, Stacks<'t>> for EnumTypeExtension {
-    fn reserve(&'t self, depth: usize) -> Result<Stacks<'t>, AllocError> {
-        Stacks::reserve(self.directives.allocator(), depth, Some(0))
+    fn reserve(&'t self, depths: Depths) -> Result<Stacks<'t>, AllocError> {
+        Stacks::reserve(self.directives.allocator(), depths)
     }
 
     fn write_at<O: Target>(&'t self, out: &mut O, place: &Place<'_>, stacks: &mut Stacks<'t>) {

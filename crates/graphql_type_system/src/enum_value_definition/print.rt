@@ -9,7 +9,7 @@ ghost use Rattle.graphql_type_system.specs.lemmas.Kinds.{enum_value_definition_l
 use crate::enum_value_definition::EnumValueDefinition;
 use graphql_text::engine::{Serialize, Syntax, SyntaxTree};
 use graphql_text::writers::{
-    Place, Start, Target, Written, write_leading_description, write_name, write_whole,
+    Depths, Place, Start, Target, Written, write_leading_description, write_name, write_whole,
 };
 use graphql_values::writers::{Constness, Stacks, are_directives_well_formed, is_enum_name};
 use std::alloc::AllocError;
@@ -46,8 +46,8 @@ impl SyntaxTree for EnumValueDefinition {
         EnumValueDefinition::is_well_formed(self)
     }
 
-    fn find_nesting(&self) -> Option<usize> {
-        self.directives.find_nesting()
+    fn find_depths(&self) -> Option<Depths> {
+        self.directives.find_depths()
     }
 }
 
@@ -58,8 +58,8 @@ impl Syntax for EnumValueDefinition {
 }
 
 impl<'t> Written<'t, Stacks<'t>> for EnumValueDefinition {
-    fn reserve(&'t self, depth: usize) -> Result<Stacks<'t>, AllocError> {
-        Stacks::reserve(self.directives.allocator(), depth, Some(0))
+    fn reserve(&'t self, depths: Depths) -> Result<Stacks<'t>, AllocError> {
+        Stacks::reserve(self.directives.allocator(), depths)
     }
 
     fn write_at<O: Target>(&'t self, out: &mut O, place: &Place<'_>, stacks: &mut Stacks<'t>) {

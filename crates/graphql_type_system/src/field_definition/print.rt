@@ -8,12 +8,12 @@ ghost use Rattle.graphql_type_system.specs.lemmas.Kinds.{field_definition_laws};
 use crate::field_definition::FieldDefinition;
 use graphql_text::engine::{Serialize, Syntax, SyntaxTree};
 use graphql_text::writers::{
-    HasTypes, Place, Start, Target, Written, are_parts_well_formed, find_parts_list_depth,
-    find_parts_nesting, write_leading_description, write_name, write_whole, write_words,
+    Depths, Place, Start, Target, Written, are_parts_well_formed, find_parts_depths,
+    write_leading_description, write_name, write_whole, write_words,
 };
 use graphql_values::writers::{
-    Constness, Stacks, are_directives_well_formed, find_list_depth, some_want_lines,
-    write_parameters, write_type,
+    Constness, Stacks, are_directives_well_formed, find_directives_nesting, find_list_depth,
+    some_want_lines, write_parameters, write_type,
 };
 use std::alloc::AllocError;
 use std::fmt;
@@ -49,16 +49,12 @@ impl SyntaxTree for FieldDefinition {
         FieldDefinition::is_well_formed(self)
     }
 
-    fn find_nesting(&self) -> Option<usize> {
-        let arguments = find_parts_nesting(&self.arguments)?;
-        Some(arguments.max(self.directives.find_nesting()?))
-    }
-}
-
-impl HasTypes for FieldDefinition {
-    fn find_list_depth(&self) -> Option<usize> {
-        let arguments = find_parts_list_depth(&self.arguments)?;
-        Some(arguments.max(find_list_depth(&self.ty)?))
+    fn find_depths(&self) -> Option<Depths> {
+        let arguments = find_parts_depths(&self.arguments)?;
+        Some(arguments.max(Depths {
+            nesting: find_directives_nesting(&self.directives)?,
+            lists: find_list_depth(&self.ty),
+        }))
     }
 }
 
@@ -69,8 +65,8 @@ impl Syntax for FieldDefinition {
 }
 
 impl<'t> Written<'t, Stacks<'t>> for FieldDefinition {
-    fn reserve(&'t self, depth: usize) -> Result<Stacks<'t>, AllocError> {
-        Stacks::reserve(self.directives.allocator(), depth, self.find_list_depth())
+    fn reserve(&'t self, depths: Depths) -> Result<Stacks<'t>, AllocError> {
+        Stacks::reserve(self.directives.allocator(), depths)
     }
 
     fn write_at<O: Target>(&'t self, out: &mut O, place: &Place<'_>, stacks: &mut Stacks<'t>) {

@@ -10,8 +10,8 @@ use crate::input_object_type::{InputObjectTypeDefinition, InputObjectTypeExtensi
 use crate::members::write_directives_and_members;
 use graphql_text::engine::{Serialize, Syntax, SyntaxTree};
 use graphql_text::writers::{
-    HasTypes, Place, Start, Target, Written, are_parts_well_formed, find_parts_list_depth,
-    find_parts_nesting, write_leading_description, write_name, write_whole, write_words,
+    Depths, Place, Start, Target, Written, are_parts_well_formed, find_parts_depths,
+    write_leading_description, write_name, write_whole, write_words,
 };
 use graphql_values::writers::{Constness, Stacks, are_directives_well_formed};
 use std::alloc::AllocError;
@@ -25,7 +25,7 @@ impl InputObjectTypeDefinition {
         Serialize::new(self)
     }
 
-    /// Whether the directives and the fields are well formed, each at a constant place.
+    /// Whether the directives and the fields are well formed, each in a const context.
     pub fn is_well_formed(&self) -> bool
         ensures { result
             ≡ input_object_type_definition_kind.obeys (input_object_type_definition_tree self.now) }
@@ -48,15 +48,9 @@ impl SyntaxTree for InputObjectTypeDefinition {
         InputObjectTypeDefinition::is_well_formed(self)
     }
 
-    fn find_nesting(&self) -> Option<usize> {
-        let directives = self.directives.find_nesting()?;
-        Some(directives.max(find_parts_nesting(&self.fields)?))
-    }
-}
-
-impl HasTypes for InputObjectTypeDefinition {
-    fn find_list_depth(&self) -> Option<usize> {
-        find_parts_list_depth(&self.fields)
+    fn find_depths(&self) -> Option<Depths> {
+        let directives = self.directives.find_depths()?;
+        Some(directives.max(find_parts_depths(&self.fields)?))
     }
 }
 
@@ -67,8 +61,8 @@ impl Syntax for InputObjectTypeDefinition {
 }
 
 impl<'t> Written<'t, Stacks<'t>> for InputObjectTypeDefinition {
-    fn reserve(&'t self, depth: usize) -> Result<Stacks<'t>, AllocError> {
-        Stacks::reserve(self.directives.allocator(), depth, self.find_list_depth())
+    fn reserve(&'t self, depths: Depths) -> Result<Stacks<'t>, AllocError> {
+        Stacks::reserve(self.directives.allocator(), depths)
     }
 
     fn write_at<O: Target>(&'t self, out: &mut O, place: &Place<'_>, stacks: &mut Stacks<'t>) {
@@ -103,7 +97,7 @@ impl InputObjectTypeExtension {
         Serialize::new(self)
     }
 
-    /// Whether it adds something, and the directives and the fields are well formed, each at a constant place.
+    /// Whether it adds something, and the directives and the fields are well formed, each in a const context.
     pub fn is_well_formed(&self) -> bool
         ensures { result
             ≡ input_object_type_extension_kind.obeys (input_object_type_extension_tree self.now) }
@@ -127,15 +121,9 @@ impl SyntaxTree for InputObjectTypeExtension {
         InputObjectTypeExtension::is_well_formed(self)
     }
 
-    fn find_nesting(&self) -> Option<usize> {
-        let directives = self.directives.find_nesting()?;
-        Some(directives.max(find_parts_nesting(&self.fields)?))
-    }
-}
-
-impl HasTypes for InputObjectTypeExtension {
-    fn find_list_depth(&self) -> Option<usize> {
-        find_parts_list_depth(&self.fields)
+    fn find_depths(&self) -> Option<Depths> {
+        let directives = self.directives.find_depths()?;
+        Some(directives.max(find_parts_depths(&self.fields)?))
     }
 }
 
@@ -146,8 +134,8 @@ impl Syntax for InputObjectTypeExtension {
 }
 
 impl<'t> Written<'t, Stacks<'t>> for InputObjectTypeExtension {
-    fn reserve(&'t self, depth: usize) -> Result<Stacks<'t>, AllocError> {
-        Stacks::reserve(self.directives.allocator(), depth, self.find_list_depth())
+    fn reserve(&'t self, depths: Depths) -> Result<Stacks<'t>, AllocError> {
+        Stacks::reserve(self.directives.allocator(), depths)
     }
 
     fn write_at<O: Target>(&'t self, out: &mut O, place: &Place<'_>, stacks: &mut Stacks<'t>) {

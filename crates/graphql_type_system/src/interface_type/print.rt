@@ -11,8 +11,8 @@ use crate::joined_names::write_joined_names;
 use crate::members::write_directives_and_members;
 use graphql_text::engine::{Serialize, Syntax, SyntaxTree};
 use graphql_text::writers::{
-    HasTypes, Place, Start, Target, Written, are_parts_well_formed, find_parts_list_depth,
-    find_parts_nesting, write_leading_description, write_name, write_whole, write_words,
+    Depths, Place, Start, Target, Written, are_parts_well_formed, find_parts_depths,
+    write_leading_description, write_name, write_whole, write_words,
 };
 use graphql_values::writers::{Constness, Stacks, are_directives_well_formed};
 use std::alloc::AllocError;
@@ -26,7 +26,7 @@ impl InterfaceTypeDefinition {
         Serialize::new(self)
     }
 
-    /// Whether the directives and the fields are well formed, each at a constant place.
+    /// Whether the directives and the fields are well formed, each in a const context.
     pub fn is_well_formed(&self) -> bool
         ensures { result
             ≡ interface_type_definition_kind.obeys (interface_type_definition_tree self.now) }
@@ -49,15 +49,9 @@ impl SyntaxTree for InterfaceTypeDefinition {
         InterfaceTypeDefinition::is_well_formed(self)
     }
 
-    fn find_nesting(&self) -> Option<usize> {
-        let directives = self.directives.find_nesting()?;
-        Some(directives.max(find_parts_nesting(&self.fields)?))
-    }
-}
-
-impl HasTypes for InterfaceTypeDefinition {
-    fn find_list_depth(&self) -> Option<usize> {
-        find_parts_list_depth(&self.fields)
+    fn find_depths(&self) -> Option<Depths> {
+        let directives = self.directives.find_depths()?;
+        Some(directives.max(find_parts_depths(&self.fields)?))
     }
 }
 
@@ -68,8 +62,8 @@ impl Syntax for InterfaceTypeDefinition {
 }
 
 impl<'t> Written<'t, Stacks<'t>> for InterfaceTypeDefinition {
-    fn reserve(&'t self, depth: usize) -> Result<Stacks<'t>, AllocError> {
-        Stacks::reserve(self.directives.allocator(), depth, self.find_list_depth())
+    fn reserve(&'t self, depths: Depths) -> Result<Stacks<'t>, AllocError> {
+        Stacks::reserve(self.directives.allocator(), depths)
     }
 
     fn write_at<O: Target>(&'t self, out: &mut O, place: &Place<'_>, stacks: &mut Stacks<'t>) {
@@ -106,7 +100,7 @@ impl InterfaceTypeExtension {
         Serialize::new(self)
     }
 
-    /// Whether it adds something, and the directives and the fields are well formed, each at a constant place.
+    /// Whether it adds something, and the directives and the fields are well formed, each in a const context.
     pub fn is_well_formed(&self) -> bool
         ensures { result
             ≡ interface_type_extension_kind.obeys (interface_type_extension_tree self.now) }
@@ -132,15 +126,9 @@ impl SyntaxTree for InterfaceTypeExtension {
         InterfaceTypeExtension::is_well_formed(self)
     }
 
-    fn find_nesting(&self) -> Option<usize> {
-        let directives = self.directives.find_nesting()?;
-        Some(directives.max(find_parts_nesting(&self.fields)?))
-    }
-}
-
-impl HasTypes for InterfaceTypeExtension {
-    fn find_list_depth(&self) -> Option<usize> {
-        find_parts_list_depth(&self.fields)
+    fn find_depths(&self) -> Option<Depths> {
+        let directives = self.directives.find_depths()?;
+        Some(directives.max(find_parts_depths(&self.fields)?))
     }
 }
 
@@ -151,8 +139,8 @@ impl Syntax for InterfaceTypeExtension {
 }
 
 impl<'t> Written<'t, Stacks<'t>> for InterfaceTypeExtension {
-    fn reserve(&'t self, depth: usize) -> Result<Stacks<'t>, AllocError> {
-        Stacks::reserve(self.directives.allocator(), depth, self.find_list_depth())
+    fn reserve(&'t self, depths: Depths) -> Result<Stacks<'t>, AllocError> {
+        Stacks::reserve(self.directives.allocator(), depths)
     }
 
     fn write_at<O: Target>(&'t self, out: &mut O, place: &Place<'_>, stacks: &mut Stacks<'t>) {

@@ -11,8 +11,8 @@ use crate::members::write_directives_and_members;
 use crate::object_type::{ObjectTypeDefinition, ObjectTypeExtension};
 use graphql_text::engine::{Serialize, Syntax, SyntaxTree};
 use graphql_text::writers::{
-    HasTypes, Place, Start, Target, Written, are_parts_well_formed, find_parts_list_depth,
-    find_parts_nesting, write_leading_description, write_name, write_whole, write_words,
+    Depths, Place, Start, Target, Written, are_parts_well_formed, find_parts_depths,
+    write_leading_description, write_name, write_whole, write_words,
 };
 use graphql_values::writers::{Constness, Stacks, are_directives_well_formed};
 use std::alloc::AllocError;
@@ -26,7 +26,7 @@ impl ObjectTypeDefinition {
         Serialize::new(self)
     }
 
-    /// Whether the directives and the fields are well formed, each at a constant place.
+    /// Whether the directives and the fields are well formed, each in a const context.
     pub fn is_well_formed(&self) -> bool
         ensures { result
             ≡ object_type_definition_kind.obeys (object_type_definition_tree self.now) }
@@ -49,15 +49,9 @@ impl SyntaxTree for ObjectTypeDefinition {
         ObjectTypeDefinition::is_well_formed(self)
     }
 
-    fn find_nesting(&self) -> Option<usize> {
-        let directives = self.directives.find_nesting()?;
-        Some(directives.max(find_parts_nesting(&self.fields)?))
-    }
-}
-
-impl HasTypes for ObjectTypeDefinition {
-    fn find_list_depth(&self) -> Option<usize> {
-        find_parts_list_depth(&self.fields)
+    fn find_depths(&self) -> Option<Depths> {
+        let directives = self.directives.find_depths()?;
+        Some(directives.max(find_parts_depths(&self.fields)?))
     }
 }
 
@@ -68,8 +62,8 @@ impl Syntax for ObjectTypeDefinition {
 }
 
 impl<'t> Written<'t, Stacks<'t>> for ObjectTypeDefinition {
-    fn reserve(&'t self, depth: usize) -> Result<Stacks<'t>, AllocError> {
-        Stacks::reserve(self.directives.allocator(), depth, self.find_list_depth())
+    fn reserve(&'t self, depths: Depths) -> Result<Stacks<'t>, AllocError> {
+        Stacks::reserve(self.directives.allocator(), depths)
     }
 
     fn write_at<O: Target>(&'t self, out: &mut O, place: &Place<'_>, stacks: &mut Stacks<'t>) {
@@ -105,7 +99,7 @@ impl ObjectTypeExtension {
         Serialize::new(self)
     }
 
-    /// Whether it adds something, and the directives and the fields are well formed, each at a constant place.
+    /// Whether it adds something, and the directives and the fields are well formed, each in a const context.
     pub fn is_well_formed(&self) -> bool
         ensures { result ≡ object_type_extension_kind.obeys (object_type_extension_tree self.now) }
     {
@@ -130,15 +124,9 @@ impl SyntaxTree for ObjectTypeExtension {
         ObjectTypeExtension::is_well_formed(self)
     }
 
-    fn find_nesting(&self) -> Option<usize> {
-        let directives = self.directives.find_nesting()?;
-        Some(directives.max(find_parts_nesting(&self.fields)?))
-    }
-}
-
-impl HasTypes for ObjectTypeExtension {
-    fn find_list_depth(&self) -> Option<usize> {
-        find_parts_list_depth(&self.fields)
+    fn find_depths(&self) -> Option<Depths> {
+        let directives = self.directives.find_depths()?;
+        Some(directives.max(find_parts_depths(&self.fields)?))
     }
 }
 
@@ -149,8 +137,8 @@ impl Syntax for ObjectTypeExtension {
 }
 
 impl<'t> Written<'t, Stacks<'t>> for ObjectTypeExtension {
-    fn reserve(&'t self, depth: usize) -> Result<Stacks<'t>, AllocError> {
-        Stacks::reserve(self.directives.allocator(), depth, self.find_list_depth())
+    fn reserve(&'t self, depths: Depths) -> Result<Stacks<'t>, AllocError> {
+        Stacks::reserve(self.directives.allocator(), depths)
     }
 
     fn write_at<O: Target>(&'t self, out: &mut O, place: &Place<'_>, stacks: &mut Stacks<'t>) {

@@ -9,7 +9,8 @@ ghost use Rattle.graphql_type_system.specs.lemmas.Kinds.{scalar_type_definition_
 use crate::scalar_type::{ScalarTypeDefinition, ScalarTypeExtension};
 use graphql_text::engine::{Serialize, Syntax, SyntaxTree};
 use graphql_text::writers::{
-    Place, Start, Target, Written, write_leading_description, write_name, write_whole, write_words,
+    Depths, Place, Start, Target, Written, write_leading_description, write_name, write_whole,
+    write_words,
 };
 use graphql_values::writers::{Constness, Stacks, are_directives_well_formed};
 use std::alloc::AllocError;
@@ -46,8 +47,8 @@ impl SyntaxTree for ScalarTypeDefinition {
         ScalarTypeDefinition::is_well_formed(self)
     }
 
-    fn find_nesting(&self) -> Option<usize> {
-        self.directives.find_nesting()
+    fn find_depths(&self) -> Option<Depths> {
+        self.directives.find_depths()
     }
 }
 
@@ -58,8 +59,8 @@ impl Syntax for ScalarTypeDefinition {
 }
 
 impl<'t> Written<'t, Stacks<'t>> for ScalarTypeDefinition {
-    fn reserve(&'t self, depth: usize) -> Result<Stacks<'t>, AllocError> {
-        Stacks::reserve(self.directives.allocator(), depth, Some(0))
+    fn reserve(&'t self, depths: Depths) -> Result<Stacks<'t>, AllocError> {
+        Stacks::reserve(self.directives.allocator(), depths)
     }
 
     fn write_at<O: Target>(&'t self, out: &mut O, place: &Place<'_>, stacks: &mut Stacks<'t>) {
@@ -115,8 +116,8 @@ impl SyntaxTree for ScalarTypeExtension {
         ScalarTypeExtension::is_well_formed(self)
     }
 
-    fn find_nesting(&self) -> Option<usize> {
-        self.directives.find_nesting()
+    fn find_depths(&self) -> Option<Depths> {
+        self.directives.find_depths()
     }
 }
 
@@ -127,8 +128,8 @@ impl Syntax for ScalarTypeExtension {
 }
 
 impl<'t> Written<'t, Stacks<'t>> for ScalarTypeExtension {
-    fn reserve(&'t self, depth: usize) -> Result<Stacks<'t>, AllocError> {
-        Stacks::reserve(self.directives.allocator(), depth, Some(0))
+    fn reserve(&'t self, depths: Depths) -> Result<Stacks<'t>, AllocError> {
+        Stacks::reserve(self.directives.allocator(), depths)
     }
 
     fn write_at<O: Target>(&'t self, out: &mut O, place: &Place<'_>, stacks: &mut Stacks<'t>) {

@@ -11,9 +11,11 @@ use crate::root_operation::root_operations_nesting;
 use crate::schema::{SchemaDefinition, SchemaExtension};
 use graphql_text::engine::{Serialize, Syntax, SyntaxTree};
 use graphql_text::writers::{
-    Place, Start, Target, Written, write_leading_description, write_whole, write_words,
+    Depths, Place, Start, Target, Written, write_leading_description, write_whole, write_words,
 };
-use graphql_values::writers::{Constness, Stacks, are_directives_well_formed};
+use graphql_values::writers::{
+    Constness, Stacks, are_directives_well_formed, find_directives_nesting,
+};
 use std::alloc::AllocError;
 use std::fmt;
 
@@ -48,9 +50,10 @@ impl SyntaxTree for SchemaDefinition {
         SchemaDefinition::is_well_formed(self)
     }
 
-    fn find_nesting(&self) -> Option<usize> {
-        let directives = self.directives.find_nesting()?;
-        Some(directives.max(root_operations_nesting(&self.root_operations)))
+    fn find_depths(&self) -> Option<Depths> {
+        let directives = find_directives_nesting(&self.directives)?;
+        let root_operations = root_operations_nesting(&self.root_operations);
+        Some(Depths::without_types(directives.max(root_operations)))
     }
 }
 
@@ -61,8 +64,8 @@ impl Syntax for SchemaDefinition {
 }
 
 impl<'t> Written<'t, Stacks<'t>> for SchemaDefinition {
-    fn reserve(&'t self, depth: usize) -> Result<Stacks<'t>, AllocError> {
-        Stacks::reserve(self.directives.allocator(), depth, Some(0))
+    fn reserve(&'t self, depths: Depths) -> Result<Stacks<'t>, AllocError> {
+        Stacks::reserve(self.directives.allocator(), depths)
     }
 
     fn write_at<O: Target>(&'t self, out: &mut O, place: &Place<'_>, stacks: &mut Stacks<'t>) {
@@ -118,9 +121,10 @@ impl SyntaxTree for SchemaExtension {
         SchemaExtension::is_well_formed(self)
     }
 
-    fn find_nesting(&self) -> Option<usize> {
-        let directives = self.directives.find_nesting()?;
-        Some(directives.max(root_operations_nesting(&self.root_operations)))
+    fn find_depths(&self) -> Option<Depths> {
+        let directives = find_directives_nesting(&self.directives)?;
+        let root_operations = root_operations_nesting(&self.root_operations);
+        Some(Depths::without_types(directives.max(root_operations)))
     }
 }
 
@@ -131,8 +135,8 @@ impl Syntax for SchemaExtension {
 }
 
 impl<'t> Written<'t, Stacks<'t>> for SchemaExtension {
-    fn reserve(&'t self, depth: usize) -> Result<Stacks<'t>, AllocError> {
-        Stacks::reserve(self.directives.allocator(), depth, Some(0))
+    fn reserve(&'t self, depths: Depths) -> Result<Stacks<'t>, AllocError> {
+        Stacks::reserve(self.directives.allocator(), depths)
     }
 
     fn write_at<O: Target>(&'t self, out: &mut O, place: &Place<'_>, stacks: &mut Stacks<'t>) {

@@ -10,7 +10,8 @@ use crate::joined_names::write_joined_names;
 use crate::union_type::{UnionTypeDefinition, UnionTypeExtension};
 use graphql_text::engine::{Serialize, Syntax, SyntaxTree};
 use graphql_text::writers::{
-    Place, Start, Target, Written, write_leading_description, write_name, write_whole, write_words,
+    Depths, Place, Start, Target, Written, write_leading_description, write_name, write_whole,
+    write_words,
 };
 use graphql_values::writers::{Constness, Stacks, are_directives_well_formed};
 use std::alloc::AllocError;
@@ -46,8 +47,8 @@ impl SyntaxTree for UnionTypeDefinition {
         UnionTypeDefinition::is_well_formed(self)
     }
 
-    fn find_nesting(&self) -> Option<usize> {
-        self.directives.find_nesting()
+    fn find_depths(&self) -> Option<Depths> {
+        self.directives.find_depths()
     }
 }
 
@@ -58,8 +59,8 @@ impl Syntax for UnionTypeDefinition {
 }
 
 impl<'t> Written<'t, Stacks<'t>> for UnionTypeDefinition {
-    fn reserve(&'t self, depth: usize) -> Result<Stacks<'t>, AllocError> {
-        Stacks::reserve(self.directives.allocator(), depth, Some(0))
+    fn reserve(&'t self, depths: Depths) -> Result<Stacks<'t>, AllocError> {
+        Stacks::reserve(self.directives.allocator(), depths)
     }
 
     fn write_at<O: Target>(&'t self, out: &mut O, place: &Place<'_>, stacks: &mut Stacks<'t>) {
@@ -117,8 +118,8 @@ impl SyntaxTree for UnionTypeExtension {
         UnionTypeExtension::is_well_formed(self)
     }
 
-    fn find_nesting(&self) -> Option<usize> {
-        self.directives.find_nesting()
+    fn find_depths(&self) -> Option<Depths> {
+        self.directives.find_depths()
     }
 }
 
@@ -129,8 +130,8 @@ impl Syntax for UnionTypeExtension {
 }
 
 impl<'t> Written<'t, Stacks<'t>> for UnionTypeExtension {
-    fn reserve(&'t self, depth: usize) -> Result<Stacks<'t>, AllocError> {
-        Stacks::reserve(self.directives.allocator(), depth, Some(0))
+    fn reserve(&'t self, depths: Depths) -> Result<Stacks<'t>, AllocError> {
+        Stacks::reserve(self.directives.allocator(), depths)
     }
 
     fn write_at<O: Target>(&'t self, out: &mut O, place: &Place<'_>, stacks: &mut Stacks<'t>) {

@@ -1,4 +1,4 @@
--- The first place at which a test passes, or the length.
+-- The first index at which a test passes, or the length.
 use Rattle.std.proofs.Common.{arith, ◌≡◌, ℕ, ◌≤◌, Bool, true, false, cond, List, [], ◌∷◌, length, Some, None, refl, sym, ap, ◌∙◌, ltb, not, ◌+◌}
 use Rattle.std.specs.List.{position_from, position_or_len, prefix_len}
 use Rattle.std.specs.Option.{unwrap_or}

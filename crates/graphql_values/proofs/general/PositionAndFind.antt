@@ -1,4 +1,4 @@
--- What stands at the place that `position` answers, and whether `find` finds anything.
+-- What stands at the index that `position` answers, and whether `find` finds anything.
 use Rattle.std.proofs.Common.{◌≡◌, ℕ, suc, ◌+◌, ◌<◌, ◌≤◌, Bool, true, false, cond, not, ◌||◌, List, [], ◌∷◌, length, Bor, Option, Some}
 use Rattle.std.proofs.Common.{None, position, slice_set, slice_index_or, nat_lt, refl, sym, ap, ◌∙◌, arith}
 use Rattle.std.specs.List.{find, list_any, position_or_len, HoldsAt}
@@ -43,7 +43,7 @@ module _ {X : Type 0} (test : X → Bool) where
   copied_if_any None xs e = ap is_some e ∙ found_if_any xs
   copied_if_any (Some x) xs e = ap is_some e ∙ found_if_any xs
 
-  -- what is read at the place of `position` is read of the first item that passes
+  -- what is read at the index of `position` is read of the first item that passes
   pub read_at_position : {Y : Type 0} (f : X → Y) (xs : List X) (place : ℕ) (y : Y) → position test xs ≡ Some place →
       HoldsAt (λ x. y ≡ f x) xs place → option_map f (find test xs) ≡ Some y
   read_at_position f [] place y e h = absurd cc
@@ -65,7 +65,7 @@ module _ {X : Type 0} (test : X → Bool) where
     changed_at [] d = refl
     changed_at (x ∷ xs) d = step x xs d (test x) (changed_at xs d)
 
-    -- a list that is changed at the place of `position` is changed at the first item that passes
+    -- a list that is changed at the index of `position` is changed at the first item that passes
     pub changed_at_position : (xs ys : List X) (place : ℕ) → position test xs ≡ Some place →
         HoldsAt (λ x. ys ≡ slice_set xs place (change x)) xs place → ys ≡ first_changed test change xs
     changed_at_position [] ys place e h = absurd cc

@@ -13,7 +13,9 @@ use Rattle.graphql_text.specs.lexical.Tokens.{lbracket, rbracket, lbrace, rbrace
 use Rattle.graphql_text.specs.layout.Layout.{Word, Space, Raise, raises, lowers}
 use Rattle.graphql_text.specs.code.Groups.{comma_rest}
 use Rattle.graphql_text.specs.code.Writing.{fixed_text}
+use Rattle.std.proofs.lemmas.Grind.{common_steps}
 use Rattle.graphql_text.proofs.code.GroupsOpened.{comma_group_opened}
+use Rattle.graphql_text.proofs.code.PendingStackSteps.{pending_items_push, pending_need_push}
 use Rattle.graphql_text.proofs.parts.ToldShapes.{told_balanced}
 use Rattle.graphql_values.specs.lemmas.Values.{told_value}
 use Rattle.graphql_values.specs.code.ValueWalk.{opening, opening_word, opened_level}
@@ -185,3 +187,10 @@ leaf_opening broken (boolean_value boolean) e = refl
 -- what is written of a value raises the level as often as it lowers it
 pub value_balanced : (broken : Bool) (value : ValueTree) → raises (value_shape broken value) ≡ lowers (value_shape broken value)
 value_balanced broken value = told_balanced (told_value broken value)
+
+-- what the walk over values cites
+pub ruleset value_nesting_steps = (value_nesting_list, value_nesting_object)
+
+pub ruleset value_brackets = (empty_list, empty_object, list_bracket, object_bracket)
+
+pub ruleset opening_steps = (nesting_some, fields_some, value_nesting_steps, list_opened, object_opened, pending_items_push, pending_need_push, common_steps)

@@ -1,11 +1,8 @@
 -- The bytes of a numeral, in place or not.
-use Rattle.std.specs.Prelude.{ℕ, List, string_bytes, take}
-use Rattle.graphql_values.specs.declared.numeral.ShortText.{ShortText}
+use Rattle.std.specs.Prelude.{ℕ, List, string_bytes}
+use Rattle.graphql_base.specs.ShortTexts.{short_bytes}
 use Rattle.graphql_values.specs.declared.numeral.Form.{Form}
 use Rattle.graphql_values.specs.declared.numeral.Form.TheVariants.{Short, Long}
-
-abbrev pub short_bytes : ShortText → List ℕ
-short_bytes text = take text.used text.bytes
 
 abbrev pub form_bytes : Form → List ℕ
 form_bytes (Short text) = short_bytes text

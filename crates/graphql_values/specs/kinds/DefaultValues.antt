@@ -18,6 +18,6 @@ default_value_shape broken = optional_shape (λ value. Space ∷ Word (Punctuati
 abbrev pub default_value_nesting : Option ValueTree → ℕ
 default_value_nesting = optional_nesting value_nesting
 
--- The side conditions are those of a value at a constant place.
+-- The side conditions are those of a value in a const context.
 abbrev pub default_value_obeys : Option ValueTree → Bool
 default_value_obeys = optional_obeys (value_obeys Const)

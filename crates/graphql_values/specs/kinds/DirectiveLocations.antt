@@ -1,4 +1,4 @@
--- Directive locations: DirectiveLocation, section 3.13. They are places in GraphQL's grammar, not in a source text.
+-- Directive locations: DirectiveLocation, section 3.13. They are parts of GraphQL's grammar, and no source locations.
 use Rattle.std.specs.Prelude.{ℕ, List, codes}
 use Rattle.graphql_text.specs.grammar.Forms.{Form, keyword}
 use Rattle.graphql_values.specs.kinds.OperationTypes.{OperationTypeTree}

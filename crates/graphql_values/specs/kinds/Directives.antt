@@ -31,7 +31,7 @@ directive_nesting directive = arguments_nesting directive.arguments
 abbrev pub directive_obeys : Constness → DirectiveTree → Bool
 directive_obeys c directive = arguments_obey c directive.arguments
 
--- A directive by itself isn't at a constant place.
+-- A directive by itself isn't in a const context.
 abbrev pub directive_kind : Kind
 directive_kind = record {
   Tree = DirectiveTree;
@@ -57,7 +57,7 @@ directives_nesting = greatest directive_nesting
 abbrev pub directives_obey : Constness → List DirectiveTree → Bool
 directives_obey c = list_all (directive_obeys c)
 
--- A list by itself isn't at a constant place, and may be empty.
+-- A list by itself isn't in a const context, and may be empty.
 abbrev pub directives_kind : Kind
 directives_kind = record {
   Tree = List DirectiveTree;

@@ -25,7 +25,7 @@ input_value_definition_body = record {
   form = λ input.
       name_except [] input.name ⨟ token (Punctuation colon) ⨟ type_form input.type ⨟ default_value_form input.default_value
       ⨟ directives_form Const input.directives;
-  -- the side conditions are those of the default value and the directives, both at constant places
+  -- the side conditions are those of the default value and the directives, both in const contexts
   obeys = λ input. default_value_obeys input.default_value && directives_obey Const input.directives;
   -- the layout of a definition, behind its description
   shape = λ broken front input.

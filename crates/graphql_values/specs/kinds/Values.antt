@@ -7,7 +7,7 @@ use Rattle.graphql_text.specs.grammar.Forms.{Form, token, no_tokens, ◌⨟◌, 
 use Rattle.graphql_text.specs.layout.Nesting.{group_nesting}
 use Rattle.graphql_text.specs.layout.Layout.{Item, Word, StringItem, AsValue, Space, comma_group}
 
--- Value[Const] or Value: whether the place of a value is constant, which admits no variable.
+-- Value[Const] or Value: whether a value stands in a const context, which admits no variable.
 pub data Constness : Type 0 where
   Const NonConst : Constness
 
@@ -49,7 +49,7 @@ unfoldable mutual
   value_form c null_value = keyword (codes "null")
   -- EnumValue, section 2.9.6
   value_form c (enum_value name) = name_except not_enum_values name
-  -- Variable, section 2.10, where the place isn't constant
+  -- Variable, section 2.10, where the context isn't const
   value_form c (variable name) = only_if (admits_variables c ≡ true) (token (Punctuation dollar) ⨟ name_except [] name)
   -- StringValue, section 2.9.4
   value_form c (string_value string) = token (StringValue string.text)
@@ -120,7 +120,7 @@ values_nesting items = group_nesting (values_nestings items)
 abbrev pub object_fields_nesting : ObjectFieldTrees → ℕ
 object_fields_nesting fields = group_nesting (object_fields_nestings fields)
 
--- The side conditions: no enum value is `true`, `false` or `null`, and no variable stands at a constant place.
+-- The side conditions: no enum value is `true`, `false` or `null`, and no variable stands in a const context.
 abbrev mutual
   pub value_obeys : Constness → ValueTree → Bool
   value_obeys c (enum_value name) = is_enum_name name.text
@@ -137,7 +137,7 @@ abbrev mutual
   object_fields_obey c no_fields = true
   object_fields_obey c (more_fields name value more) = value_obeys c value && object_fields_obey c more
 
--- A value by itself isn't at a constant place.
+-- A value by itself isn't in a const context.
 abbrev pub value_kind : Kind
 value_kind = record {
   Tree = ValueTree;

@@ -88,7 +88,7 @@ unfoldable pub got_float : Token → Option FloatText
 got_float (FloatValue s) = checked_text s
 got_float _ = None
 
--- refused at a constant place
+-- refused in a const context
 unfoldable pub unless_const : {A : Type 0} → Constness → Parser A → Parser A
 unless_const Const p = fail
 unless_const NonConst p = p

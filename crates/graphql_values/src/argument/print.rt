@@ -14,7 +14,7 @@ use crate::value::print::{ValueEntry, find_value_nesting, is_value_well_formed};
 use graphql_base::node::Node;
 use graphql_text::writers::{Place, Stack, Target, Written, write_name, write_words};
 
-/// Whether each argument's value is well formed at the place.
+/// Whether each argument's value is well formed in the context.
 pub fn are_arguments_well_formed(arguments: &[Node<Argument>], constness: Constness) -> bool
     ensures { result ≡ arguments_obey (constness_of constness) (argument_trees arguments.now) }
 {

@@ -12,7 +12,7 @@ use crate::directive::Directive;
 use crate::value::print::ValueEntry;
 use graphql_text::engine::{Serialize, Syntax, SyntaxTree};
 use graphql_text::writers::{
-    Place, Stack, Start, Target, Written, write_name, write_whole, write_words,
+    Depths, Place, Stack, Start, Target, Written, write_name, write_whole, write_words,
 };
 use std::alloc::AllocError;
 use std::fmt;
@@ -46,8 +46,8 @@ impl SyntaxTree for Directive {
         Directive::is_well_formed(self)
     }
 
-    fn find_nesting(&self) -> Option<usize> {
-        find_arguments_nesting(&self.arguments)
+    fn find_depths(&self) -> Option<Depths> {
+        Some(Depths::without_types(find_arguments_nesting(&self.arguments)?))
     }
 }
 
@@ -58,8 +58,8 @@ impl Syntax for Directive {
 }
 
 impl<'t> Written<'t, Stack<ValueEntry<'t>>> for Directive {
-    fn reserve(&'t self, depth: usize) -> Result<Stack<ValueEntry<'t>>, AllocError> {
-        Stack::reserve(Some(*self.arguments.allocator()), depth)
+    fn reserve(&'t self, depths: Depths) -> Result<Stack<ValueEntry<'t>>, AllocError> {
+        Stack::reserve(Some(*self.arguments.allocator()), depths.nesting)
     }
 
     fn write_at<O: Target>(

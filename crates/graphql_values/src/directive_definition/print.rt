@@ -15,8 +15,8 @@ use crate::parameters::write_parameters;
 use crate::stacks::Stacks;
 use graphql_text::engine::{Serialize, Syntax, SyntaxTree};
 use graphql_text::writers::{
-    HasTypes, Place, Start, Target, Written, are_parts_well_formed, find_parts_list_depth,
-    find_parts_nesting, write_leading_description, write_name, write_whole, write_words,
+    Depths, Place, Start, Target, Written, are_parts_well_formed, find_parts_depths,
+    write_leading_description, write_name, write_whole, write_words,
 };
 use std::alloc::AllocError;
 use std::fmt;
@@ -78,14 +78,8 @@ impl SyntaxTree for DirectiveDefinition {
         DirectiveDefinition::is_well_formed(self)
     }
 
-    fn find_nesting(&self) -> Option<usize> {
-        find_parts_nesting(&self.arguments)
-    }
-}
-
-impl HasTypes for DirectiveDefinition {
-    fn find_list_depth(&self) -> Option<usize> {
-        find_parts_list_depth(&self.arguments)
+    fn find_depths(&self) -> Option<Depths> {
+        find_parts_depths(&self.arguments)
     }
 }
 
@@ -96,8 +90,8 @@ impl Syntax for DirectiveDefinition {
 }
 
 impl<'t> Written<'t, Stacks<'t>> for DirectiveDefinition {
-    fn reserve(&'t self, depth: usize) -> Result<Stacks<'t>, AllocError> {
-        Stacks::reserve(*self.arguments.allocator(), depth, self.find_list_depth())
+    fn reserve(&'t self, depths: Depths) -> Result<Stacks<'t>, AllocError> {
+        Stacks::reserve(*self.arguments.allocator(), depths)
     }
 
     fn write_at<O: Target>(&'t self, out: &mut O, place: &Place<'_>, stacks: &mut Stacks<'t>) {

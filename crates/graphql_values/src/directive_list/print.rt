@@ -10,14 +10,16 @@ ghost use Rattle.graphql_values.specs.kinds.Directives.{directives_kind, directi
 ghost use Rattle.graphql_values.specs.trees.ValueTrees.{constness_of};
 ghost use Rattle.graphql_values.specs.lemmas.Directives.{directives_laws};
 
-use crate::argument::print::are_arguments_well_formed;
+use crate::argument::print::{are_arguments_well_formed, find_arguments_nesting};
 use crate::constness::Constness;
 use crate::directive::Directive;
 use crate::directive_list::DirectiveList;
 use crate::value::print::ValueEntry;
 use graphql_base::node::Node;
 use graphql_text::engine::{Serialize, Syntax, SyntaxTree};
-use graphql_text::writers::{Place, Stack, Start, Target, Written, write_whole, write_words};
+use graphql_text::writers::{
+    Depths, Place, Stack, Start, Target, Written, write_whole, write_words,
+};
 use std::alloc::AllocError;
 use std::fmt;
 
@@ -35,12 +37,13 @@ pub fn are_directives_well_formed(directives: &DirectiveList, constness: Constne
 }
 
 /// The nesting depth of the directive that nests most. `None` if it is above `usize::MAX`.
-fn find_directives_nesting(directives: &[Node<Directive>]) -> Option<usize>
-    ensures { IsCount result (directives_nesting (directive_node_trees directives.now)) }
+pub fn find_directives_nesting(directives: &DirectiveList) -> Option<usize>
+    ensures { IsCount result (directives_nesting (directive_trees directives.now)) }
 {
+    let nodes = directives.0.as_slice();
     let mut most = 0;
-    for directive in directives {
-        most = most.max(directive.find_nesting()?);
+    for directive in nodes {
+        most = most.max(find_arguments_nesting(&directive.arguments)?);
     }
     Some(most)
 }
@@ -97,8 +100,8 @@ impl SyntaxTree for DirectiveList {
         DirectiveList::is_well_formed(self)
     }
 
-    fn find_nesting(&self) -> Option<usize> {
-        find_directives_nesting(&self.0)
+    fn find_depths(&self) -> Option<Depths> {
+        Some(Depths::without_types(find_directives_nesting(self)?))
     }
 }
 
@@ -109,8 +112,8 @@ impl Syntax for DirectiveList {
 }
 
 impl<'t> Written<'t, Stack<ValueEntry<'t>>> for DirectiveList {
-    fn reserve(&'t self, depth: usize) -> Result<Stack<ValueEntry<'t>>, AllocError> {
-        Stack::reserve(Some(self.allocator()), depth)
+    fn reserve(&'t self, depths: Depths) -> Result<Stack<ValueEntry<'t>>, AllocError> {
+        Stack::reserve(Some(self.allocator()), depths.nesting)
     }
 
     #[inline(always)]

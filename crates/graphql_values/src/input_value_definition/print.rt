@@ -12,14 +12,14 @@ use crate::constness::Constness;
 use crate::default_value::{
     find_default_value_nesting, is_default_value_well_formed, write_default_value,
 };
-use crate::directive_list::print::are_directives_well_formed;
+use crate::directive_list::print::{are_directives_well_formed, find_directives_nesting};
 use crate::input_value_definition::InputValueDefinition;
 use crate::stacks::Stacks;
 use crate::types::print::{find_list_depth, write_type};
 use graphql_base::node::Node;
 use graphql_text::engine::{Serialize, Syntax, SyntaxTree};
 use graphql_text::writers::{
-    HasTypes, Place, Start, Target, Written, write_leading_description, write_name, write_whole,
+    Depths, Place, Start, Target, Written, write_leading_description, write_name, write_whole,
     write_words,
 };
 use std::alloc::AllocError;
@@ -70,15 +70,12 @@ impl SyntaxTree for InputValueDefinition {
         InputValueDefinition::is_well_formed(self)
     }
 
-    fn find_nesting(&self) -> Option<usize> {
+    fn find_depths(&self) -> Option<Depths> {
         let value = find_default_value_nesting(self.default_value.as_ref())?;
-        Some(value.max(self.directives.find_nesting()?))
-    }
-}
-
-impl HasTypes for InputValueDefinition {
-    fn find_list_depth(&self) -> Option<usize> {
-        find_list_depth(&self.ty)
+        Some(Depths {
+            nesting: value.max(find_directives_nesting(&self.directives)?),
+            lists: find_list_depth(&self.ty),
+        })
     }
 }
 
@@ -89,8 +86,8 @@ impl Syntax for InputValueDefinition {
 }
 
 impl<'t> Written<'t, Stacks<'t>> for InputValueDefinition {
-    fn reserve(&'t self, depth: usize) -> Result<Stacks<'t>, AllocError> {
-        Stacks::reserve(self.directives.allocator(), depth, self.find_list_depth())
+    fn reserve(&'t self, depths: Depths) -> Result<Stacks<'t>, AllocError> {
+        Stacks::reserve(self.directives.allocator(), depths)
     }
 
     fn write_at<O: Target>(&'t self, out: &mut O, place: &Place<'_>, stacks: &mut Stacks<'t>) {

@@ -1,6 +1,6 @@
 //! What holds of trees and errors as they are compared, hashed and cloned.
 ghost use Rattle.std.specs.Prelude.{◌≡◌, ◌↔◌, IsTrue};
-ghost use Rattle.graphql_text.specs.trees.Comparisons.{IsComparedBy, IsHashedAlike};
+ghost use Rattle.graphql_text.specs.trees.Comparisons.{◌&◌, AreKept, IsComparedBy, IsHashedAlike};
 ghost use Rattle.graphql_values.specs.trees.DefinitionTrees.{directive_definition_tree, input_value_definition_tree};
 ghost use Rattle.graphql_values.specs.trees.DirectiveTrees.{argument_tree, directive_tree, directive_trees};
 ghost use Rattle.graphql_values.specs.trees.Literals.{float_text, int_text};
@@ -9,16 +9,6 @@ ghost use Rattle.graphql_values.specs.trees.TypeTrees.{type_tree, type_wrapping}
 ghost use Rattle.graphql_values.specs.trees.ValueTrees.{IsCloneOf, value_tree};
 ghost use Rattle.graphql_values.specs.declared.directive.ArgumentByNameError.{ArgumentByNameError};
 ghost use Rattle.graphql_values.specs.declared.directive.SpecifiedArgumentError.{SpecifiedArgumentError};
-ghost use Rattle.graphql_values.specs.declared.directive_definition.DirectiveDefinition.{DirectiveDefinition};
-ghost use Rattle.graphql_values.specs.declared.input_value_definition.InputValueDefinition.{InputValueDefinition};
-ghost use Rattle.graphql_values.specs.declared.argument.Argument.{Argument};
-ghost use Rattle.graphql_values.specs.declared.directive.Directive.{Directive};
-ghost use Rattle.graphql_values.specs.declared.directive_list.DirectiveList.{DirectiveList};
-ghost use Rattle.graphql_values.specs.declared.literal.FloatValue.{FloatValue};
-ghost use Rattle.graphql_values.specs.declared.literal.IntValue.{IntValue};
-ghost use Rattle.graphql_values.specs.declared.directive_location.DirectiveLocation.{DirectiveLocation};
-ghost use Rattle.graphql_values.specs.declared.operation_type.OperationType.{OperationType};
-ghost use Rattle.graphql_values.specs.declared.types.Type.{«Type»};
 ghost use Rattle.graphql_values.specs.declared.value.Value.{Value};
 
 use crate::argument::Argument;
@@ -64,31 +54,22 @@ pub fn equal_trees_hash_alike()
 
 /// A clone has the same tree, and the very names, nodes and other parts, at the same locations.
 pub fn clones_are_the_same()
-    ensures ints { (a b : IntValue) → ⟦<IntValue as Clone>⟧.is_clone a b → b ≡ a }
-    ensures floats { (a b : FloatValue) → ⟦<FloatValue as Clone>⟧.is_clone a b → b ≡ a }
+    ensures ints { AreKept ⟦<IntValue as Clone>⟧.is_clone (λ it. it) }
+    ensures floats { AreKept ⟦<FloatValue as Clone>⟧.is_clone (λ it. it) }
     ensures values { (a b : Value) → ⟦<Value as Clone>⟧.is_clone a b →
         IsCloneOf a b × (value_tree b ≡ value_tree a) }
-    ensures types { (a b : «Type») → ⟦<Type as Clone>⟧.is_clone a b →
-        (type_wrapping b ≡ type_wrapping a) × (type_tree b ≡ type_tree a) }
-    ensures arguments { (a b : Argument) → ⟦<Argument as Clone>⟧.is_clone a b → b ≡ a }
-    ensures directives { (a b : Directive) → ⟦<Directive as Clone>⟧.is_clone a b →
-        (b.name ≡ a.name) × (b.arguments.items ≡ a.arguments.items)
-        × (directive_tree b ≡ directive_tree a) }
-    ensures directive_lists { (a b : DirectiveList) → ⟦<DirectiveList as Clone>⟧.is_clone a b →
-        (b.0.items ≡ a.0.items) × (directive_trees b ≡ directive_trees a) }
-    ensures input_value_definitions { (a b : InputValueDefinition) →
-        ⟦<InputValueDefinition as Clone>⟧.is_clone a b →
-        (b.description ≡ a.description) × (b.name ≡ a.name) × (b.ty ≡ a.ty)
-        × (b.default_value ≡ a.default_value) × (b.directives.0.items ≡ a.directives.0.items)
-        × (input_value_definition_tree b ≡ input_value_definition_tree a) }
-    ensures directive_definitions { (a b : DirectiveDefinition) →
-        ⟦<DirectiveDefinition as Clone>⟧.is_clone a b →
-        (b.description ≡ a.description) × (b.name ≡ a.name)
-        × (b.arguments.items ≡ a.arguments.items)
-        × (b.repeatable ≡ a.repeatable) × (b.locations.items ≡ a.locations.items)
-        × (directive_definition_tree b ≡ directive_definition_tree a) }
-    ensures operation_types { (a b : OperationType) →
-        ⟦<OperationType as Clone>⟧.is_clone a b → b ≡ a }
-    ensures locations { (a b : DirectiveLocation) →
-        ⟦<DirectiveLocation as Clone>⟧.is_clone a b → b ≡ a }
+    ensures types { AreKept ⟦<Type as Clone>⟧.is_clone (λ it. type_wrapping it & type_tree it) }
+    ensures arguments { AreKept ⟦<Argument as Clone>⟧.is_clone (λ it. it) }
+    ensures directives { AreKept ⟦<Directive as Clone>⟧.is_clone (λ it. it.name & it.arguments.items
+        & directive_tree it) }
+    ensures directive_lists { AreKept ⟦<DirectiveList as Clone>⟧.is_clone (λ it. it.0.items
+        & directive_trees it) }
+    ensures input_value_definitions { AreKept ⟦<InputValueDefinition as Clone>⟧.is_clone
+        (λ it. it.description & it.name & it.ty & it.default_value & it.directives.0.items
+        & input_value_definition_tree it) }
+    ensures directive_definitions { AreKept ⟦<DirectiveDefinition as Clone>⟧.is_clone
+        (λ it. it.description & it.name & it.arguments.items & it.repeatable & it.locations.items
+        & directive_definition_tree it) }
+    ensures operation_types { AreKept ⟦<OperationType as Clone>⟧.is_clone (λ it. it) }
+    ensures locations { AreKept ⟦<DirectiveLocation as Clone>⟧.is_clone (λ it. it) }
 {}

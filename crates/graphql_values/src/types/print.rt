@@ -1,7 +1,7 @@
 //! Types are printed: the loops that write a type, and its `Display`.
 ghost use Rattle.std.specs.Prelude.{◌≡◌, None, Some, IsNone, OnOk, OnErr, encode_utf8_all};
 ghost use Rattle.graphql_text.specs.kinds.Kinds.{layout_of};
-ghost use Rattle.graphql_text.specs.layout.Levels.{IsCount};
+ghost use Rattle.graphql_text.specs.layout.Levels.{capped};
 ghost use Rattle.graphql_text.specs.code.Stack.{stack_entries, IsReady, IsKept};
 ghost use Rattle.graphql_text.specs.code.Writing.{WritesAnywhere};
 ghost use Rattle.graphql_values.specs.kinds.TypeReferences.{list_depth, type_kind, type_shape};
@@ -22,18 +22,18 @@ pub enum TypeEntry {
     EndOfNonNullList,
 }
 
-/// How many lists stand around the name of a type, which is how many entries its stack needs room for. `None` if it
-/// is above `usize::MAX`.
-pub fn find_list_depth(ty: &Type) -> Option<usize>
-    ensures { IsCount result (list_depth (type_tree ty.now)) }
+/// How many lists stand around the name of a type, which is how many entries its stack needs room for. `usize::MAX`
+/// stands for that many and for more.
+pub fn find_list_depth(ty: &Type) -> usize
+    ensures { result ≡ capped (list_depth (type_tree ty.now)) }
 {
     let mut depth: usize = 0;
     let mut inner = ty;
     loop {
         match inner {
-            Type::Named(_) | Type::NonNullNamed(_) => return Some(depth),
+            Type::Named(_) | Type::NonNullNamed(_) => return depth,
             Type::List(item) | Type::NonNullList(item) => {
-                depth = depth.checked_add(1)?;
+                depth = depth.saturating_add(1);
                 inner = item;
             }
         }
@@ -119,8 +119,7 @@ fn write_type_alone<O: Target>(out: &mut O, ty: &Type) -> Result<(), AllocError>
         (encode_utf8_all (layout_of type_kind None 0 (type_tree ty.now))) out.new) }
     ensures err { OnErr result (out.new ≡ out.old) }
 {
-    let depth = find_list_depth(ty).ok_or(AllocError)?;
-    let mut stack = Stack::reserve(type_allocator(ty), depth)?;
+    let mut stack = Stack::reserve(type_allocator(ty), find_list_depth(ty))?;
     write_type(out, &mut stack, ty);
     Ok(())
 }

@@ -1,25 +1,29 @@
 //! Values are printed: the loop that writes a value, and its `Syntax`.
-ghost use Rattle.std.specs.Prelude.{◌≡◌, Some, ◌+◌, ◌≤◌, ◌<◌, ◌++◌, List, ◌∷◌, Bool, IsNone, length, MatchOption};
-ghost use Rattle.graphql_text.specs.layout.Layout.{Item, Lower, Tight, last_comma};
+ghost use Rattle.std.specs.Prelude.{◌≡◌, Some, ◌+◌, ◌≤◌, ◌<◌, ◌++◌, List, [], ◌∷◌, Bool, IsNone, length, MatchOption};
+ghost use Rattle.graphql_text.specs.layout.Layout.{Item, Lower, Tight, Word, last_comma};
+ghost use Rattle.graphql_text.specs.lexical.Tokens.{IntValue as IntToken, FloatValue as FloatToken};
 ghost use Rattle.graphql_text.specs.layout.Levels.{Fits, IsCount};
 ghost use Rattle.graphql_text.specs.code.Place.{breaks, mode_of};
 ghost use Rattle.graphql_text.specs.kinds.PrintedKinds.{no_types};
 ghost use Rattle.graphql_text.specs.kinds.Printing.{IsDefaultPrint, default_bytes};
 ghost use Rattle.graphql_text.specs.code.Stack.{CanWrite, IsKept, stack_entries, stack_room};
-ghost use Rattle.graphql_text.specs.code.Writing.{IsCommaLead, Writes, WritesToLevel, fixed_text};
+ghost use Rattle.graphql_text.specs.code.Writing.{IsCommaLead, Writes, WritesAnywhere, WritesToLevel, fixed_text};
 ghost use Rattle.graphql_values.specs.kinds.Values.{boolean_value, is_enum_name, object_fields_nesting, object_fields_obey, value_kind, value_nesting, value_obeys, value_shape, values_nesting, values_obey};
+ghost use Rattle.graphql_values.specs.trees.Literals.{float_text, int_text};
 ghost use Rattle.graphql_values.specs.trees.ValueTrees.{constness_of, object_field_trees, value_tree, value_trees};
 ghost use Rattle.graphql_values.specs.code.ValueWalk.{CanGoOn, GoesOn, OpensValue, need_with, opened_level, opening, opening_word, stack_items, stack_need};
 ghost use Rattle.graphql_values.specs.lemmas.Values.{value_laws};
 
 use crate::constness::Constness;
+use crate::literal::{FloatValue, IntValue};
 use crate::value::Value;
 use graphql_base::name::Name;
 use graphql_base::node::Node;
 use graphql_text::engine::{Serialize, Syntax, SyntaxTree};
 use graphql_text::writers::{
-    Place, Stack, Start, Target, Written, ready_comma_lead, write_comma_end, write_comma_lead,
-    write_float, write_int, write_name, write_string_value, write_whole, write_words,
+    Depths, Place, ReadyCommaBreak, Stack, Start, Target, Written, ready_comma_lead,
+    write_comma_end, write_comma_lead, write_float, write_int, write_name, write_padded_float,
+    write_padded_int, write_string_value, write_whole, write_words,
 };
 use std::alloc::{AllocError, Global};
 use std::fmt;
@@ -31,7 +35,7 @@ pub fn is_enum_name(name: &str) -> bool
     name != "true" && name != "false" && name != "null"
 }
 
-/// Whether no enum value in the value is `true`, `false` or `null`, and no variable stands in it where the place is
+/// Whether no enum value in the value is `true`, `false` or `null`, and no variable stands in it where the context is
 /// constant.
 #[cycle(value_is_well_formed)]
 pub fn is_value_well_formed(value: &Value, constness: Constness) -> bool
@@ -83,7 +87,7 @@ pub enum ValueEntry<'a> {
 /// How many lists and objects that aren't empty stand in one another. `None` if it is above `usize::MAX`.
 #[cycle(nesting)]
 #[inline(always)]
-#[tactic(auto, using(crate::proofs::layout::ValueShapes::value_nesting_list, crate::proofs::layout::ValueShapes::value_nesting_object))]
+#[tactic(auto, using(crate::proofs::layout::ValueShapes::value_nesting_steps))]
 pub fn find_value_nesting(value: &Value) -> Option<usize>
     ensures { IsCount result (value_nesting (value_tree value.now)) }
 {
@@ -138,7 +142,7 @@ fn find_fields_nesting(fields: &[(Name, Node<Value>)]) -> Option<usize>
 
 /// The opening bracket of a list or an object with items. Any other value is written whole at once.
 #[inline(always)]
-#[tactic(auto, using(crate::proofs::layout::ValueShapes::empty_list, crate::proofs::layout::ValueShapes::empty_object, crate::proofs::layout::ValueShapes::list_bracket, crate::proofs::layout::ValueShapes::object_bracket))]
+#[tactic(auto, using(crate::proofs::layout::ValueShapes::value_brackets))]
 fn opening_bracket(value: &Value) -> Option<&'static str>
     ensures { MatchOption result (opened_level (value_tree value.now) ≡ 0) (λ bracket.
         (opened_level (value_tree value.now) ≡ 1)
@@ -157,6 +161,29 @@ fn opening_bracket(value: &Value) -> Option<&'static str>
     }
 }
 
+/// Writes an int.
+#[inline(always)]
+fn write_int_value<O: Target>(out: &mut O, int: &IntValue)
+    ensures { WritesAnywhere O.wrote out.old out.new (Word (IntToken (int_text int.now)) ∷ []) }
+{
+    match int.short_text() {
+        Some(text) => write_padded_int(out, text),
+        None => write_int(out, int.as_str()),
+    }
+}
+
+/// Writes a float.
+#[inline(always)]
+fn write_float_value<O: Target>(out: &mut O, float: &FloatValue)
+    ensures { WritesAnywhere O.wrote out.old out.new
+        (Word (FloatToken (float_text float.now)) ∷ []) }
+{
+    match float.short_text() {
+        Some(text) => write_padded_float(out, text),
+        None => write_float(out, float.as_str()),
+    }
+}
+
 /// Writes a value that has no items or fields.
 #[inline(always)]
 fn write_leaf<O: Target>(out: &mut O, place: &Place<'_>, value: &Value)
@@ -172,8 +199,8 @@ fn write_leaf<O: Target>(out: &mut O, place: &Place<'_>, value: &Value)
             write_name(out, name);
         }
         Value::String(text) => write_string_value(out, place, text.as_str()),
-        Value::Float(float) => write_float(out, float.as_str()),
-        Value::Int(int) => write_int(out, int.as_str()),
+        Value::Float(float) => write_float_value(out, float),
+        Value::Int(int) => write_int_value(out, int),
         Value::Boolean(boolean) => write_words(out, boolean_word(*boolean)),
         Value::List(_) => write_words(out, "[]"),
         Value::Object(_) => write_words(out, "{}"),
@@ -190,7 +217,7 @@ fn boolean_word(boolean: bool) -> &'static str
 
 /// Puts on the stack what is in a value: the items or fields of a list or an object that has some.
 #[inline(always)]
-#[tactic(auto, using(crate::proofs::layout::ValueShapes::nesting_some, crate::proofs::layout::ValueShapes::fields_some, crate::proofs::layout::ValueShapes::value_nesting_list, crate::proofs::layout::ValueShapes::value_nesting_object, crate::proofs::layout::ValueShapes::list_opened, crate::proofs::layout::ValueShapes::object_opened, graphql_text::proofs::code::PendingStackSteps::pending_items_push, graphql_text::proofs::code::PendingStackSteps::pending_need_push, std::proofs::lemmas::Grind::common_steps))]
+#[tactic(auto, using(crate::proofs::layout::ValueShapes::opening_steps))]
 fn put_inner<'a>(stack: &mut Stack<ValueEntry<'a>>, value: &'a Value)
     requires room { need_with (value_tree value.now) (stack_entries stack.old)
         ≤ stack_room stack.old }
@@ -273,7 +300,7 @@ fn write_next_item<'a, O: Target>(
     out: &mut O,
     here: &mut Place<'_>,
     stack: &mut Stack<ValueEntry<'a>>,
-    lead: Option<&'static str>,
+    lead: Option<ReadyCommaBreak>,
     items: &'a [Node<Value>],
     is_first: bool,
 )
@@ -338,7 +365,7 @@ fn write_next_field<'a, O: Target>(
     out: &mut O,
     here: &mut Place<'_>,
     stack: &mut Stack<ValueEntry<'a>>,
-    lead: Option<&'static str>,
+    lead: Option<ReadyCommaBreak>,
     fields: &'a [(Name, Node<Value>)],
     is_first: bool,
 )
@@ -469,8 +496,8 @@ impl SyntaxTree for Value {
         Value::is_well_formed(self)
     }
 
-    fn find_nesting(&self) -> Option<usize> {
-        find_value_nesting(self)
+    fn find_depths(&self) -> Option<Depths> {
+        Some(Depths::without_types(find_value_nesting(self)?))
     }
 }
 
@@ -481,8 +508,8 @@ impl Syntax for Value {
 }
 
 impl<'t> Written<'t, Stack<ValueEntry<'t>>> for Value {
-    fn reserve(&'t self, depth: usize) -> Result<Stack<ValueEntry<'t>>, AllocError> {
-        Stack::reserve(self.allocator(), depth)
+    fn reserve(&'t self, depths: Depths) -> Result<Stack<ValueEntry<'t>>, AllocError> {
+        Stack::reserve(self.allocator(), depths.nesting)
     }
 
     fn write_at<O: Target>(

@@ -6,6 +6,6 @@ use Rattle.graphql_text.proofs.breaks.ready_comma_break.Goals as goal
 pub returns-then-level-le-READY_LEVELS-clause-text : goal.returns-then-level-le-READY_LEVELS-clause-text
 returns-then-level-le-READY_LEVELS-clause-text c =
     let spaces : c.args.prefix.now ≡ codes "  " = c.requires c.if-is_two_spaces.true in
-    c.two_space_comma_break.ensures
+    c.new.ensures
     ∙ ap (λ text. codes "," ++ text)
     (ap (λ prefix. break_text prefix c.args.level) (sym spaces) ∙ break_in_chars c.args.level c.args.prefix.now c.utf8.prefix)

@@ -7,7 +7,7 @@ use Rattle.graphql_text.proofs.writers.write_comma_end.Goals as goal
 pub returns-in-Some-ready_comma_break : goal.returns-in-Some-ready_comma_break
 unfolding encode
 returns-in-Some-ready_comma_break g c =
-    let written = rw c.in-Some-ready_comma_break.ensures.text at c.text.ensures in
+    let written = rw c.in-Some-ready_comma_break.ensures.text at c.padded.ensures in
     rw c.in-Some.is (writes_comma_tight written)
 
 pub returns-in-None-ready_comma_break : goal.returns-in-None-ready_comma_break

@@ -9,7 +9,7 @@ pub returns-in-Some-ready : goal.returns-in-Some-ready
 unfolding encode
 returns-in-Some-ready g c =
     let lead = rw c.in-Some-ready.is at c.requires in
-    let written = rw lead at c.text.ensures in
+    let written = rw lead at c.padded.ensures in
     rw c.if-is_first.false (writes_comma_soft written)
 
 pub returns-in-None-ready : goal.returns-in-None-ready
@@ -18,4 +18,4 @@ returns-in-None-ready g c = rw (c.if-is_first.false, c.in-Some.is) (writes_comma
 
 pub returns-in-None : goal.returns-in-None
 unfolding encode
-returns-in-None g c = rw (c.if-is_first.false, c.in-None.is) (writes_comma_soft c.text-in-None.ensures)
+returns-in-None g c = rw (c.if-is_first.false, c.in-None.is) (writes_comma_soft c.text.ensures)

@@ -1,4 +1,4 @@
-use Rattle.std.proofs.Common.{◌≡◌, List, [], ◌∷◌, map, refl, ap, ap₂, rules}
+use Rattle.std.proofs.Common.{◌≡◌, List, [], ◌∷◌, map, refl, ap₂, rules}
 use Rattle.std.specs.List.{AllZip}
 use Rattle.std.proofs.lemmas.List.Elements.{same_from_all_zip}
 use Rattle.graphql_ast.specs.AstTrees.{definition_trees}
@@ -19,4 +19,4 @@ returns-clause-documents c = λ a b same.
     mapped_alike _ _ (λ p q e. ap₂ (λ id texts. (id, texts)) e.0 (ap₂ (λ path text. (path, text)) e.1.0 e.1.1)) a.sources.entries b.sources.entries same.0 in
     let definitions : b.definitions.items ≡ a.definitions.items =
     same_from_all_zip definition.ghosts.is_clone _ _ same.1.0 (λ n m e. search rules) in
-    (sources, definitions, ap definition_trees definitions)
+    λ i. (sources i, (definitions i, definition_trees (definitions i)))

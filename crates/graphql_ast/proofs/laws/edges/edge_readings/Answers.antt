@@ -2,7 +2,7 @@ use Rattle.std.proofs.Common.{[], ◌∷◌, codes, inl, inr, refl}
 use Rattle.graphql_text.specs.grammar.Forms.{◌⨟◌, either, name_except, no_tokens, no_brace, only_if, optional_token, token}
 use Rattle.graphql_text.specs.lexical.Tokens.{rbrace, Punctuation}
 use Rattle.graphql_text.proofs.parts.Parts.{begins_none}
-use Rattle.graphql_text.proofs.examples.TextReadings.{part_reads}
+use Rattle.graphql_text.proofs.examples.TextReadings.{parts_read}
 use Rattle.graphql_text.proofs.reader.ReaderSound.{lex_sound}
 use Rattle.graphql_executable.proofs.examples.ExecutableReadings as executable
 use Rattle.graphql_executable.specs.examples.ExecutableExamples.{set_of_a}
@@ -10,7 +10,7 @@ use Rattle.graphql_executable.specs.kinds.OperationDefinitions.{operation_form}
 use Rattle.graphql_executable.specs.lemmas.Selections.{selection_part, selection_set_part}
 use Rattle.graphql_type_system.specs.lemmas.Bodies.{field_definition_part}
 use Rattle.graphql_type_system.specs.lemmas.Kinds.{union_type_definition_part}
-use Rattle.graphql_ast.specs.examples.DocumentExamples.{field_a, fragment_on_t, query_query, set_of_alias, spread_of_once, union_u}
+use Rattle.graphql_ast.specs.examples.DocumentExamples.{field_a, set_of_alias, union_u}
 use Rattle.graphql_ast.specs.lemmas.Definitions.{definition_part}
 use Rattle.graphql_ast.proofs.examples.DocumentReadings.{printed}
 use Rattle.graphql_ast.proofs.laws.edges.edge_readings.Goals as goal
@@ -106,14 +106,10 @@ returns-clause-leading_bar_of_locations c = (
   (_, refl, (_, refl, (_, refl, (_, (refl, refl), (_, refl, (_, refl, (_, refl, (_, inr refl, (_, refl, refl))))))))),
 )
 
-pub returns-clause-query_named_query : goal.returns-clause-query_named_query
+pub returns-clause-definitions : goal.returns-clause-definitions
 unfolding printed
-returns-clause-query_named_query c = part_reads definition_part (codes "query query{query}") query_query refl refl refl
+returns-clause-definitions c = parts_read definition_part _ refl
 
-pub returns-clause-inline_fragment : goal.returns-clause-inline_fragment
+pub returns-clause-selections : goal.returns-clause-selections
 unfolding executable.printed
-returns-clause-inline_fragment c = part_reads selection_part (codes "...on T{a}") fragment_on_t refl refl refl
-
-pub returns-clause-spread_of_once : goal.returns-clause-spread_of_once
-unfolding executable.printed
-returns-clause-spread_of_once c = part_reads selection_part (codes "...once") spread_of_once refl refl refl
+returns-clause-selections c = parts_read selection_part _ refl

@@ -25,7 +25,7 @@ returns-clause-fields c = λ a b same. (
 pub returns-clause-fragment_spreads : goal.returns-clause-fragment_spreads
 returns-clause-fragment_spreads c = λ a b same.
     let directives : b.directives.0.items ≡ a.directives.0.items = same_from_all_zip (λ n m. m ≡ n) _ _ same.1.0 (λ x y e. e) in
-    (same.0, directives, λ i. record { name = name_tree (same.0 i); directives = directive_node_trees (directives i) })
+    λ i. (same.0 i, (directives i, record { name = name_tree (same.0 i); directives = directive_node_trees (directives i) }))
 
 pub returns-clause-inline_fragments : goal.returns-clause-inline_fragments
 returns-clause-inline_fragments c = λ a b same. (
@@ -42,42 +42,62 @@ returns-clause-operation_definitions c = λ a b same.
     let name : b.name ≡ a.name = search rules in
     let variables : b.variables.items ≡ a.variables.items = same_from_all_zip (λ n m. m ≡ n) _ _ same.1.1.1.0.0 (λ x y e. e) in
     let directives : b.directives.0.items ≡ a.directives.0.items = same_from_all_zip (λ n m. m ≡ n) _ _ same.1.1.1.1.0.0 (λ x y e. e) in
-    let selections : b.selection_set.items ≡ a.selection_set.items = same_from_all_zip (λ n m. m ≡ n) _ _ same.1.1.1.1.1.0 (λ x y e. e) in (
-      description,
-      same.1.0,
-      name,
-      variables,
-      directives,
-      selections,
-      λ i. record {
-        description = option_map description_tree (description i);
-        body = record {
-          operation_type = operation_type_tree (same.1.0 i);
-          name = option_map name_tree (name i);
-          variables = variable_definition_trees (variables i);
-          directives = directive_node_trees (directives i);
-          selections = selection_trees (selections i);
-        };
-      },
+    let selections : b.selection_set.items ≡ a.selection_set.items = same_from_all_zip (λ n m. m ≡ n) _ _ same.1.1.1.1.1.0 (λ x y e. e) in
+    λ i. (
+      description i,
+      (
+        same.1.0 i,
+        (
+          name i,
+          (
+            variables i,
+            (
+              directives i,
+              (
+                selections i,
+                record {
+                  description = option_map description_tree (description i);
+                  body = record {
+                    operation_type = operation_type_tree (same.1.0 i);
+                    name = option_map name_tree (name i);
+                    variables = variable_definition_trees (variables i);
+                    directives = directive_node_trees (directives i);
+                    selections = selection_trees (selections i);
+                  };
+                },
+              ),
+            ),
+          ),
+        ),
+      ),
     )
 
 pub returns-clause-fragment_definitions : goal.returns-clause-fragment_definitions
 returns-clause-fragment_definitions c = λ a b same.
     let description : b.description ≡ a.description = search rules in
     let directives : b.directives.0.items ≡ a.directives.0.items = same_from_all_zip (λ n m. m ≡ n) _ _ same.1.1.1.0.0 (λ x y e. e) in
-    let selections : b.selection_set.items ≡ a.selection_set.items = same_from_all_zip (λ n m. m ≡ n) _ _ same.1.1.1.1.0 (λ x y e. e) in (
-      description,
-      same.1.0,
-      same.1.1.0,
-      directives,
-      selections,
-      λ i. record {
-        description = option_map description_tree (description i);
-        body = record {
-          name = name_tree (same.1.0 i);
-          type_condition = name_tree (same.1.1.0 i);
-          directives = directive_node_trees (directives i);
-          selections = selection_trees (selections i);
-        };
-      },
+    let selections : b.selection_set.items ≡ a.selection_set.items = same_from_all_zip (λ n m. m ≡ n) _ _ same.1.1.1.1.0 (λ x y e. e) in
+    λ i. (
+      description i,
+      (
+        same.1.0 i,
+        (
+          same.1.1.0 i,
+          (
+            directives i,
+            (
+              selections i,
+              record {
+                description = option_map description_tree (description i);
+                body = record {
+                  name = name_tree (same.1.0 i);
+                  type_condition = name_tree (same.1.1.0 i);
+                  directives = directive_node_trees (directives i);
+                  selections = selection_trees (selections i);
+                };
+              },
+            ),
+          ),
+        ),
+      ),
     )

@@ -1,11 +1,7 @@
 use Rattle.std.proofs.Common.{codes, inr, refl}
 use Rattle.graphql_text.specs.grammar.Forms.{◌⨟◌, name_except, no_tokens, no_brace, optional_token, token}
-use Rattle.graphql_text.proofs.examples.TextReadings.{part_reads}
+use Rattle.graphql_text.proofs.examples.TextReadings.{parts_read}
 use Rattle.graphql_text.proofs.reader.ReaderSound.{lex_sound}
-use Rattle.graphql_type_system.specs.examples.TypeSystemExamples.{bare_enum, bare_input, bare_scalar, bare_type, bare_union}
-use Rattle.graphql_type_system.specs.examples.TypeSystemExamples.{described_field, enum_with_all, input_with_all, plain}
-use Rattle.graphql_type_system.specs.examples.TypeSystemExamples.{scalar_with_directive, schema_with_all, schema_with_operation}
-use Rattle.graphql_type_system.specs.examples.TypeSystemExamples.{type_with_all, union_with_both, value_with_directive, with_description}
 use Rattle.graphql_type_system.specs.lemmas.Bodies.{enum_value_definition_part, field_definition_part}
 use Rattle.graphql_type_system.specs.lemmas.Kinds.{enum_type_definition_part, input_object_type_definition_part}
 use Rattle.graphql_type_system.specs.lemmas.Kinds.{interface_type_definition_part, object_type_definition_part, scalar_type_definition_part}
@@ -13,70 +9,41 @@ use Rattle.graphql_type_system.specs.lemmas.Kinds.{schema_definition_part, union
 use Rattle.graphql_type_system.proofs.examples.TypeSystemReadings.{printed}
 use Rattle.graphql_type_system.proofs.laws.readings.definitions_are_read.Goals as goal
 
-pub returns-clause-scalar : goal.returns-clause-scalar
+pub returns-clause-scalar_type_definitions : goal.returns-clause-scalar_type_definitions
 unfolding printed
-returns-clause-scalar c = part_reads scalar_type_definition_part (codes "scalar S") (plain bare_scalar) refl refl refl
+returns-clause-scalar_type_definitions c = parts_read scalar_type_definition_part _ refl
 
-pub returns-clause-described_scalar : goal.returns-clause-described_scalar
+pub returns-clause-field_definitions : goal.returns-clause-field_definitions
 unfolding printed
-returns-clause-described_scalar c = part_reads scalar_type_definition_part (codes "\"d\" scalar S @d") (with_description scalar_with_directive) refl refl refl
+returns-clause-field_definitions c = parts_read field_definition_part _ refl
 
-pub returns-clause-field : goal.returns-clause-field
+pub returns-clause-object_type_definitions : goal.returns-clause-object_type_definitions
 unfolding printed
-returns-clause-field c = part_reads field_definition_part (codes "\"d\" f(a: Int = 1): [String!]! @e") described_field refl refl refl
+returns-clause-object_type_definitions c = parts_read object_type_definition_part _ refl
 
-pub returns-clause-object : goal.returns-clause-object
+pub returns-clause-interface_type_definitions : goal.returns-clause-interface_type_definitions
 unfolding printed
-returns-clause-object c =
-    part_reads object_type_definition_part (codes "type T implements A & B @d { \"d\" f(a: Int = 1): [String!]! @e }")
-    (plain type_with_all) refl refl refl
+returns-clause-interface_type_definitions c = parts_read interface_type_definition_part _ refl
 
-pub returns-clause-bare_object : goal.returns-clause-bare_object
+pub returns-clause-union_type_definitions : goal.returns-clause-union_type_definitions
 unfolding printed
-returns-clause-bare_object c = part_reads object_type_definition_part (codes "type T") (plain bare_type) refl refl refl
+returns-clause-union_type_definitions c = parts_read union_type_definition_part _ refl
 
-pub returns-clause-interface : goal.returns-clause-interface
+pub returns-clause-enum_value_definitions : goal.returns-clause-enum_value_definitions
 unfolding printed
-returns-clause-interface c =
-    part_reads interface_type_definition_part (codes "interface T implements A & B @d { \"d\" f(a: Int = 1): [String!]! @e }")
-    (plain type_with_all) refl refl refl
+returns-clause-enum_value_definitions c = parts_read enum_value_definition_part _ refl
 
-pub returns-clause-union_type : goal.returns-clause-union_type
+pub returns-clause-enum_type_definitions : goal.returns-clause-enum_type_definitions
 unfolding printed
-returns-clause-union_type c = part_reads union_type_definition_part (codes "union U @d = A | B") (plain union_with_both) refl refl refl
+returns-clause-enum_type_definitions c = parts_read enum_type_definition_part _ refl
 
-pub returns-clause-bare_union : goal.returns-clause-bare_union
+pub returns-clause-input_object_type_definitions : goal.returns-clause-input_object_type_definitions
 unfolding printed
-returns-clause-bare_union c = part_reads union_type_definition_part (codes "union U") (plain bare_union) refl refl refl
+returns-clause-input_object_type_definitions c = parts_read input_object_type_definition_part _ refl
 
-pub returns-clause-enum_value : goal.returns-clause-enum_value
+pub returns-clause-schema_definitions : goal.returns-clause-schema_definitions
 unfolding printed
-returns-clause-enum_value c = part_reads enum_value_definition_part (codes "B @e") value_with_directive refl refl refl
-
-pub returns-clause-enum_type : goal.returns-clause-enum_type
-unfolding printed
-returns-clause-enum_type c = part_reads enum_type_definition_part (codes "enum E @d { A B @e }") (plain enum_with_all) refl refl refl
-
-pub returns-clause-bare_enum : goal.returns-clause-bare_enum
-unfolding printed
-returns-clause-bare_enum c = part_reads enum_type_definition_part (codes "enum E") (plain bare_enum) refl refl refl
-
-pub returns-clause-input_object : goal.returns-clause-input_object
-unfolding printed
-returns-clause-input_object c = part_reads input_object_type_definition_part (codes "input I @d { a: Int = 1 b: Int }") (plain input_with_all) refl refl refl
-
-pub returns-clause-bare_input_object : goal.returns-clause-bare_input_object
-unfolding printed
-returns-clause-bare_input_object c = part_reads input_object_type_definition_part (codes "input I") (plain bare_input) refl refl refl
-
-pub returns-clause-schema : goal.returns-clause-schema
-unfolding printed
-returns-clause-schema c = part_reads schema_definition_part (codes "schema @d { query: Q mutation: M }") (plain schema_with_all) refl refl refl
-
-pub returns-clause-described_schema : goal.returns-clause-described_schema
-unfolding printed
-returns-clause-described_schema c =
-    part_reads schema_definition_part (codes "\"d\" schema { subscription: S }") (with_description schema_with_operation) refl refl refl
+returns-clause-schema_definitions c = parts_read schema_definition_part _ refl
 
 -- what stands before the first name is printed of no tree
 pub returns-clause-leading_ampersand : goal.returns-clause-leading_ampersand

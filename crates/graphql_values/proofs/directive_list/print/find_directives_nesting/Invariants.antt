@@ -5,5 +5,5 @@ use Rattle.graphql_values.proofs.directive_list.print.find_directives_nesting.Gi
 
 abbrev pub invariant-loop-directive : goal.invariant-loop-directive
 invariant-loop-directive l =
-    max l.most (directives_nesting (directive_node_trees (drop l.directive-index l.directives)))
-    ≡ directives_nesting (directive_node_trees l.directives)
+    max l.most (directives_nesting (directive_node_trees (drop l.directive-index l.nodes)))
+    ≡ directives_nesting (directive_node_trees l.nodes)

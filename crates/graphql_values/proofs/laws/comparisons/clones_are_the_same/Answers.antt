@@ -6,4 +6,4 @@ pub returns-clause-values : goal.returns-clause-values
 returns-clause-values c = λ a b same. (same, value.clone_tree a b same)
 
 pub returns-clause-types : goal.returns-clause-types
-returns-clause-types c = λ a b same. (same, type_reference.clone_tree a b same)
+returns-clause-types c = λ a b same i. (same i, type_reference.clone_tree a b same i)

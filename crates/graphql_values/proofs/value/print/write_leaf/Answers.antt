@@ -1,6 +1,5 @@
-use Rattle.std.proofs.Common.{[], ◌∷◌, refl, subst}
-use Rattle.graphql_text.specs.lexical.Tokens.{dollar, Punctuation, IntValue, FloatValue}
-use Rattle.graphql_text.specs.code.Writing.{WritesItems}
+use Rattle.std.proofs.Common.{[], ◌∷◌, refl}
+use Rattle.graphql_text.specs.lexical.Tokens.{dollar, Punctuation}
 use Rattle.graphql_text.specs.layout.Layout.{Word, is_broken}
 use Rattle.graphql_text.specs.code.Place.{mode_of}
 use Rattle.graphql_text.proofs.code.WritingSteps.{writes_then}
@@ -19,26 +18,10 @@ returns-in-Variable g c = rw (c.in-Variable.is, value_tree_variable)
     (writes_then g.met.O.Target.more (c.write_words-in-Variable.ensures.items _ _ (Word (Punctuation dollar) ∷ []) refl) (c.write_name-in-Variable.ensures _ _))
 
 pub returns-in-Float : goal.returns-in-Float
-returns-in-Float g c =
-    let written =
-    subst
-    (λ text.
-    WritesItems g.O.Target.wrote c.args.out.now c.write_float.new.out (mode_of c.args.place.now.prefix) c.args.place.now.level
-    (Word (FloatValue text) ∷ []))
-    c.as_str-in-Float.ensures.text
-    (c.write_float.ensures _ _) in
-    rw (c.in-Float.is, value_tree_float) written
+returns-in-Float g c = rw (c.in-Float.is, value_tree_float) (c.write_float_value.ensures _ _)
 
 pub returns-in-Int : goal.returns-in-Int
-returns-in-Int g c =
-    let written =
-    subst
-    (λ text.
-    WritesItems g.O.Target.wrote c.args.out.now c.write_int.new.out (mode_of c.args.place.now.prefix) c.args.place.now.level
-    (Word (IntValue text) ∷ []))
-    c.as_str-in-Int.ensures.text
-    (c.write_int.ensures _ _) in
-    rw (c.in-Int.is, value_tree_int) written
+returns-in-Int g c = rw (c.in-Int.is, value_tree_int) (c.write_int_value.ensures _ _)
 
 pub returns-in-Boolean : goal.returns-in-Boolean
 returns-in-Boolean g c =

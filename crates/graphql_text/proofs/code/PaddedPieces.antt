@@ -1,0 +1,25 @@
+-- A piece that is copied with bytes behind it.
+use Rattle.std.proofs.Common.{◌≡◌, ℕ, ◌+◌, ◌-◌, ◌≤◌, List, ◌++◌, length, take, ap, sym, ◌∙◌, arith, length-take-le}
+use Rattle.std.proofs.Math.Seq.{take-append-add}
+use Rattle.std.proofs.lemmas.List.{take-append-le}
+use Rattle.std.proofs.lemmas.Grind.{common_steps}
+use borrow.Rule.Slice.PartMut.{put_mid, post_of}
+
+pub piece_fits : (padded text : List ℕ) → take (length text) padded ≡ text → length text ≤ length padded
+piece_fits padded text front = grind (arith, common_steps)
+
+-- what waits and the piece stand before the bytes behind it
+pub padded_piece : (used : ℕ) (bytes padded text : List ℕ) → used + length padded ≤ length bytes → take (length text) padded ≡ text →
+    take (used + length text) (put_mid used (used + length padded - used) bytes padded) ≡ take used bytes ++ text
+padded_piece used bytes padded text room front =
+    let before : length (take used bytes) ≡ used = length-take-le used bytes (omega (arith, room)) in
+    let behind : List ℕ = post_of used (used + length padded - used) bytes in
+    ap (λ n. take (n + length text) (put_mid used (used + length padded - used) bytes padded)) (sym before)
+    ∙ take-append-add (take used bytes) (padded ++ behind) (length text)
+    ∙ ap (λ t. take used bytes ++ t) (take-append-le (length text) padded behind (piece_fits padded text front) ∙ front)
+
+-- what stands at the front of some bytes is as much of them as it is long
+pub front_by_length : (n : ℕ) (padded text : List ℕ) → n ≤ length padded → take n padded ≡ text → take (length text) padded ≡ text
+front_by_length n padded text within front =
+    let long : length text ≡ n = ap length (sym front) ∙ length-take-le n padded within in
+    ap (λ m. take m padded) long ∙ front

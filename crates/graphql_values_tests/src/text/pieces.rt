@@ -1,0 +1,127 @@
+//! Prints whose pieces begin and end at each place about the end of the buffer, which holds 1,024 bytes.
+use crate::checks::{check_made, check_text};
+use graphql_base::name::Name;
+use graphql_base::node::Node;
+use graphql_text::engine::Syntax;
+use graphql_text::sink::{TextSink, VecSink};
+use graphql_values::literal::IntValue;
+use graphql_values::value::Value;
+use std::alloc::Global;
+use std::process::Abort;
+
+fn enum_value(rt: &impl Abort, alloc: Global, text: &str) -> Node<Value> {
+    let name = Name::new(alloc, text).expect(rt, "a name");
+    Node::new(alloc, Value::Enum(name)).expect(rt, "memory")
+}
+
+fn int_value(rt: &impl Abort, alloc: Global, text: &str) -> Node<Value> {
+    assert!(rt; IntValue::valid_syntax(text));
+    let int = IntValue::new_parsed(alloc, text).expect(rt, "memory");
+    Node::new(alloc, Value::Int(int)).expect(rt, "memory")
+}
+
+/// A list of a name of so many letters, a piece and one more name, on one line.
+fn check_piece(rt: &impl Abort, alloc: Global, filler: usize, piece: Node<Value>, text: &str) {
+    let before = "x".repeat(alloc, filler).expect(rt, "memory");
+    let first = enum_value(rt, alloc, before.as_str());
+    let items = vec![in alloc; first, piece, enum_value(rt, alloc, "y")].expect(rt, "memory");
+    let list = Value::List(items);
+    let wanted = format!(in alloc; "[{before}, {text}, y]").expect(rt, "memory");
+    let print = list.serialize().no_indent();
+    check_made(rt, print.to_text(alloc), wanted.as_str());
+    let mut sink = VecSink::new(alloc);
+    assert_eq!(rt; print.print_to(&mut sink), Ok(()));
+    assert_eq!(rt; sink.bytes(), wanted.as_bytes());
+}
+
+/// A string of so many letters, and but for none a name of as many and an int of as many digits.
+fn check_pieces(rt: &impl Abort, alloc: Global, filler: usize, length: usize) {
+    let letters = "a".repeat(alloc, length).expect(rt, "memory");
+    let string = Value::from_text(alloc, letters.as_str()).expect(rt, "memory");
+    let string = Node::new(alloc, string).expect(rt, "memory");
+    let quoted = format!(in alloc; "\"{letters}\"").expect(rt, "memory");
+    check_piece(rt, alloc, filler, string, quoted.as_str());
+    if length > 0 {
+        let name = enum_value(rt, alloc, letters.as_str());
+        check_piece(rt, alloc, filler, name, letters.as_str());
+        let digits = "1".repeat(alloc, length).expect(rt, "memory");
+        let int = int_value(rt, alloc, digits.as_str());
+        check_piece(rt, alloc, filler, int, digits.as_str());
+    }
+}
+
+#[test]
+fn pieces_about_the_end_of_the_buffer(rt: HostRuntime) {
+    for length in 0..41 {
+        for filler in 978..1024 {
+            check_pieces(&rt, rt.alloc(), filler, length);
+        }
+    }
+}
+
+/// A list of two names, in so many lists.
+fn nested(rt: &impl Abort, alloc: Global, levels: usize, filler: &str) -> Value {
+    let first = enum_value(rt, alloc, filler);
+    let names = vec![in alloc; first, enum_value(rt, alloc, "y")].expect(rt, "memory");
+    let mut value = Value::List(names);
+    for _ in 0..levels {
+        let node = Node::new(alloc, value).expect(rt, "memory");
+        value = Value::List(vec![in alloc; node].expect(rt, "memory"));
+    }
+    value
+}
+
+fn add(rt: &impl Abort, text: &mut String, more: &str) {
+    text.push_str(more).expect(rt, "memory");
+}
+
+fn add_break(rt: &impl Abort, text: &mut String, prefix: &str, level: usize) {
+    add(rt, text, "\n");
+    for _ in 0..level {
+        add(rt, text, prefix);
+    }
+}
+
+/// The text of such a list.
+fn wanted(rt: &impl Abort, alloc: Global, prefix: &str, levels: usize, filler: &str) -> String {
+    let mut text = String::new(alloc);
+    let inner = levels.saturating_add(1);
+    for level in 0..inner {
+        add(rt, &mut text, "[");
+        add_break(rt, &mut text, prefix, level.saturating_add(1));
+    }
+    add(rt, &mut text, filler);
+    add(rt, &mut text, ",");
+    add_break(rt, &mut text, prefix, inner);
+    add(rt, &mut text, "y");
+    for level in (0..inner).rev() {
+        add(rt, &mut text, ",");
+        add_break(rt, &mut text, prefix, level);
+        add(rt, &mut text, "]");
+    }
+    text
+}
+
+fn check_breaks(rt: &impl Abort, alloc: Global, prefix: &str, filler: &str) {
+    for levels in 0..40 {
+        let list = nested(rt, alloc, levels, filler);
+        let text = list
+            .serialize()
+            .indent_prefix(prefix)
+            .to_text(alloc)
+            .expect(rt, "memory");
+        let wanted = wanted(rt, alloc, prefix, levels, filler);
+        check_text(rt, text.as_str(), wanted.as_str());
+    }
+}
+
+/// Behind a name that nearly fills the buffer stand breaks at each level up to 40.
+#[test]
+fn breaks_about_the_end_of_the_buffer(rt: HostRuntime) {
+    for prefix in ["  ", "\t", "", " \t"] {
+        for length in (914..1026).step_by(14) {
+            let filler = "x".repeat(rt.alloc(), length).expect(&rt, "memory");
+            check_breaks(&rt, rt.alloc(), prefix, filler.as_str());
+        }
+    }
+}

@@ -1,0 +1,142 @@
+//! `op_speed OPERATION ROUNDS` reads a document in AST JSON from standard input, and does something with it again and again,
+//! so that its cost can be measured: the instructions of one round are those of a run with one round more, less those of the
+//! other.
+//!
+//! OPERATION is
+//!
+//! - `read`: the tree is made of the text of its JSON, and dropped;
+//! - `write`: the JSON of the tree is made, and its text;
+//! - `equal`: the tree is compared with one that was read apart, and so shares nothing with it;
+//! - `clone`: the document is cloned, and the clone dropped;
+//! - `well_formed`: whether the tree is well formed is found;
+//! - `look_up`: each argument of each directive of a definition is looked up by its name;
+//! - `print`: the tree is printed to a text, in the default layout.
+//!
+//! It prints a number that a round came to.
+#![tactic(auto)]
+
+use anyhow::{Context, Result, bail};
+use graphql_ast::ast::{Definition, Document};
+use graphql_ast::span::FileId;
+use graphql_ast_json::{AstJson, from_ast_json_str};
+use std::alloc::Global;
+use std::env::Env;
+use std::io::{BufReader, Read};
+
+/// What is done in each round.
+#[derive(Clone, Copy)]
+enum Operation {
+    Read,
+    Write,
+    Equal,
+    Clone,
+    WellFormed,
+    LookUp,
+    Print,
+}
+
+const OPERATIONS: [(&str, Operation); 7] = [
+    ("read", Operation::Read),
+    ("write", Operation::Write),
+    ("equal", Operation::Equal),
+    ("clone", Operation::Clone),
+    ("well_formed", Operation::WellFormed),
+    ("look_up", Operation::LookUp),
+    ("print", Operation::Print),
+];
+
+/// The word at an index of the command line, in a buffer.
+fn word<'b, R: Env>(env: &R, index: usize, buffer: &'b mut [u8]) -> Option<&'b str> {
+    let len = env.arg(index, buffer).ok()?;
+    str::from_utf8(&buffer[..len]).ok()
+}
+
+fn read_operation<R: Env>(env: &R) -> Option<Operation> {
+    let mut buffer = [0u8; 16];
+    let word = word(env, 1, &mut buffer)?;
+    for (name, operation) in OPERATIONS {
+        if name == word {
+            return Some(operation);
+        }
+    }
+    None
+}
+
+fn rounds<R: Env>(env: &R) -> Option<usize> {
+    let mut buffer = [0u8; 24];
+    word(env, 2, &mut buffer)?.parse().ok()
+}
+
+fn read_tree(alloc: Global, text: &str) -> Result<Document> {
+    Ok(from_ast_json_str(alloc, text, FileId::new(1))?)
+}
+
+/// How many arguments of a definition's directives are found by their names.
+fn look_up(definition: &Definition) -> usize {
+    let Some(directives) = definition.directives() else {
+        return 0;
+    };
+    let mut found: usize = 0;
+    for directive in directives.iter() {
+        for argument in &directive.arguments {
+            if directive
+                .specified_argument_by_name(argument.name.as_str())
+                .is_some()
+            {
+                found = found.wrapping_add(1);
+            }
+        }
+    }
+    found
+}
+
+fn look_up_all(document: &Document) -> usize {
+    let mut found: usize = 0;
+    for definition in &document.definitions {
+        found = found.wrapping_add(look_up(definition));
+    }
+    found
+}
+
+/// One round, and a number that it comes to.
+fn round(
+    alloc: Global,
+    operation: Operation,
+    text: &str,
+    document: &Document,
+    other: &Document,
+) -> Result<usize> {
+    match operation {
+        Operation::Read => Ok(read_tree(alloc, text)?.definitions.len()),
+        Operation::Write => Ok(document.to_ast_json(alloc)?.to_string(alloc)?.len()),
+        Operation::Equal => Ok((document == other) as usize),
+        Operation::Clone => Ok(document.clone()?.definitions.len()),
+        Operation::WellFormed => Ok(document.is_well_formed() as usize),
+        Operation::LookUp => Ok(look_up_all(document)),
+        Operation::Print => Ok(document.serialize().to_text(alloc)?.len()),
+    }
+}
+
+fn run(alloc: Global, operation: Operation, rounds: usize, text: &str) -> Result<usize> {
+    let document = read_tree(alloc, text)?;
+    let other = read_tree(alloc, text)?;
+    let mut number = 0;
+    for _ in 0..rounds {
+        number = round(alloc, operation, text, &document, &other)?;
+    }
+    Ok(number)
+}
+
+fn main(rt: HostRuntime) -> Result<()> {
+    let alloc = rt.alloc();
+    let (Some(operation), Some(rounds)) = (read_operation(&rt), rounds(&rt)) else {
+        bail!(
+            "usage: op_speed read|write|equal|clone|well_formed|look_up|print ROUNDS < DOCUMENT.json"
+        );
+    };
+    let mut text = String::new(alloc);
+    BufReader::new(alloc, rt.reader())?.read_to_string(&mut text)?;
+    let number = run(alloc, operation, rounds, &text).context("the document in AST JSON")?;
+    println!(rt; "{number}")?;
+    Ok(())
+}

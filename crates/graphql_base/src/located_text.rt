@@ -1,5 +1,5 @@
 //! A text that is static, shared or in place, and where it stands, seen as its bytes, that choice and an optional span.
-ghost use Rattle.std.specs.Prelude.{◌≡◌, ◌↔◌, ◌+◌, ◌<◌, ◌≤◌, ◌^◌, IfOk, IfSome, IsTrue, IsSome, IsOk, Some, None, length};
+ghost use Rattle.std.specs.Prelude.{◌≡◌, ◌↔◌, ◌+◌, ◌<◌, ◌≤◌, ◌^◌, IfErr, IfOk, IfSome, IsTrue, IsSome, IsOk, Some, None, length};
 ghost use Rattle.std.specs.Prelude.{true, false, nat_eq, refl};
 ghost use Rattle.std.specs.Ordering.{nat_cmp};
 ghost use Rattle.std.specs.Cmp.{on_equiv, on_total, on_per, on_po, partial_equiv_from_equiv};
@@ -30,6 +30,16 @@ pub const IN_PLACE: usize = 18;
 // it, and a text in place comes first: it takes 19 bytes, and with the tag they end where `start` may stand.
 #[derive(Drop)]
 enum Form {
+    InPlace {
+        text: ShortText<IN_PLACE>,
+        alloc: Global,
+    },
+    InPlaceAt {
+        text: ShortText<IN_PLACE>,
+        start: u32,
+        file_id: FileId,
+        alloc: Global,
+    },
     Static(StaticText),
     StaticAt {
         start: u32,
@@ -41,16 +51,6 @@ enum Form {
         start: u32,
         text: RcStr,
         file_id: FileId,
-    },
-    InPlace {
-        text: ShortText<IN_PLACE>,
-        alloc: Global,
-    },
-    InPlaceAt {
-        text: ShortText<IN_PLACE>,
-        start: u32,
-        file_id: FileId,
-        alloc: Global,
     },
 }
 
@@ -185,14 +185,17 @@ impl LocatedText {
         }
     }
 
-    pub fn short_text(&self) -> Option<&ShortText<IN_PLACE>>
-        ensures some { IsSome result ↔ IsTrue (is_in_place_form self.now.form) }
-        ensures value { IfSome result (λ text. short_bytes text.now ≡ self.now.bytes) }
+    /// The text that stands in place, or else the text.
+    #[inline(always)]
+    pub fn short_text_or_str(&self) -> Result<&ShortText<IN_PLACE>, &str>
+        ensures short { IfOk result (λ text. short_bytes text.now ≡ self.now.bytes) }
+        ensures other { IfErr result (λ text. text.now ≡ self.now.bytes) }
+        ensures in_place { IsOk result ↔ IsTrue (is_in_place_form self.now.form) }
     {
         match &self.form {
-            Form::InPlace { text, .. } | Form::InPlaceAt { text, .. } => Some(text),
-            Form::Static(_) | Form::StaticAt { .. } => None,
-            Form::Shared(_) | Form::SharedAt { .. } => None,
+            Form::InPlace { text, .. } | Form::InPlaceAt { text, .. } => Ok(text),
+            Form::Static(text) | Form::StaticAt { text, .. } => Err(text.as_str()),
+            Form::Shared(text) | Form::SharedAt { text, .. } => Err(text.as_str()),
         }
     }
 

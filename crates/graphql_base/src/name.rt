@@ -64,6 +64,13 @@ pub enum NameError {
 impl NameError {
     ghost use Rattle.graphql_base.specs.NameErrors.{IsRefusalOf};
 
+    /// Whether memory was refused.
+    pub fn is_memory(&self) -> bool
+        ensures { IsTrue result ↔ (self.now ≡ NameError.Memory) }
+    {
+        matches!(self, Self::Memory)
+    }
+
     /// The refusal of a text outside the syntax, which it holds where memory suffices.
     fn invalid(alloc: Global, text: &str) -> NameError
         requires { is_name text.now ≡ false }
@@ -285,12 +292,22 @@ impl Name {
         self.text.as_static_str()
     }
 
-    /// The text, exactly if it stands in the name itself: for writers, which can copy it as it lies there.
+    /// The text, exactly if it stands in the name itself.
     pub fn short_text(&self) -> Option<&ShortText<{ Name::IN_PLACE }>>
         ensures some { IsSome result ↔ IsTrue (is_name_in_place self.now) }
         ensures text { IfSome result (λ text. short_bytes text.now ≡ name_text self.now) }
     {
-        self.text.short_text()
+        self.short_text_or_str().ok()
+    }
+
+    /// The text, as writers copy it: the short text that stands in the name itself, or else, as `Err`, the text.
+    #[inline(always)]
+    pub fn short_text_or_str(&self) -> Result<&ShortText<{ Name::IN_PLACE }>, &str>
+        ensures short { IfOk result (λ text. short_bytes text.now ≡ name_text self.now) }
+        ensures other { IfErr result (λ text. text.now ≡ name_text self.now) }
+        ensures in_place { IsOk result ↔ IsTrue (is_name_in_place self.now) }
+    {
+        self.text.short_text_or_str()
     }
 
     /// The text as a shared one: one more owner of it, if it is shared, and a copy, if it stands in place;

@@ -42,9 +42,10 @@ impl<const ROOM: usize> ShortText<ROOM> {
     }
 
     /// The text, and behind it bytes of which nothing is said.
-    pub fn padded(&self) -> &[u8; ROOM]
-        ensures { take (length (short_bytes self.now)) result.now ≡ short_bytes self.now }
+    #[inline(always)]
+    pub fn padded(&self) -> [u8; ROOM]
+        ensures { take (length (short_bytes self.now)) result ≡ short_bytes self.now }
     {
-        &self.bytes
+        self.bytes
     }
 }

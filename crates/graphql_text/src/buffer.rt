@@ -120,12 +120,12 @@ impl Buffer {
         ensures added { IsTrue result →
             waiting_bytes self.new ≡ waiting_bytes self.old ++ P.text text.now }
         ensures full { result ≡ false → self.new ≡ self.old }
-        ensures room { length (waiting_bytes self.old) + P.size ≤ SIZE → IsTrue result }
+        ensures room { length (waiting_bytes self.old) + P.padded_size ≤ SIZE → IsTrue result }
     {
         let used = self.used;
-        let padded = text.padded();
-        if padded.len() <= SIZE - used {
-            self.bytes[used..used + padded.len()].copy_from_slice(padded);
+        let size = text.size();
+        if size <= SIZE - used {
+            text.copy_to(&mut self.bytes[used..used + size]);
             self.used = used + text.as_str().len();
             true
         } else {

@@ -89,6 +89,15 @@ pub enum PrintError {
     Sink,
 }
 
+impl PrintError {
+    /// Whether memory was refused.
+    pub fn is_memory(self) -> bool
+        ensures { IsTrue result ↔ (self ≡ PrintError.Memory) }
+    {
+        matches!(self, Self::Memory)
+    }
+}
+
 /// A tree, and the layout that it is printed in.
 ///
 /// `Display` prints the same text. It answers `fmt::Error` where the level overflows or the memory of a stack is

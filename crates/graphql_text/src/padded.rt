@@ -1,20 +1,24 @@
-//! Texts that stand at the front of an array.
+//! Texts that are copied at a fixed size.
 ghost use Rattle.std.specs.Prelude.{◌≡◌, ℕ, List, length, take};
 
 use graphql_base::short_text::ShortText;
 
-/// A text with bytes behind it, as many in all as its type says: so it can be copied at a fixed size.
+/// A text that is copied together with bytes behind it, as many in all as its type says.
 pub trait Padded {
     /// The bytes of the text.
     ghost text: { Self → List ℕ };
 
     /// How many bytes there are, with those behind the text.
-    ghost size: { ℕ };
+    ghost padded_size: { ℕ };
 
-    /// The text and the bytes behind it, of which nothing is said.
-    fn padded(&self) -> &[u8]
-        ensures text { take (length (text self.now)) result.now ≡ text self.now }
-        ensures size { length result.now ≡ size };
+    /// How many bytes there are, with those behind the text.
+    fn size(&self) -> usize
+        ensures { result ≡ padded_size };
+
+    /// Copies the text and the bytes behind it, of which nothing is said.
+    fn copy_to(&self, bytes: &mut [u8])
+        requires { length bytes.old ≡ padded_size }
+        ensures { take (length (text self.now)) bytes.new ≡ text self.now };
 
     fn as_str(&self) -> &str
         ensures { result.now ≡ text self.now };
@@ -25,11 +29,17 @@ impl<const ROOM: usize> Padded for ShortText<ROOM> {
 
     ghost text = { short_bytes };
 
-    ghost size = { ROOM };
+    ghost padded_size = { ROOM };
 
     #[inline(always)]
-    fn padded(&self) -> &[u8] {
-        ShortText::padded(self)
+    fn size(&self) -> usize {
+        ROOM
+    }
+
+    // By way of an array of its own: the compiler then knows that the two don't overlap.
+    #[inline(always)]
+    fn copy_to(&self, bytes: &mut [u8]) {
+        bytes.copy_from_slice(&self.padded());
     }
 
     #[inline(always)]

@@ -14,6 +14,19 @@ fn is_escaped(byte: u8) -> bool
     (byte == b'"') | (byte == b'\\') | ((byte < b' ') & (byte != b'\t'))
 }
 
+/// The same for a byte alone: most stand behind the quotation mark.
+#[inline(always)]
+fn needs_escape(byte: u8) -> bool
+    ensures escaped { result ≡ nat_lt 1 (length (quoted_character byte)) }
+    ensures ascii { IsTrue result → byte < 128 }
+{
+    if byte > b'"' {
+        byte == b'\\'
+    } else {
+        is_escaped(byte)
+    }
+}
+
 /// Whether one of a few bytes is escaped. There is no early exit, so the compiler looks at all of them at once.
 #[inline(always)]
 fn has_escaped_byte(bytes: &[u8]) -> bool
@@ -108,7 +121,7 @@ fn write_runs<O: Target>(out: &mut O, text: &str)
 {
     let mut from = 0;
     for (i, byte) in text.as_bytes().iter().enumerate() {
-        if is_escaped(*byte) {
+        if needs_escape(*byte) {
             if out.is_stopped() {
                 return;
             }

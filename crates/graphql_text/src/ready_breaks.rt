@@ -39,11 +39,16 @@ impl Padded for ReadyBreak {
 
     ghost text = { ready_text };
 
-    ghost size = { 64 };
+    ghost padded_size = { 64 };
 
     #[inline(always)]
-    fn padded(&self) -> &[u8] {
-        BREAK_AND_SPACES.as_bytes()
+    fn size(&self) -> usize {
+        64
+    }
+
+    #[inline(always)]
+    fn copy_to(&self, bytes: &mut [u8]) {
+        bytes.copy_from_slice(BREAK_AND_SPACES.as_bytes());
     }
 
     #[inline(always)]
@@ -76,11 +81,16 @@ impl Padded for ReadyCommaBreak {
 
     ghost text = { ready_comma_text };
 
-    ghost size = { 64 };
+    ghost padded_size = { 64 };
 
     #[inline(always)]
-    fn padded(&self) -> &[u8] {
-        COMMA_AND_SPACES.as_bytes()
+    fn size(&self) -> usize {
+        64
+    }
+
+    #[inline(always)]
+    fn copy_to(&self, bytes: &mut [u8]) {
+        bytes.copy_from_slice(COMMA_AND_SPACES.as_bytes());
     }
 
     #[inline(always)]

@@ -40,9 +40,9 @@ pub fn write_words<O: Target>(out: &mut O, words: &str)
 pub fn write_name<O: Target>(out: &mut O, name: &Name)
     ensures { WritesAnywhere O.wrote out.old out.new (Word (NameToken (name_text name.now)) ∷ []) }
 {
-    match name.short_text() {
-        Some(text) => out.padded(text),
-        None => out.text(name.as_str()),
+    match name.short_text_or_str() {
+        Ok(text) => out.padded(text),
+        Err(text) => out.text(text),
     }
 }
 

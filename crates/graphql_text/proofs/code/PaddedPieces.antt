@@ -9,12 +9,12 @@ pub piece_fits : (padded text : List ℕ) → take (length text) padded ≡ text
 piece_fits padded text front = grind (arith, common_steps)
 
 -- what waits and the piece stand before the bytes behind it
-pub padded_piece : (used : ℕ) (bytes padded text : List ℕ) → used + length padded ≤ length bytes → take (length text) padded ≡ text →
-    take (used + length text) (put_mid used (used + length padded - used) bytes padded) ≡ take used bytes ++ text
-padded_piece used bytes padded text room front =
+pub padded_piece : (used size : ℕ) (bytes padded text : List ℕ) → used + size ≤ length bytes → length padded ≡ size → take (length text) padded ≡ text →
+    take (used + length text) (put_mid used (used + size - used) bytes padded) ≡ take used bytes ++ text
+padded_piece used size bytes padded text room whole front =
     let before : length (take used bytes) ≡ used = length-take-le used bytes (omega (arith, room)) in
-    let behind : List ℕ = post_of used (used + length padded - used) bytes in
-    ap (λ n. take (n + length text) (put_mid used (used + length padded - used) bytes padded)) (sym before)
+    let behind : List ℕ = post_of used (used + size - used) bytes in
+    ap (λ n. take (n + length text) (put_mid used (used + size - used) bytes padded)) (sym before)
     ∙ take-append-add (take used bytes) (padded ++ behind) (length text)
     ∙ ap (λ t. take used bytes ++ t) (take-append-le (length text) padded behind (piece_fits padded text front) ∙ front)
 

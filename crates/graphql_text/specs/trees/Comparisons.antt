@@ -14,6 +14,6 @@ infixr 30 ◌&◌
 abbrev pub ◌&◌ : {X Y : Type 0} → X → Y → X × Y
 ◌&◌ one other = (one, other)
 
--- A clone has what is taken of the value that it is a clone of.
-abbrev pub AreKept : {T X : Type 0} → (T → T → Type 0) → (T → X) → Type 0
-AreKept {T} is_clone taken = (value copy : T) → is_clone value copy → taken copy ≡ taken value
+-- Clones keep what is taken of a value.
+abbrev pub ClonesKeep : {T X : Type 0} → (T → T → Type 0) → (T → X) → Type 0
+ClonesKeep {T} is_clone taken = (value copy : T) → is_clone value copy → taken copy ≡ taken value

@@ -358,3 +358,9 @@ fn errors_compare_by_location(rt: HostRuntime) {
     let error = invalid(rt.alloc(), "a b").expect(&rt, "memory");
     assert_ne!(rt; error, NameError::Invalid(elsewhere));
 }
+
+#[test]
+fn which_error_is_for_memory(rt: HostRuntime) {
+    let error = Name::new(rt.alloc(), "1").err().expect(&rt, "no name");
+    assert!(rt; !error.is_memory() && NameError::Memory.is_memory());
+}

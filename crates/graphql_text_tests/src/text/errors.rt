@@ -40,3 +40,9 @@ fn errors_are_equal_to_themselves_alone(rt: HostRuntime) {
     }
     assert!(rt; SinkFault == SinkFault);
 }
+
+#[test]
+fn which_error_is_for_memory(rt: HostRuntime) {
+    assert!(rt; PrintError::Memory.is_memory());
+    assert!(rt; !PrintError::LevelOverflow.is_memory() && !PrintError::Sink.is_memory());
+}

@@ -4,7 +4,7 @@ use Rattle.graphql_text.specs.strings.QuotedForm.{quoted_character}
 use Rattle.graphql_text.proofs.strings.UnescapedCharacter.{plain}
 use Rattle.graphql_text.proofs.strings.EscapeRuns.{flat_parted, run_plain, run_escape, run_restart}
 use Rattle.graphql_text.proofs.quoted_string.write_runs.Goals as goal
-use Rattle.graphql_text.proofs.quoted_string.write_runs.Goals.{then-is_escaped+else-is_stopped, else-is_escaped}
+use Rattle.graphql_text.proofs.quoted_string.write_runs.Goals.{then-needs_escape+else-is_stopped, else-needs_escape}
 
 pub loop-i-init : goal.loop-i-init
 loop-i-init g c = record { order = omega arith; boundary = IsCharBoundary-start c.args.text.now c.utf8.text; plain = refl; wrote = g.met.O.Target.nothing _ }
@@ -21,9 +21,9 @@ loop-i-preserved g c =
     let i : ℕ = c.loop-i.i in
     let I = c.loop-i.invariant in
     let within : i < length t = omega (arith, ap length c.as_bytes-byte-items.ensures.value) in
-    elim c.if-is_escaped.branch [
-      | then-is_escaped+else-is_stopped w ↦
-          let ascii = rw c.as_bytes-byte-items.ensures.value at (c.is_escaped.ensures.ascii w.if-is_escaped.true) in
+    elim c.if-needs_escape.branch [
+      | then-needs_escape+else-is_stopped w ↦
+          let ascii = rw c.as_bytes-byte-items.ensures.value at (c.needs_escape.ensures.ascii w.if-needs_escape.true) in
           let is = rw c.as_bytes-byte-items.ensures.value at w.escape.ensures in
           rw (w.from-is, w.out-is) (record {
             order = omega arith;
@@ -34,8 +34,8 @@ loop-i-preserved g c =
                 (g.met.O.Target.more _ _ _ _ _
                 (g.met.O.Target.more _ _ _ _ _ I.wrote (rw w.range.ensures.value at w.write_piece.ensures)) w.text.ensures);
           })
-      | else-is_escaped w ↦
-          let unescaped = sym c.is_escaped.ensures.escaped ∙ w.if-is_escaped.false in
+      | else-needs_escape w ↦
+          let unescaped = sym c.needs_escape.ensures.escaped ∙ w.if-needs_escape.false in
           let is : quoted_character (get_or t i 0) ≡ get_or t i 0 ∷ [] = plain (get_or t i 0) (rw c.as_bytes-byte-items.ensures.value at unescaped) in
           rw (w.from-is, w.out-is) (record {
             order = omega arith;

@@ -16,6 +16,7 @@ use graphql_ast::ast::{
 };
 use graphql_ast::serialize::{PrintError, Serialize, Syntax};
 use graphql_ast::sink::{SinkFault, StreamSink, TextSink};
+use graphql_ast::value;
 use std::alloc::{AllocError, Global};
 use std::io::Write;
 use thiserror::Error;
@@ -122,10 +123,10 @@ fn find_tree(alloc: Global, number: &str) -> Result<Option<Tree>, AllocError>
     ensures err { OnErr result (IsTrue (is_vector_number number.now)) }
 {
     Ok(Some(match number {
-        "1" => Tree::Value(values::four_values(alloc)?),
+        "1" => Tree::Value(value!(in alloc; [1, EXAMPLE, true, null])?),
         "2" => Tree::Value(values::object_of_fields(alloc)?),
-        "3" => Tree::Value(values::string(alloc, "\u{1}\t\u{7F}")?),
-        "4" | "5" => Tree::Value(values::string(alloc, "a\nb")?),
+        "3" => Tree::Value(Value::from_text(alloc, "\u{1}\t\u{7F}")?),
+        "4" | "5" => Tree::Value(Value::from_text(alloc, "a\nb")?),
         "6" => Tree::Value(values::list_of_string(alloc, "a\n\n b")?),
         "7" => Tree::ScalarType(type_system::scalar(alloc, "say \"hi\"")?),
         "8" => Tree::ScalarType(type_system::scalar(alloc, "x\\\"\"\"y")?),
@@ -137,7 +138,7 @@ fn find_tree(alloc: Global, number: &str) -> Result<Option<Tree>, AllocError>
         "17" => Tree::ObjectType(type_system::object_with_field(alloc)?),
         "18" => Tree::Operation(executable::query_of_all_selections(alloc)?),
         "19" => Tree::FieldDefinition(type_system::field_with_argument(alloc)?),
-        "20" => Tree::Value(values::numbers(alloc, 1)?),
+        "20" => Tree::Value(value!(in alloc; [1])?),
         "21" => Tree::Operation(executable::query_with_described_variable(alloc)?),
         "22" => Tree::Document(documents::type_and_described_query(alloc)?),
         _ => return Ok(None),

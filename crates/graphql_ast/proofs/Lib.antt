@@ -6,5 +6,9 @@ pub mod AstEquality
 pub mod DocumentShapes
 -- of Definitions: what is no operation looks alike at the front of a print and behind something else
 pub mod FirstDefinition
+-- lists that are filtered hold no more than before
+pub mod FilteredLengths
+-- of LinesAndColumns: what one character more changes
+pub mod LinesAndColumnsSteps
 -- what worked examples are proved by
 pub mod examples

@@ -1,10 +1,14 @@
 -- What a definition of the code answers.
-use Rattle.std.specs.Prelude.{Bool, true, false, Option, Some, None}
+use Rattle.std.specs.Prelude.{ℕ, Bool, true, false, List, Option, Some, None, codes}
 use Rattle.graphql_base.specs.declared.name.Name.{Name}
 use Rattle.graphql_base.specs.declared.node.Node.{Node}
+use Rattle.graphql_base.specs.declared.node_str.NodeStr.{NodeStr}
 use Rattle.graphql_base.specs.declared.span.SourceSpan.{SourceSpan}
 use Rattle.graphql_base.specs.Node.{node_location, node_value}
+use Rattle.graphql_values.specs.kinds.OperationTypes.{operation_type_name}
+use Rattle.graphql_values.specs.trees.LocationTrees.{operation_type_tree}
 use Rattle.graphql_values.specs.declared.directive_list.DirectiveList.{DirectiveList}
+use Rattle.graphql_executable.specs.declared.selection.Selection.{Selection}
 use Rattle.graphql_executable.specs.declared.operation_definition.OperationDefinition.{OperationDefinition}
 use Rattle.graphql_executable.specs.declared.fragment_definition.FragmentDefinition.{FragmentDefinition}
 use Rattle.graphql_values.specs.declared.directive_definition.DirectiveDefinition.{DirectiveDefinition}
@@ -30,6 +34,16 @@ abbrev pub is_executable : Definition → Bool
 is_executable (variant.OperationDefinition node) = true
 is_executable (variant.FragmentDefinition node) = true
 is_executable _ = false
+
+-- whether it defines a type (TypeDefinition, section 3.4)
+abbrev pub is_type_definition : Definition → Bool
+is_type_definition (variant.ScalarTypeDefinition node) = true
+is_type_definition (variant.ObjectTypeDefinition node) = true
+is_type_definition (variant.InterfaceTypeDefinition node) = true
+is_type_definition (variant.UnionTypeDefinition node) = true
+is_type_definition (variant.EnumTypeDefinition node) = true
+is_type_definition (variant.InputObjectTypeDefinition node) = true
+is_type_definition _ = false
 
 -- whether it is an extension of the schema or of a type (TypeSystemExtension, section 3.1)
 abbrev pub is_extension : Definition → Bool
@@ -61,6 +75,40 @@ definition_location (variant.InterfaceTypeExtension node) = node_location node
 definition_location (variant.UnionTypeExtension node) = node_location node
 definition_location (variant.EnumTypeExtension node) = node_location node
 definition_location (variant.InputObjectTypeExtension node) = node_location node
+
+-- The words of the grammar that it begins with, behind its description. An operation without them, in shorthand, is a query.
+abbrev pub definition_kind_name : Definition → List ℕ
+definition_kind_name (variant.OperationDefinition node) = operation_type_name (operation_type_tree (node_value node).operation_type)
+definition_kind_name (variant.FragmentDefinition node) = codes "fragment"
+definition_kind_name (variant.DirectiveDefinition node) = codes "directive"
+definition_kind_name (variant.SchemaDefinition node) = codes "schema"
+definition_kind_name (variant.ScalarTypeDefinition node) = codes "scalar"
+definition_kind_name (variant.ObjectTypeDefinition node) = codes "type"
+definition_kind_name (variant.InterfaceTypeDefinition node) = codes "interface"
+definition_kind_name (variant.UnionTypeDefinition node) = codes "union"
+definition_kind_name (variant.EnumTypeDefinition node) = codes "enum"
+definition_kind_name (variant.InputObjectTypeDefinition node) = codes "input"
+definition_kind_name (variant.SchemaExtension node) = codes "extend schema"
+definition_kind_name (variant.ScalarTypeExtension node) = codes "extend scalar"
+definition_kind_name (variant.ObjectTypeExtension node) = codes "extend type"
+definition_kind_name (variant.InterfaceTypeExtension node) = codes "extend interface"
+definition_kind_name (variant.UnionTypeExtension node) = codes "extend union"
+definition_kind_name (variant.EnumTypeExtension node) = codes "extend enum"
+definition_kind_name (variant.InputObjectTypeExtension node) = codes "extend input"
+
+-- The string before it. Extensions have none.
+abbrev pub definition_description : Definition → Option NodeStr
+definition_description (variant.OperationDefinition node) = (node_value node).description
+definition_description (variant.FragmentDefinition node) = (node_value node).description
+definition_description (variant.DirectiveDefinition node) = (node_value node).description
+definition_description (variant.SchemaDefinition node) = (node_value node).description
+definition_description (variant.ScalarTypeDefinition node) = (node_value node).description
+definition_description (variant.ObjectTypeDefinition node) = (node_value node).description
+definition_description (variant.InterfaceTypeDefinition node) = (node_value node).description
+definition_description (variant.UnionTypeDefinition node) = (node_value node).description
+definition_description (variant.EnumTypeDefinition node) = (node_value node).description
+definition_description (variant.InputObjectTypeDefinition node) = (node_value node).description
+definition_description _ = None
 
 -- Its name. Definitions and extensions of schemas have none, and an operation may have one.
 abbrev pub definition_name : Definition → Option Name
@@ -101,6 +149,12 @@ definition_directives (variant.InterfaceTypeExtension node) = Some (node_value n
 definition_directives (variant.UnionTypeExtension node) = Some (node_value node).directives
 definition_directives (variant.EnumTypeExtension node) = Some (node_value node).directives
 definition_directives (variant.InputObjectTypeExtension node) = Some (node_value node).directives
+
+-- What is selected. Operations and fragments alone have selections.
+abbrev pub definition_selection_set : Definition → Option (List Selection)
+definition_selection_set (variant.OperationDefinition node) = Some (node_value node).selection_set.items
+definition_selection_set (variant.FragmentDefinition node) = Some (node_value node).selection_set.items
+definition_selection_set _ = None
 
 -- its node, if it is of that variant
 abbrev pub operation_definition_of : Definition → Option (Node OperationDefinition)

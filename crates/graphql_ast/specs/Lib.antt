@@ -8,8 +8,14 @@ pub mod Documents
 pub mod AstTrees
 -- what a definition of the code answers
 pub mod DefinitionQueries
+-- what a document of the code answers, by name too
+pub mod DocumentQueries
 -- the source texts of a document, which are no part of its tree
 pub mod Sources
+-- lines and columns of these texts, as messages name them
+pub mod LinesAndColumns
+-- what changes in a document
+pub mod DocumentChanges
 -- how much room the definitions of a document need on the stacks that they are written with
 pub mod AstStacks
 -- examples that laws speak of
@@ -86,6 +92,7 @@ pub use Rattle.graphql_executable.specs.kinds.OperationDefinitions
 pub use Rattle.graphql_executable.specs.kinds.FragmentDefinitions
 pub use Rattle.graphql_executable.specs.trees.ExecutableTrees
 pub use Rattle.graphql_executable.specs.code.SelectionQueries
+pub use Rattle.graphql_executable.specs.code.OperationQueries
 pub use Rattle.graphql_type_system.specs.kinds.Keywords
 pub use Rattle.graphql_type_system.specs.kinds.Schemas
 pub use Rattle.graphql_type_system.specs.kinds.ScalarTypes
@@ -99,3 +106,4 @@ pub use Rattle.graphql_type_system.specs.kinds.BracedTypes
 pub use Rattle.graphql_type_system.specs.kinds.EnumTypes
 pub use Rattle.graphql_type_system.specs.kinds.InputObjectTypes
 pub use Rattle.graphql_type_system.specs.trees.TypeSystemTrees
+pub use Rattle.graphql_type_system.specs.code.TypeSystemQueries

@@ -1,16 +1,17 @@
 //! Definitions: what documents are made of.
 ghost use Rattle.std.specs.Prelude.{◌≡◌, Some, option_copied};
-ghost use Rattle.graphql_ast.specs.DefinitionQueries.{definition_directives, definition_location, definition_name, is_executable, is_extension};
+ghost use Rattle.graphql_ast.specs.DefinitionQueries.{definition_description, definition_directives, definition_kind_name, definition_location, definition_name, definition_selection_set, is_executable, is_extension, is_type_definition};
 ghost use Rattle.graphql_ast.specs.DefinitionQueries.{directive_definition_of, enum_type_definition_of, enum_type_extension_of, fragment_definition_of, input_object_type_definition_of, input_object_type_extension_of, interface_type_definition_of, interface_type_extension_of, object_type_definition_of, object_type_extension_of, operation_definition_of, scalar_type_definition_of, scalar_type_extension_of, schema_definition_of, schema_extension_of, union_type_definition_of, union_type_extension_of};
 
 pub(crate) mod print;
 pub(crate) mod write;
 
 use graphql_base::name::Name;
-use graphql_base::node::Node;
+use graphql_base::node::{Node, NodeStr};
 use graphql_base::span::SourceSpan;
 use graphql_executable::fragment_definition::FragmentDefinition;
 use graphql_executable::operation_definition::OperationDefinition;
+use graphql_executable::selection::Selection;
 use graphql_type_system::enum_type::{EnumTypeDefinition, EnumTypeExtension};
 use graphql_type_system::input_object_type::{InputObjectTypeDefinition, InputObjectTypeExtension};
 use graphql_type_system::interface_type::{InterfaceTypeDefinition, InterfaceTypeExtension};
@@ -73,6 +74,21 @@ impl Definition {
         )
     }
 
+    /// Whether it defines a type (`TypeDefinition`, section 3.4).
+    pub fn is_type_definition(&self) -> bool
+        ensures { result ≡ is_type_definition self.now }
+    {
+        matches!(
+            self,
+            Definition::ScalarTypeDefinition(_)
+                | Definition::ObjectTypeDefinition(_)
+                | Definition::InterfaceTypeDefinition(_)
+                | Definition::UnionTypeDefinition(_)
+                | Definition::EnumTypeDefinition(_)
+                | Definition::InputObjectTypeDefinition(_)
+        )
+    }
+
     /// Whether it adds to a schema or to a type that is defined elsewhere (`TypeSystemExtension`, section 3.1).
     pub fn is_extension_definition(&self) -> bool
         ensures { result ≡ is_extension self.now }
@@ -111,6 +127,65 @@ impl Definition {
             Definition::UnionTypeExtension(node) => node.location(),
             Definition::EnumTypeExtension(node) => node.location(),
             Definition::InputObjectTypeExtension(node) => node.location(),
+        }
+    }
+
+    /// The words of the grammar that it begins with, behind its description: `query`, `type`, `extend enum`. What is
+    /// printed in shorthand is a `query` too.
+    ///
+    /// ```
+    /// definition.kind_name() // "extend enum" of extend enum A @d
+    /// ```
+    pub fn kind_name(&self) -> &'static str
+        ensures { result.now ≡ definition_kind_name self.now }
+    {
+        match self {
+            Definition::OperationDefinition(node) => node.operation_type.name(),
+            Definition::FragmentDefinition(_) => "fragment",
+            Definition::DirectiveDefinition(_) => "directive",
+            Definition::SchemaDefinition(_) => "schema",
+            Definition::ScalarTypeDefinition(_) => "scalar",
+            Definition::ObjectTypeDefinition(_) => "type",
+            Definition::InterfaceTypeDefinition(_) => "interface",
+            Definition::UnionTypeDefinition(_) => "union",
+            Definition::EnumTypeDefinition(_) => "enum",
+            Definition::InputObjectTypeDefinition(_) => "input",
+            Definition::SchemaExtension(_) => "extend schema",
+            Definition::ScalarTypeExtension(_) => "extend scalar",
+            Definition::ObjectTypeExtension(_) => "extend type",
+            Definition::InterfaceTypeExtension(_) => "extend interface",
+            Definition::UnionTypeExtension(_) => "extend union",
+            Definition::EnumTypeExtension(_) => "extend enum",
+            Definition::InputObjectTypeExtension(_) => "extend input",
+        }
+    }
+
+    /// The string before it. `None` for an extension, which can have none.
+    ///
+    /// ```
+    /// definition.description() // of "D" scalar A a node of the text D
+    /// ```
+    pub fn description(&self) -> Option<&NodeStr>
+        ensures { option_copied result ≡ definition_description self.now }
+    {
+        match self {
+            Definition::OperationDefinition(node) => node.description.as_ref(),
+            Definition::FragmentDefinition(node) => node.description.as_ref(),
+            Definition::DirectiveDefinition(node) => node.description.as_ref(),
+            Definition::SchemaDefinition(node) => node.description.as_ref(),
+            Definition::ScalarTypeDefinition(node) => node.description.as_ref(),
+            Definition::ObjectTypeDefinition(node) => node.description.as_ref(),
+            Definition::InterfaceTypeDefinition(node) => node.description.as_ref(),
+            Definition::UnionTypeDefinition(node) => node.description.as_ref(),
+            Definition::EnumTypeDefinition(node) => node.description.as_ref(),
+            Definition::InputObjectTypeDefinition(node) => node.description.as_ref(),
+            Definition::SchemaExtension(_) => None,
+            Definition::ScalarTypeExtension(_) => None,
+            Definition::ObjectTypeExtension(_) => None,
+            Definition::InterfaceTypeExtension(_) => None,
+            Definition::UnionTypeExtension(_) => None,
+            Definition::EnumTypeExtension(_) => None,
+            Definition::InputObjectTypeExtension(_) => None,
         }
     }
 
@@ -162,6 +237,21 @@ impl Definition {
             Definition::UnionTypeExtension(node) => Some(&node.directives),
             Definition::EnumTypeExtension(node) => Some(&node.directives),
             Definition::InputObjectTypeExtension(node) => Some(&node.directives),
+        }
+    }
+
+    /// The selections that stand in it, in order. `None` exactly for what isn't executable.
+    ///
+    /// ```
+    /// definition.selection_set() // of query A { a } one field
+    /// ```
+    pub fn selection_set(&self) -> Option<&[Selection]>
+        ensures { option_copied result ≡ definition_selection_set self.now }
+    {
+        match self {
+            Definition::OperationDefinition(node) => Some(node.selection_set.as_slice()),
+            Definition::FragmentDefinition(node) => Some(node.selection_set.as_slice()),
+            _ => None,
         }
     }
 

@@ -1,13 +1,18 @@
 //! Documents, and the source texts that they were read from.
-ghost use Rattle.std.specs.Prelude.{◌≡◌, []};
+ghost use Rattle.std.specs.Prelude.{◌≡◌, [], None, OnErr, OnOk};
 ghost use Rattle.indexmap.specs.IndexMap.{IsEmpty};
+ghost use Rattle.graphql_base.specs.Node.{node_at};
+ghost use Rattle.graphql_ast.specs.DocumentChanges.{Appends, IsUnchanged};
 
+pub(crate) mod lines_and_columns;
+pub(crate) mod look_ups;
 pub(crate) mod print;
 
 use crate::definition::Definition;
+use graphql_base::node::Node;
 use graphql_base::span::FileId;
 use indexmap::IndexMap;
-use std::alloc::Global;
+use std::alloc::{AllocError, Global};
 
 /// A source text that nodes of a document may stand in. Two are equal exactly if their paths and their texts are.
 #[derive(Clone, PartialEq, Eq, Debug, Drop)]
@@ -42,5 +47,36 @@ impl Document {
             sources: IndexMap::new(alloc),
             definitions: Vec::new(alloc),
         }
+    }
+
+    /// Appends a definition: a struct such as `OperationDefinition`, which a node without a location is made of.
+    /// `AllocError` where memory is refused: the struct is given up then, and the document is as it was.
+    ///
+    /// ```
+    /// document.push(alloc, ObjectTypeDefinition::new(alloc, name!(Query)))?;
+    /// ```
+    pub fn push<T: Drop>(&mut self, alloc: Global, definition: T) -> Result<(), AllocError>
+    where
+        Definition: From<Node<T>>,
+        ensures ok { OnOk result (Appends
+            (⟦<Definition as From<Node<T>>>⟧.from_gives (node_at None definition)) self.old self.new) }
+        ensures err { OnErr result (IsUnchanged self.old self.new) }
+    {
+        let node = Node::new(alloc, definition)?;
+        self.push_node(node)
+    }
+
+    /// Appends a definition, or a node of a struct such as `OperationDefinition`. `AllocError` where memory is refused:
+    /// the node is given up then, and the document is as it was.
+    ///
+    /// ```
+    /// document.push_node(operation.clone())?; // a node that another document has too
+    /// ```
+    pub fn push_node<N: Into<Definition>>(&mut self, node: N) -> Result<(), AllocError>
+        ensures ok { OnOk result (Appends (N.converts node) self.old self.new) }
+        ensures err { OnErr result (IsUnchanged self.old self.new) }
+    {
+        self.definitions.push(node.into())?;
+        Ok(())
     }
 }

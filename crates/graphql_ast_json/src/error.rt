@@ -1,5 +1,5 @@
 //! Why JSON is of no syntax tree, and where in it.
-ghost use Rattle.std.specs.Prelude.{◌≡◌};
+ghost use Rattle.std.specs.Prelude.{◌≡◌, ◌↔◌, IsTrue};
 
 use std::alloc::{AllocError, AllocFailed, Global};
 use std::fmt::{self, Display, Formatter, Write};
@@ -144,6 +144,17 @@ pub enum AstJsonError {
         path: JsonPath,
         problem: AstJsonProblem,
     },
+}
+
+impl AstJsonError {
+    ghost use Rattle.graphql_ast_json.specs.code.Errors.{IsMemory};
+
+    /// Whether memory was refused.
+    pub fn is_memory(&self) -> bool
+        ensures { IsTrue result ↔ IsMemory self.now }
+    {
+        matches!(self, Self::Memory)
+    }
 }
 
 impl From<AllocError> for AstJsonError {

@@ -1,18 +1,10 @@
 //! Documents as they are made, compared, hashed and cloned.
-use crate::samples::{document, query, type_a, type_and_query};
-use graphql_ast::ast::{Definition, Document, SourceFile};
+use crate::samples::{document, query, source_file, type_a, type_and_query};
+use graphql_ast::ast::{Definition, Document};
 use graphql_ast::node::Node;
 use graphql_ast::span::{FileId, SourceSpan};
 use std::alloc::{AllocError, Global};
 use std::collections::HashSet;
-
-/// A source file of these texts.
-fn source_file(alloc: Global, path: &str, text: &str) -> Result<SourceFile, AllocError> {
-    Ok(SourceFile {
-        path: String::from_str(alloc, path)?,
-        text: String::from_str(alloc, text)?,
-    })
-}
 
 /// `type A query { a }`, read from one file.
 fn from_a_file(alloc: Global) -> Result<Document, AllocError> {
@@ -66,4 +58,24 @@ fn source_files_compare_by_both_texts(rt: HostRuntime) {
     assert!(rt; file == file.clone().expect(&rt, "memory"));
     assert!(rt; file != source_file(alloc, "a", "c").expect(&rt, "memory"));
     assert!(rt; file != source_file(alloc, "c", "b").expect(&rt, "memory"));
+}
+
+/// Two queries, the one pushed as a struct and the other as a node, and a definition.
+fn pushed(alloc: Global) -> Result<Document, AllocError> {
+    let mut document = Document::new(alloc);
+    document.push(alloc, query(alloc)?)?;
+    document.push_node(Node::new(alloc, query(alloc)?)?)?;
+    document.push_node(type_a(alloc)?)?;
+    Ok(document)
+}
+
+#[test]
+fn definitions_are_pushed(rt: HostRuntime) {
+    let alloc = rt.alloc();
+    let pushed = pushed(alloc).expect(&rt, "memory");
+    let text = pushed.serialize().no_indent().to_text(alloc);
+    assert_eq!(rt;
+        text.expect(&rt, "memory").as_str(),
+        "{ a } query { a } type A"
+    );
 }

@@ -8,6 +8,10 @@ mod documents;
 #[cfg(test)]
 mod hostile;
 #[cfg(test)]
+mod lines_and_columns;
+#[cfg(test)]
+mod look_ups;
+#[cfg(test)]
 mod prints;
 #[cfg(test)]
 mod queries;
@@ -15,3 +19,5 @@ mod queries;
 mod refusals;
 #[cfg(test)]
 mod samples;
+#[cfg(test)]
+mod values;

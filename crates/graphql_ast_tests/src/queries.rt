@@ -1,5 +1,5 @@
 //! What definitions answer.
-use crate::samples::{anonymous_query, each_variant, query};
+use crate::samples::{anonymous_query, described_query, each_variant, query};
 use graphql_ast::ast::Definition;
 use graphql_ast::node::Node;
 use graphql_ast::span::{FileId, SourceSpan};
@@ -74,6 +74,45 @@ fn of_each_variant(rt: HostRuntime) {
         assert_eq!(rt; told(definition), *wanted);
         assert!(rt; definition.location().is_none());
     }
+}
+
+/// The words that it begins with, whether it defines a type, whether it is described, and how many selections it has.
+fn said(definition: &Definition) -> (&'static str, bool, bool, Option<usize>) {
+    (
+        definition.kind_name(),
+        definition.is_type_definition(),
+        definition.description().is_some(),
+        definition.selection_set().map(|set| set.len()),
+    )
+}
+
+#[test]
+fn of_kinds(rt: HostRuntime) {
+    let all = each_variant(rt.alloc()).expect(&rt, "memory");
+    let wanted = [
+        ("query", false, false, Some(1)),
+        ("fragment", false, false, Some(1)),
+        ("directive", false, false, None),
+        ("schema", false, false, None),
+        ("scalar", true, false, None),
+        ("type", true, false, None),
+        ("interface", true, false, None),
+        ("union", true, false, None),
+        ("enum", true, false, None),
+        ("input", true, false, None),
+        ("extend schema", false, false, None),
+        ("extend scalar", false, false, None),
+        ("extend type", false, false, None),
+        ("extend interface", false, false, None),
+        ("extend union", false, false, None),
+        ("extend enum", false, false, None),
+        ("extend input", false, false, None),
+    ];
+    for (definition, wanted) in all.iter().zip(&wanted) {
+        assert_eq!(rt; said(definition), *wanted);
+    }
+    let described = described_query(rt.alloc()).expect(&rt, "memory");
+    assert_eq!(rt; said(&described), ("query", false, true, Some(1)));
 }
 
 #[test]

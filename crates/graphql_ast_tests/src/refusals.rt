@@ -1,6 +1,8 @@
-//! What is made, copied and printed, or refused.
+//! What is made, copied, pushed and printed, or refused.
 use crate::checks::{check_cloned_or_refused, check_text_or_refused};
 use crate::samples::{EACH_VARIANT, document, each_variant};
+use graphql_ast::ast::{Document, ScalarTypeDefinition};
+use graphql_ast::name;
 
 #[test]
 fn a_document_is_copied_and_printed_or_refused(rt: HostRuntime) {
@@ -9,4 +11,25 @@ fn a_document_is_copied_and_printed_or_refused(rt: HostRuntime) {
         check_cloned_or_refused(&rt, &document);
         check_text_or_refused(&rt, rt.alloc(), &document, EACH_VARIANT);
     }
+}
+
+/// A definition that is refused leaves the document as it was, and the next is pushed.
+#[test]
+fn definitions_are_pushed_or_refused(rt: HostRuntime) {
+    let alloc = rt.alloc();
+    let mut document = Document::new(alloc);
+    let mut refused = 0;
+    for pushed in 0..20 {
+        let scalar = ScalarTypeDefinition::new(alloc, name!(A));
+        if document.push(alloc, scalar).is_err() {
+            refused += 1;
+        }
+        assert_eq!(rt; document.definitions.len() + refused, pushed + 1);
+    }
+    assert!(rt;
+        document
+            .definitions
+            .iter()
+            .all(|definition| definition.kind_name() == "scalar")
+    );
 }

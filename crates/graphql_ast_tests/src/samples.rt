@@ -6,7 +6,7 @@ use graphql_ast::ast::{
     InputObjectTypeExtension, InterfaceTypeDefinition, InterfaceTypeExtension,
     ObjectTypeDefinition, ObjectTypeExtension, OperationDefinition, OperationType,
     ScalarTypeDefinition, ScalarTypeExtension, SchemaDefinition, SchemaExtension, Selection,
-    UnionTypeDefinition, UnionTypeExtension,
+    SourceFile, UnionTypeDefinition, UnionTypeExtension,
 };
 use graphql_ast::name;
 use graphql_ast::node::{Node, NodeStr};
@@ -20,25 +20,14 @@ pub(crate) fn directives(alloc: Global) -> Result<DirectiveList, AllocError> {
 
 /// `{ a }`
 fn selections(alloc: Global) -> Result<Vec<Selection>, AllocError> {
-    let field = Field {
-        alias: None,
-        name: name!(a),
-        arguments: Vec::new(alloc),
-        directives: DirectiveList::new(alloc),
-        selection_set: Vec::new(alloc),
-    };
-    Ok(vec![in alloc; Selection::Field(Node::new(alloc, field)?)]?)
+    Ok(vec![in alloc; Selection::field(alloc, Field::new(alloc, name!(a)))?]?)
 }
 
 /// `{ a }`, of an operation.
 pub(crate) fn query(alloc: Global) -> Result<OperationDefinition, AllocError> {
     Ok(OperationDefinition {
-        description: None,
-        operation_type: OperationType::Query,
-        name: None,
-        variables: Vec::new(alloc),
-        directives: DirectiveList::new(alloc),
         selection_set: selections(alloc)?,
+        ..OperationDefinition::new(alloc, OperationType::Query)
     })
 }
 
@@ -56,23 +45,13 @@ pub(crate) fn anonymous_query(alloc: Global) -> Result<Definition, AllocError> {
 
 /// `type A`
 pub(crate) fn type_a(alloc: Global) -> Result<Definition, AllocError> {
-    let object = ObjectTypeDefinition {
-        description: None,
-        name: name!(A),
-        implements_interfaces: Vec::new(alloc),
-        directives: DirectiveList::new(alloc),
-        fields: Vec::new(alloc),
-    };
+    let object = ObjectTypeDefinition::new(alloc, name!(A));
     Ok(Definition::from(Node::new(alloc, object)?))
 }
 
 /// `scalar A`
 pub(crate) fn scalar_a(alloc: Global) -> Result<Definition, AllocError> {
-    let scalar = ScalarTypeDefinition {
-        description: None,
-        name: name!(A),
-        directives: DirectiveList::new(alloc),
-    };
+    let scalar = ScalarTypeDefinition::new(alloc, name!(A));
     Ok(Definition::from(Node::new(alloc, scalar)?))
 }
 
@@ -81,6 +60,14 @@ pub(crate) fn document(alloc: Global, definitions: Vec<Definition>) -> Document 
     let mut document = Document::new(alloc);
     document.definitions = definitions;
     document
+}
+
+/// A source file of these texts.
+pub(crate) fn source_file(alloc: Global, path: &str, text: &str) -> Result<SourceFile, AllocError> {
+    Ok(SourceFile {
+        path: String::from_str(alloc, path)?,
+        text: String::from_str(alloc, text)?,
+    })
 }
 
 /// `type A query { a }`
@@ -102,11 +89,9 @@ fn operation(alloc: Global) -> Result<Definition, AllocError> {
 /// `fragment N on T @d { a }`
 fn fragment(alloc: Global) -> Result<Definition, AllocError> {
     let fragment = FragmentDefinition {
-        description: None,
-        name: name!(N),
-        type_condition: name!(T),
         directives: directives(alloc)?,
         selection_set: selections(alloc)?,
+        ..FragmentDefinition::new(alloc, name!(N), name!(T))
     };
     Ok(Definition::from(Node::new(alloc, fragment)?))
 }
@@ -114,11 +99,8 @@ fn fragment(alloc: Global) -> Result<Definition, AllocError> {
 /// `directive @N on FIELD`
 fn directive(alloc: Global) -> Result<Definition, AllocError> {
     let directive = DirectiveDefinition {
-        description: None,
-        name: name!(N),
-        arguments: Vec::new(alloc),
-        repeatable: false,
         locations: vec![in alloc; DirectiveLocation::Field]?,
+        ..DirectiveDefinition::new(alloc, name!(N))
     };
     Ok(Definition::from(Node::new(alloc, directive)?))
 }
@@ -127,9 +109,9 @@ fn directive(alloc: Global) -> Result<Definition, AllocError> {
 fn schema(alloc: Global) -> Result<Definition, AllocError> {
     let root = Node::new(alloc, (OperationType::Query, name!(N)))?;
     let schema = SchemaDefinition {
-        description: None,
         directives: directives(alloc)?,
         root_operations: vec![in alloc; root]?,
+        ..SchemaDefinition::new(alloc)
     };
     Ok(Definition::from(Node::new(alloc, schema)?))
 }
@@ -137,9 +119,8 @@ fn schema(alloc: Global) -> Result<Definition, AllocError> {
 /// `scalar N @d`
 fn scalar(alloc: Global) -> Result<Definition, AllocError> {
     let scalar = ScalarTypeDefinition {
-        description: None,
-        name: name!(N),
         directives: directives(alloc)?,
+        ..ScalarTypeDefinition::new(alloc, name!(N))
     };
     Ok(Definition::from(Node::new(alloc, scalar)?))
 }
@@ -147,11 +128,8 @@ fn scalar(alloc: Global) -> Result<Definition, AllocError> {
 /// `type N @d`
 fn object(alloc: Global) -> Result<Definition, AllocError> {
     let object = ObjectTypeDefinition {
-        description: None,
-        name: name!(N),
-        implements_interfaces: Vec::new(alloc),
         directives: directives(alloc)?,
-        fields: Vec::new(alloc),
+        ..ObjectTypeDefinition::new(alloc, name!(N))
     };
     Ok(Definition::from(Node::new(alloc, object)?))
 }
@@ -159,11 +137,8 @@ fn object(alloc: Global) -> Result<Definition, AllocError> {
 /// `interface N @d`
 fn interface(alloc: Global) -> Result<Definition, AllocError> {
     let interface = InterfaceTypeDefinition {
-        description: None,
-        name: name!(N),
-        implements_interfaces: Vec::new(alloc),
         directives: directives(alloc)?,
-        fields: Vec::new(alloc),
+        ..InterfaceTypeDefinition::new(alloc, name!(N))
     };
     Ok(Definition::from(Node::new(alloc, interface)?))
 }
@@ -171,10 +146,8 @@ fn interface(alloc: Global) -> Result<Definition, AllocError> {
 /// `union N @d`
 fn union(alloc: Global) -> Result<Definition, AllocError> {
     let union = UnionTypeDefinition {
-        description: None,
-        name: name!(N),
         directives: directives(alloc)?,
-        members: Vec::new(alloc),
+        ..UnionTypeDefinition::new(alloc, name!(N))
     };
     Ok(Definition::from(Node::new(alloc, union)?))
 }
@@ -182,10 +155,8 @@ fn union(alloc: Global) -> Result<Definition, AllocError> {
 /// `enum N @d`
 fn enumeration(alloc: Global) -> Result<Definition, AllocError> {
     let enumeration = EnumTypeDefinition {
-        description: None,
-        name: name!(N),
         directives: directives(alloc)?,
-        values: Vec::new(alloc),
+        ..EnumTypeDefinition::new(alloc, name!(N))
     };
     Ok(Definition::from(Node::new(alloc, enumeration)?))
 }
@@ -193,10 +164,8 @@ fn enumeration(alloc: Global) -> Result<Definition, AllocError> {
 /// `input N @d`
 fn input(alloc: Global) -> Result<Definition, AllocError> {
     let input = InputObjectTypeDefinition {
-        description: None,
-        name: name!(N),
         directives: directives(alloc)?,
-        fields: Vec::new(alloc),
+        ..InputObjectTypeDefinition::new(alloc, name!(N))
     };
     Ok(Definition::from(Node::new(alloc, input)?))
 }
@@ -205,7 +174,7 @@ fn input(alloc: Global) -> Result<Definition, AllocError> {
 fn schema_extension(alloc: Global) -> Result<Definition, AllocError> {
     let extension = SchemaExtension {
         directives: directives(alloc)?,
-        root_operations: Vec::new(alloc),
+        ..SchemaExtension::new(alloc)
     };
     Ok(Definition::from(Node::new(alloc, extension)?))
 }
@@ -213,8 +182,8 @@ fn schema_extension(alloc: Global) -> Result<Definition, AllocError> {
 /// `extend scalar N @d`
 fn scalar_extension(alloc: Global) -> Result<Definition, AllocError> {
     let extension = ScalarTypeExtension {
-        name: name!(N),
         directives: directives(alloc)?,
+        ..ScalarTypeExtension::new(alloc, name!(N))
     };
     Ok(Definition::from(Node::new(alloc, extension)?))
 }
@@ -222,10 +191,8 @@ fn scalar_extension(alloc: Global) -> Result<Definition, AllocError> {
 /// `extend type N @d`
 fn object_extension(alloc: Global) -> Result<Definition, AllocError> {
     let extension = ObjectTypeExtension {
-        name: name!(N),
-        implements_interfaces: Vec::new(alloc),
         directives: directives(alloc)?,
-        fields: Vec::new(alloc),
+        ..ObjectTypeExtension::new(alloc, name!(N))
     };
     Ok(Definition::from(Node::new(alloc, extension)?))
 }
@@ -233,10 +200,8 @@ fn object_extension(alloc: Global) -> Result<Definition, AllocError> {
 /// `extend interface N @d`
 fn interface_extension(alloc: Global) -> Result<Definition, AllocError> {
     let extension = InterfaceTypeExtension {
-        name: name!(N),
-        implements_interfaces: Vec::new(alloc),
         directives: directives(alloc)?,
-        fields: Vec::new(alloc),
+        ..InterfaceTypeExtension::new(alloc, name!(N))
     };
     Ok(Definition::from(Node::new(alloc, extension)?))
 }
@@ -244,9 +209,8 @@ fn interface_extension(alloc: Global) -> Result<Definition, AllocError> {
 /// `extend union N @d`
 fn union_extension(alloc: Global) -> Result<Definition, AllocError> {
     let extension = UnionTypeExtension {
-        name: name!(N),
         directives: directives(alloc)?,
-        members: Vec::new(alloc),
+        ..UnionTypeExtension::new(alloc, name!(N))
     };
     Ok(Definition::from(Node::new(alloc, extension)?))
 }
@@ -254,9 +218,8 @@ fn union_extension(alloc: Global) -> Result<Definition, AllocError> {
 /// `extend enum N @d`
 fn enum_extension(alloc: Global) -> Result<Definition, AllocError> {
     let extension = EnumTypeExtension {
-        name: name!(N),
         directives: directives(alloc)?,
-        values: Vec::new(alloc),
+        ..EnumTypeExtension::new(alloc, name!(N))
     };
     Ok(Definition::from(Node::new(alloc, extension)?))
 }
@@ -264,9 +227,8 @@ fn enum_extension(alloc: Global) -> Result<Definition, AllocError> {
 /// `extend input N @d`
 fn input_extension(alloc: Global) -> Result<Definition, AllocError> {
     let extension = InputObjectTypeExtension {
-        name: name!(N),
         directives: directives(alloc)?,
-        fields: Vec::new(alloc),
+        ..InputObjectTypeExtension::new(alloc, name!(N))
     };
     Ok(Definition::from(Node::new(alloc, extension)?))
 }

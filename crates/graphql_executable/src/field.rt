@@ -1,5 +1,7 @@
 //! Fields.
-ghost use Rattle.std.specs.Prelude.{◌≡◌};
+ghost use Rattle.std.specs.Prelude.{◌≡◌, [], None, option_copied};
+ghost use Rattle.std.specs.Option.{option_map};
+ghost use Rattle.graphql_values.specs.code.Queries.{argument_value, first_argument_named};
 ghost use Rattle.graphql_executable.specs.code.SelectionQueries.{response_name};
 
 pub(crate) mod print;
@@ -9,7 +11,8 @@ use graphql_base::name::Name;
 use graphql_base::node::Node;
 use graphql_values::argument::Argument;
 use graphql_values::directive_list::DirectiveList;
-use std::alloc::AllocError;
+use graphql_values::value::Value;
+use std::alloc::{AllocError, Global};
 
 /// A field (`Field`, section 2.5). Two are equal exactly if they differ in locations at most.
 #[cycle(selection)]
@@ -28,6 +31,28 @@ pub struct Field {
 }
 
 impl Field {
+    /// A field without an alias, arguments, directives and selections. It takes no memory.
+    ///
+    /// ```
+    /// Field::new(alloc, name!(id)) // id
+    /// Field { alias: Some(name!(key)), ..Field::new(alloc, name!(id)) } // key: id
+    /// ```
+    pub fn new(alloc: Global, name: Name) -> Field
+        ensures alias { result.alias ≡ None }
+        ensures name { result.name ≡ name }
+        ensures arguments { result.arguments.items ≡ [] }
+        ensures directives { result.directives.0.items ≡ [] }
+        ensures selection_set { result.selection_set.items ≡ [] }
+    {
+        Field {
+            alias: None,
+            name,
+            arguments: Vec::new(alloc),
+            directives: DirectiveList::new(alloc),
+            selection_set: Vec::new(alloc),
+        }
+    }
+
     /// The name by which the response speaks of the field: the alias if there is one, else the name.
     pub fn response_name(&self) -> &Name
         ensures { result.now ≡ response_name self.now }
@@ -36,6 +61,28 @@ impl Field {
             Some(alias) => alias,
             None => &self.name,
         }
+    }
+
+    /// The value of the first argument of that name.
+    ///
+    /// ```
+    /// field.specified_argument_by_name("first") // of items(first: 10) the node of 10
+    /// ```
+    pub fn specified_argument_by_name(&self, name: &str) -> Option<&Node<Value>>
+        ensures { option_copied result
+            ≡ option_map argument_value (first_argument_named name.now self.now.arguments.items) }
+    {
+        let argument = self.specified_argument(name)?;
+        Some(&argument.value)
+    }
+
+    fn specified_argument(&self, name: &str) -> Option<&Node<Argument>>
+        ensures { option_copied result
+            ≡ first_argument_named name.now self.now.arguments.items }
+    {
+        self.arguments
+            .iter()
+            .find(|node| node.name.as_str() == name)
     }
 }
 

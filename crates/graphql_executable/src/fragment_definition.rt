@@ -1,4 +1,5 @@
 //! Definitions of fragments.
+ghost use Rattle.std.specs.Prelude.{◌≡◌, [], None};
 
 pub(crate) mod print;
 
@@ -6,6 +7,7 @@ use crate::selection::Selection;
 use graphql_base::name::{Name, NamedType};
 use graphql_base::node::NodeStr;
 use graphql_values::directive_list::DirectiveList;
+use std::alloc::Global;
 
 /// A fragment definition (`FragmentDefinition`, section 2.8). Two are equal exactly if they differ in locations at
 /// most.
@@ -21,4 +23,29 @@ pub struct FragmentDefinition {
     pub directives: DirectiveList,
     /// What is selected. A fragment without a selection isn't well formed.
     pub selection_set: Vec<Selection>,
+}
+
+impl FragmentDefinition {
+    /// A fragment without a description, directives and selections. It takes no memory, and isn't well formed before it
+    /// has a selection.
+    ///
+    /// ```
+    /// let mut fragment = FragmentDefinition::new(alloc, name!(F), name!(T));
+    /// fragment.selection_set.push(Selection::field(alloc, Field::new(alloc, name!(id)))?)?; // fragment F on T { id }
+    /// ```
+    pub fn new(alloc: Global, name: Name, type_condition: NamedType) -> FragmentDefinition
+        ensures description { result.description ≡ None }
+        ensures name { result.name ≡ name }
+        ensures type_condition { result.type_condition ≡ type_condition }
+        ensures directives { result.directives.0.items ≡ [] }
+        ensures selection_set { result.selection_set.items ≡ [] }
+    {
+        FragmentDefinition {
+            description: None,
+            name,
+            type_condition,
+            directives: DirectiveList::new(alloc),
+            selection_set: Vec::new(alloc),
+        }
+    }
 }

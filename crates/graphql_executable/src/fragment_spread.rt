@@ -1,9 +1,11 @@
 //! Fragment spreads.
+ghost use Rattle.std.specs.Prelude.{◌≡◌, []};
 
 pub(crate) mod print;
 
 use graphql_base::name::Name;
 use graphql_values::directive_list::DirectiveList;
+use std::alloc::Global;
 
 /// A fragment spread (`FragmentSpread`, section 2.8). Two are equal exactly if they differ in locations at most.
 #[derive(Clone, PartialEq, Eq, Hash, Debug, Drop)]
@@ -12,4 +14,21 @@ pub struct FragmentSpread {
     pub fragment_name: Name,
     /// The directives behind the name.
     pub directives: DirectiveList,
+}
+
+impl FragmentSpread {
+    /// A fragment spread without directives. It takes no memory.
+    ///
+    /// ```
+    /// FragmentSpread::new(alloc, name!(F)) // ...F
+    /// ```
+    pub fn new(alloc: Global, fragment_name: Name) -> FragmentSpread
+        ensures fragment_name { result.fragment_name ≡ fragment_name }
+        ensures directives { result.directives.0.items ≡ [] }
+    {
+        FragmentSpread {
+            fragment_name,
+            directives: DirectiveList::new(alloc),
+        }
+    }
 }

@@ -1,11 +1,12 @@
 //! Inline fragments.
+ghost use Rattle.std.specs.Prelude.{◌≡◌, [], None};
 
 pub(crate) mod print;
 
 use crate::selection::Selection;
 use graphql_base::name::NamedType;
 use graphql_values::directive_list::DirectiveList;
-use std::alloc::AllocError;
+use std::alloc::{AllocError, Global};
 
 /// An inline fragment (`InlineFragment`, section 2.8). Two are equal exactly if they differ in locations at most.
 #[cycle(selection)]
@@ -17,6 +18,27 @@ pub struct InlineFragment {
     pub directives: DirectiveList,
     /// What is selected. An inline fragment without a selection isn't well formed.
     pub selection_set: Vec<Selection>,
+}
+
+impl InlineFragment {
+    /// An inline fragment without a type condition, directives and selections. It takes no memory, and isn't well
+    /// formed before it has a selection.
+    ///
+    /// ```
+    /// let mut fragment = InlineFragment::new(alloc);
+    /// fragment.selection_set.push(Selection::field(alloc, Field::new(alloc, name!(id)))?)?; // ... { id }
+    /// ```
+    pub fn new(alloc: Global) -> InlineFragment
+        ensures type_condition { result.type_condition ≡ None }
+        ensures directives { result.directives.0.items ≡ [] }
+        ensures selection_set { result.selection_set.items ≡ [] }
+    {
+        InlineFragment {
+            type_condition: None,
+            directives: DirectiveList::new(alloc),
+            selection_set: Vec::new(alloc),
+        }
+    }
 }
 
 impl Clone for InlineFragment {

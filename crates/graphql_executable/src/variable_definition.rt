@@ -1,4 +1,5 @@
 //! Definitions of variables, which operations have.
+ghost use Rattle.std.specs.Prelude.{◌≡◌, [], None};
 
 pub(crate) mod print;
 
@@ -7,6 +8,7 @@ use graphql_base::node::{Node, NodeStr};
 use graphql_values::directive_list::DirectiveList;
 use graphql_values::types::Type;
 use graphql_values::value::Value;
+use std::alloc::Global;
 
 /// A variable of an operation (`VariableDefinition`, section 2.10). Two are equal exactly if they differ in locations
 /// at most.
@@ -22,4 +24,27 @@ pub struct VariableDefinition {
     pub default_value: Option<Node<Value>>,
     /// The directives at its end. A variable in their arguments isn't well formed.
     pub directives: DirectiveList,
+}
+
+impl VariableDefinition {
+    /// A variable without a description, a default value and directives. It takes no memory.
+    ///
+    /// ```
+    /// VariableDefinition::new(alloc, name!(v), Node::new(alloc, ty!(Int!))?) // $v: Int!
+    /// ```
+    pub fn new(alloc: Global, name: Name, ty: Node<Type>) -> VariableDefinition
+        ensures description { result.description ≡ None }
+        ensures name { result.name ≡ name }
+        ensures ty { result.ty ≡ ty }
+        ensures default_value { result.default_value ≡ None }
+        ensures directives { result.directives.0.items ≡ [] }
+    {
+        VariableDefinition {
+            description: None,
+            name,
+            ty,
+            default_value: None,
+            directives: DirectiveList::new(alloc),
+        }
+    }
 }

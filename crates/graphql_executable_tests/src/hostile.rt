@@ -1,10 +1,9 @@
 //! Trees and sinks at the edges.
 use crate::checks::{Narrow, check_line};
-use crate::samples::{
-    fields, fragment, inline_fragment, nested, operation, query, spread, variable,
-};
+use crate::samples::{fields, fragment, inline_fragment, nested, operation, query, variable};
 use graphql_base::name;
 use graphql_base::node::Node;
+use graphql_executable::fragment_spread::FragmentSpread;
 use graphql_executable::operation_definition::OperationDefinition;
 use graphql_text::engine::PrintError;
 use graphql_values::value::Value;
@@ -88,7 +87,13 @@ fn many_fields(rt: HostRuntime) {
 fn trees_that_are_not_well_formed(rt: HostRuntime) {
     let alloc = rt.alloc();
     check_line(&rt, alloc, &query(alloc, Vec::new(alloc)), "{}", false);
-    check_line(&rt, alloc, &spread(alloc, name!(on)), "...on", false);
+    check_line(
+        &rt,
+        alloc,
+        &FragmentSpread::new(alloc, name!(on)),
+        "...on",
+        false,
+    );
     let mut inline = inline_fragment(alloc).expect(&rt, "memory");
     inline.type_condition = None;
     inline.selection_set.clear();

@@ -1,10 +1,10 @@
 //! Whole prints of the seven kinds, where memory is ample. How trees are laid out is told by the cases of another program.
 use crate::checks::{check_line, check_print};
-use crate::samples::{
-    a, field, fragment, inline_fragment, operation, query_of_a, select, spread, variable,
-};
+use crate::samples::{a, field, fragment, inline_fragment, operation, query_of_a, variable};
 use graphql_base::name;
 use graphql_base::node::NodeStr;
+use graphql_executable::fragment_spread::FragmentSpread;
+use graphql_executable::selection::Selection;
 
 const LINE: &str =
     "query N($v: Int = 1 @d) { r: s(a: $v) @include(if: true) { ...F ... on T { id } } }";
@@ -15,9 +15,15 @@ fn of_selections(rt: HostRuntime) {
     let wanted = "r: s(a: $v) @include(if: true) { ...F ... on T { id } }";
     let field = field(alloc).expect(&rt, "memory");
     check_line(&rt, alloc, &field, wanted, true);
-    let selection = select(alloc, field).expect(&rt, "memory");
+    let selection = Selection::field(alloc, field).expect(&rt, "memory");
     check_line(&rt, alloc, &selection, wanted, true);
-    check_line(&rt, alloc, &spread(alloc, name!(F)), "...F", true);
+    check_line(
+        &rt,
+        alloc,
+        &FragmentSpread::new(alloc, name!(F)),
+        "...F",
+        true,
+    );
     let inline = inline_fragment(alloc).expect(&rt, "memory");
     check_line(&rt, alloc, &inline, "... on T { id }", true);
     check_print(

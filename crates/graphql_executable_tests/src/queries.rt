@@ -1,15 +1,36 @@
-//! What selections and fields answer.
-use crate::samples::{a, field, inline_fragment, spread};
+//! What selections, fields and operations answer and lend, and what each is as it is new.
+ghost use Rattle.std.specs.Prelude.{OnErr, OnOk};
+ghost use Rattle.graphql_executable.specs.code.SelectionLoans.{IsSelectionWith};
+ghost use Rattle.graphql_executable.specs.code.SelectionQueries.{selection_directives};
+
+use crate::checks::check_line;
+use crate::samples::{a, field, inline_fragment, only, variable};
 use graphql_base::name;
 use graphql_base::node::Node;
 use graphql_base::span::{FileId, SourceSpan};
+use graphql_executable::field::Field;
+use graphql_executable::fragment_definition::FragmentDefinition;
+use graphql_executable::fragment_spread::FragmentSpread;
+use graphql_executable::inline_fragment::InlineFragment;
+use graphql_executable::operation_definition::OperationDefinition;
 use graphql_executable::selection::Selection;
+use graphql_executable::variable_definition::VariableDefinition;
+use graphql_values::argument::Argument;
+use graphql_values::directive::Directive;
+use graphql_values::directive_list::DirectiveList;
+use graphql_values::operation_type::OperationType;
+use graphql_values::ty;
+use graphql_values::value::Value;
+use std::alloc::{AllocError, Global};
+use std::process::Abort;
 
 #[test]
 fn of_selections(rt: HostRuntime) {
     let alloc = rt.alloc();
     let span = SourceSpan::new(FileId::new(5), 10, 13).expect(&rt, "a span");
-    let node = Node::new_parsed(alloc, spread(alloc, name!(F)), span).expect(&rt, "memory");
+    let node = Node::new_parsed(alloc, FragmentSpread::new(alloc, name!(F)), span).expect(
+        &rt, "memory",
+    );
     let fragment = Selection::FragmentSpread(node);
     assert!(&rt; fragment.location() == Some(span));
     assert!(&rt; fragment.as_fragment_spread().is_some());
@@ -22,9 +43,160 @@ fn of_selections(rt: HostRuntime) {
 }
 
 #[test]
+fn made_of_parts(rt: HostRuntime) {
+    let alloc = rt.alloc();
+    let made = Selection::field(alloc, Field::new(alloc, name!(a))).expect(&rt, "memory");
+    check_line(&rt, alloc, &made, "a", true);
+    assert!(&rt; made.as_field().is_some() && made.location().is_none());
+    let spread = FragmentSpread::new(alloc, name!(F));
+    let made = Selection::fragment_spread(alloc, spread).expect(&rt, "memory");
+    check_line(&rt, alloc, &made, "...F", true);
+    assert!(&rt; made.as_fragment_spread().is_some() && made.location().is_none());
+    let inline = inline_fragment(alloc).expect(&rt, "memory");
+    let made = Selection::inline_fragment(alloc, inline).expect(&rt, "memory");
+    check_line(&rt, alloc, &made, "... on T { id }", true);
+    assert!(&rt; made.as_inline_fragment().is_some() && made.location().is_none());
+}
+
+#[test]
 fn of_response_names(rt: HostRuntime) {
     let mut field = field(rt.alloc()).expect(&rt, "memory");
     assert_eq!(&rt; field.response_name().as_str(), "r");
     field.alias = None;
     assert_eq!(&rt; field.response_name().as_str(), "s");
+}
+
+/// The name of the first directive, and how many selections there are.
+fn check_contents(
+    rt: &impl Abort,
+    selection: Selection,
+    directive: Option<&str>,
+    count: Option<usize>,
+) {
+    let first = selection.directives().first();
+    assert_eq!(rt; first.map(|node| node.name.as_str()), directive);
+    assert_eq!(rt; selection.selection_set().map(|set| set.len()), count);
+}
+
+#[test]
+fn of_what_stands_in_selections(rt: HostRuntime) {
+    let alloc = rt.alloc();
+    let full = Selection::field(alloc, field(alloc).expect(&rt, "memory"));
+    check_contents(&rt, full.expect(&rt, "memory"), Some("include"), Some(2));
+    check_contents(&rt, a(alloc).expect(&rt, "memory"), None, Some(0));
+    let spread = Selection::fragment_spread(alloc, FragmentSpread::new(alloc, name!(F)));
+    check_contents(&rt, spread.expect(&rt, "memory"), None, None);
+    let inline = Selection::inline_fragment(alloc, inline_fragment(alloc).expect(&rt, "memory"));
+    check_contents(&rt, inline.expect(&rt, "memory"), None, Some(1));
+}
+
+/// What a caller knows of directives that it wrote.
+fn set_directives(selection: &mut Selection, directives: DirectiveList) -> Result<(), AllocError>
+    ensures ok { OnOk result (IsSelectionWith selection.old directives selection.new) }
+    ensures err { OnErr result
+        (IsSelectionWith selection.old (selection_directives selection.old) selection.new) }
+{
+    *selection.directives_mut()? = directives;
+    Ok(())
+}
+
+/// What is written is seen in one of two selections that share a node.
+fn check_written(rt: &impl Abort, alloc: Global, mut selection: Selection, wanted: &str) {
+    let other = selection.clone().expect(rt, "memory");
+    let directives = only(alloc, Directive::new(alloc, name!(d))).expect(rt, "memory");
+    set_directives(&mut selection, directives).expect(rt, "memory");
+    check_line(rt, alloc, &selection, wanted, true);
+    assert!(rt; !other.directives().has("d"));
+}
+
+#[test]
+fn of_directives_that_are_written(rt: HostRuntime) {
+    let alloc = rt.alloc();
+    check_written(&rt, alloc, a(alloc).expect(&rt, "memory"), "a @d");
+    let spread = Selection::fragment_spread(alloc, FragmentSpread::new(alloc, name!(F)));
+    check_written(&rt, alloc, spread.expect(&rt, "memory"), "...F @d");
+    let inline = Selection::inline_fragment(alloc, inline_fragment(alloc).expect(&rt, "memory"));
+    check_written(
+        &rt,
+        alloc,
+        inline.expect(&rt, "memory"),
+        "... on T @d { id }",
+    );
+}
+
+/// `$v: Int = 1 @d, $w: W, $v: W`
+fn variables(alloc: Global) -> Result<Vec<Node<VariableDefinition>>, AllocError> {
+    let mut variables = vec![in alloc; Node::new(alloc, variable(alloc)?)?]?;
+    for name in [name!(w), name!(v)] {
+        let ty = Node::new(alloc, ty!(W))?;
+        variables.push(Node::new(alloc, VariableDefinition::new(alloc, name, ty))?)?;
+    }
+    Ok(variables)
+}
+
+#[test]
+fn of_variables_by_name(rt: HostRuntime) {
+    let alloc = rt.alloc();
+    let mut query = OperationDefinition::new(alloc, OperationType::Query);
+    assert!(&rt; query.variable_by_name("v").is_none());
+    query.variables = variables(alloc).expect(&rt, "memory");
+    for (name, wanted) in [
+        ("v", Some("Int")),
+        ("w", Some("W")),
+        ("V", None),
+        ("", None),
+    ] {
+        let found = query.variable_by_name(name);
+        assert_eq!(&rt;
+            found.map(|node| node.ty.inner_named_type().as_str()),
+            wanted
+        );
+    }
+}
+
+/// `f(x: 1, y: 2, x: 3)`
+fn field_with_arguments(alloc: Global) -> Result<Field, AllocError> {
+    let mut field = Field::new(alloc, name!(f));
+    for (name, number) in [(name!(x), 1), (name!(y), 2), (name!(x), 3)] {
+        let value = Node::new(alloc, Value::from_i32(alloc, number)?)?;
+        field
+            .arguments
+            .push(Argument::new_node(alloc, name, value)?)?;
+    }
+    Ok(field)
+}
+
+#[test]
+fn of_arguments_by_name(rt: HostRuntime) {
+    let field = field_with_arguments(rt.alloc()).expect(&rt, "memory");
+    for (name, wanted) in [("x", Some(1)), ("y", Some(2)), ("X", None), ("", None)] {
+        let found = field.specified_argument_by_name(name);
+        assert_eq!(&rt; found.and_then(|value| value.to_i32()), wanted);
+    }
+}
+
+#[test]
+fn of_new_trees(rt: HostRuntime) {
+    let alloc = rt.alloc();
+    check_line(&rt, alloc, &Field::new(alloc, name!(a)), "a", true);
+    check_line(
+        &rt,
+        alloc,
+        &FragmentSpread::new(alloc, name!(F)),
+        "...F",
+        true,
+    );
+    check_line(&rt, alloc, &InlineFragment::new(alloc), "... {}", false);
+    let int = Node::new(alloc, ty!(Int)).expect(&rt, "memory");
+    check_line(
+        &rt,
+        alloc,
+        &VariableDefinition::new(alloc, name!(v), int),
+        "$v: Int",
+        true,
+    );
+    let query = OperationDefinition::new(alloc, OperationType::Mutation);
+    check_line(&rt, alloc, &query, "mutation {}", false);
+    let fragment = FragmentDefinition::new(alloc, name!(F), name!(T));
+    check_line(&rt, alloc, &fragment, "fragment F on T {}", false);
 }

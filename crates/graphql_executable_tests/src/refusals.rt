@@ -1,7 +1,11 @@
 //! What is made, copied and printed, or refused.
 use crate::checks::{check_cloned_or_refused, check_text_or_refused};
-use crate::samples::{fragment, operation};
+use crate::samples::{field, fragment, inline_fragment, operation};
+use graphql_base::name;
+use graphql_executable::field::Field;
+use graphql_executable::fragment_spread::FragmentSpread;
 use graphql_executable::operation_definition::OperationDefinition;
+use graphql_executable::selection::Selection;
 
 #[test]
 fn an_operation_is_copied_and_printed_or_refused(rt: HostRuntime) {
@@ -21,4 +25,41 @@ fn a_fragment_is_copied_and_printed_or_refused(rt: HostRuntime) {
         let wanted = "\"D\" fragment F on T { a }";
         check_text_or_refused(&rt, rt.alloc(), &fragment, wanted);
     }
+}
+
+#[test]
+fn a_selection_is_made_or_refused(rt: HostRuntime) {
+    let alloc = rt.alloc();
+    if let Ok(field) = Selection::field(alloc, Field::new(alloc, name!(a))) {
+        check_text_or_refused(&rt, alloc, &field, "a");
+    }
+    let spread = FragmentSpread::new(alloc, name!(F));
+    if let Ok(spread) = Selection::fragment_spread(alloc, spread) {
+        check_text_or_refused(&rt, alloc, &spread, "...F");
+    }
+    let Ok(inline) = inline_fragment(alloc) else {
+        return;
+    };
+    if let Ok(inline) = Selection::inline_fragment(alloc, inline) {
+        check_text_or_refused(&rt, alloc, &inline, "... on T { id }");
+    }
+}
+
+#[test]
+fn directives_are_lent_or_the_selection_stays(rt: HostRuntime) {
+    let alloc = rt.alloc();
+    let (Ok(field), Ok(before)) = (field(alloc), field(alloc)) else {
+        return;
+    };
+    let Ok(original) = Selection::field(alloc, field) else {
+        return;
+    };
+    let Ok(mut shared) = original.clone() else {
+        return;
+    };
+    if let Ok(directives) = shared.directives_mut() {
+        assert!(rt; directives.has("include"));
+    }
+    assert!(rt; shared == original);
+    assert!(rt; shared.as_field().is_some_and(|field| **field == before));
 }

@@ -13,51 +13,29 @@ use graphql_values::argument::Argument;
 use graphql_values::directive::Directive;
 use graphql_values::directive_list::DirectiveList;
 use graphql_values::operation_type::OperationType;
-use graphql_values::types::Type;
+use graphql_values::ty;
 use graphql_values::value::Value;
 use std::alloc::{AllocError, Global};
 
 /// The one directive of a list.
 pub(crate) fn only(alloc: Global, directive: Directive) -> Result<DirectiveList, AllocError> {
-    Ok(DirectiveList(vec![in alloc; Node::new(alloc, directive)?]?))
-}
-
-/// A field that is a name alone.
-pub(crate) fn plain_field(alloc: Global, name: Name) -> Field {
-    Field {
-        alias: None,
-        name,
-        arguments: Vec::new(alloc),
-        directives: DirectiveList::new(alloc),
-        selection_set: Vec::new(alloc),
-    }
-}
-
-/// A field as a selection.
-pub(crate) fn select(alloc: Global, field: Field) -> Result<Selection, AllocError> {
-    Ok(Selection::Field(Node::new(alloc, field)?))
+    let mut list = DirectiveList::new(alloc);
+    list.0.push(Node::new(alloc, directive)?)?;
+    Ok(list)
 }
 
 /// `a`
 pub(crate) fn a(alloc: Global) -> Result<Selection, AllocError> {
-    select(alloc, plain_field(alloc, name!(a)))
-}
-
-/// `...F`
-pub(crate) fn spread(alloc: Global, fragment_name: Name) -> FragmentSpread {
-    FragmentSpread {
-        fragment_name,
-        directives: DirectiveList::new(alloc),
-    }
+    Selection::field(alloc, Field::new(alloc, name!(a)))
 }
 
 /// `... on T { id }`
 pub(crate) fn inline_fragment(alloc: Global) -> Result<InlineFragment, AllocError> {
-    let id = select(alloc, plain_field(alloc, name!(id)))?;
+    let id = Selection::field(alloc, Field::new(alloc, name!(id)))?;
     Ok(InlineFragment {
         type_condition: Some(name!(T)),
-        directives: DirectiveList::new(alloc),
         selection_set: vec![in alloc; id]?,
+        ..InlineFragment::new(alloc)
     })
 }
 
@@ -70,15 +48,13 @@ fn argument(alloc: Global, name: Name, value: Value) -> Result<Vec<Node<Argument
 pub(crate) fn field(alloc: Global) -> Result<Field, AllocError> {
     let mut include = Directive::new(alloc, name!(include));
     include.arguments = argument(alloc, name!(if), Value::from(true))?;
-    let mut field = plain_field(alloc, name!(s));
+    let mut field = Field::new(alloc, name!(s));
     field.alias = Some(name!(r));
     field.arguments = argument(alloc, name!(a), Value::Variable(name!(v)))?;
     field.directives = only(alloc, include)?;
-    let fragment = Node::new(alloc, spread(alloc, name!(F)))?;
-    let inline = Node::new(alloc, inline_fragment(alloc)?)?;
     field.selection_set = vec![in alloc;
-        Selection::FragmentSpread(fragment),
-        Selection::InlineFragment(inline),
+        Selection::fragment_spread(alloc, FragmentSpread::new(alloc, name!(F)))?,
+        Selection::inline_fragment(alloc, inline_fragment(alloc)?)?,
     ]?;
     Ok(field)
 }
@@ -86,24 +62,19 @@ pub(crate) fn field(alloc: Global) -> Result<Field, AllocError> {
 /// `$v: Int = 1 @d`
 pub(crate) fn variable(alloc: Global) -> Result<VariableDefinition, AllocError> {
     let one = Value::from_i32(alloc, 1)?;
+    let ty = Node::new(alloc, ty!(Int))?;
     Ok(VariableDefinition {
-        description: None,
-        name: name!(v),
-        ty: Node::new(alloc, Type::Named(name!(Int)))?,
         default_value: Some(Node::new(alloc, one)?),
         directives: only(alloc, Directive::new(alloc, name!(d)))?,
+        ..VariableDefinition::new(alloc, name!(v), ty)
     })
 }
 
 /// An anonymous query of these selections.
 pub(crate) fn query(alloc: Global, selection_set: Vec<Selection>) -> OperationDefinition {
     OperationDefinition {
-        description: None,
-        operation_type: OperationType::Query,
-        name: None,
-        variables: Vec::new(alloc),
-        directives: DirectiveList::new(alloc),
         selection_set,
+        ..OperationDefinition::new(alloc, OperationType::Query)
     }
 }
 
@@ -114,7 +85,7 @@ pub(crate) fn query_of_a(alloc: Global) -> Result<OperationDefinition, AllocErro
 
 /// `query N($v: Int = 1 @d) { r: s(a: $v) @include(if: true) { ...F ... on T { id } } }`
 pub(crate) fn operation(alloc: Global) -> Result<OperationDefinition, AllocError> {
-    let set = vec![in alloc; select(alloc, field(alloc)?)?]?;
+    let set = vec![in alloc; Selection::field(alloc, field(alloc)?)?]?;
     let mut operation = query(alloc, set);
     operation.name = Some(name!(N));
     operation.variables = vec![in alloc; Node::new(alloc, variable(alloc)?)?]?;
@@ -125,10 +96,8 @@ pub(crate) fn operation(alloc: Global) -> Result<OperationDefinition, AllocError
 pub(crate) fn fragment(alloc: Global) -> Result<FragmentDefinition, AllocError> {
     Ok(FragmentDefinition {
         description: Some(NodeStr::new_str(alloc, "D")?),
-        name: name!(F),
-        type_condition: name!(T),
-        directives: DirectiveList::new(alloc),
         selection_set: vec![in alloc; a(alloc)?]?,
+        ..FragmentDefinition::new(alloc, name!(F), name!(T))
     })
 }
 
@@ -145,9 +114,9 @@ pub(crate) fn fields(alloc: Global, count: usize) -> Result<Vec<Selection>, Allo
 pub(crate) fn nested(alloc: Global, depth: usize) -> Result<Vec<Selection>, AllocError> {
     let mut set = vec![in alloc; a(alloc)?]?;
     for _ in 1..depth {
-        let mut outer = plain_field(alloc, name!(a));
+        let mut outer = Field::new(alloc, name!(a));
         outer.selection_set = set;
-        set = vec![in alloc; select(alloc, outer)?]?;
+        set = vec![in alloc; Selection::field(alloc, outer)?]?;
     }
     Ok(set)
 }

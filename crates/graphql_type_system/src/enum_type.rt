@@ -1,4 +1,6 @@
 //! Enum types: definitions and extensions.
+ghost use Rattle.std.specs.Prelude.{◌≡◌, [], None, option_copied};
+ghost use Rattle.graphql_type_system.specs.code.TypeSystemQueries.{first_enum_value_definition_named};
 
 pub(crate) mod print;
 
@@ -6,6 +8,7 @@ use crate::enum_value_definition::EnumValueDefinition;
 use graphql_base::name::Name;
 use graphql_base::node::{Node, NodeStr};
 use graphql_values::directive_list::DirectiveList;
+use std::alloc::Global;
 
 /// A definition of an enum type (`EnumTypeDefinition`, section 3.9). Two are equal exactly if they differ in
 /// locations in a source text at most.
@@ -21,6 +24,39 @@ pub struct EnumTypeDefinition {
     pub values: Vec<Node<EnumValueDefinition>>,
 }
 
+impl EnumTypeDefinition {
+    /// An enum type without a description, directives and values. It takes no memory.
+    ///
+    /// ```
+    /// EnumTypeDefinition { values, ..EnumTypeDefinition::new(alloc, name!(Size)) } // enum Size { .. }
+    /// ```
+    pub fn new(alloc: Global, name: Name) -> EnumTypeDefinition
+        ensures description { result.description ≡ None }
+        ensures name { result.name ≡ name }
+        ensures directives { result.directives.0.items ≡ [] }
+        ensures values { result.values.items ≡ [] }
+    {
+        EnumTypeDefinition {
+            description: None,
+            name,
+            directives: DirectiveList::new(alloc),
+            values: Vec::new(alloc),
+        }
+    }
+
+    /// The first value of that name, or `None` if the type has none.
+    ///
+    /// ```
+    /// size.value_by_name("LARGE")?.directives
+    /// ```
+    pub fn value_by_name(&self, name: &str) -> Option<&Node<EnumValueDefinition>>
+        ensures { option_copied result
+            ≡ first_enum_value_definition_named name.now self.now.values.items }
+    {
+        self.values.iter().find(|node| node.value.as_str() == name)
+    }
+}
+
 /// An extension of an enum type (`EnumTypeExtension`, section 3.9). Two are equal exactly if they differ in
 /// locations in a source text at most.
 ///
@@ -33,4 +69,36 @@ pub struct EnumTypeExtension {
     pub directives: DirectiveList,
     /// The values, in order.
     pub values: Vec<Node<EnumValueDefinition>>,
+}
+
+impl EnumTypeExtension {
+    /// An extension that adds nothing yet. It takes no memory, and isn't well formed before it has a directive or a
+    /// value.
+    ///
+    /// ```
+    /// EnumTypeExtension { values, ..EnumTypeExtension::new(alloc, name!(Size)) } // extend enum Size { .. }
+    /// ```
+    pub fn new(alloc: Global, name: Name) -> EnumTypeExtension
+        ensures name { result.name ≡ name }
+        ensures directives { result.directives.0.items ≡ [] }
+        ensures values { result.values.items ≡ [] }
+    {
+        EnumTypeExtension {
+            name,
+            directives: DirectiveList::new(alloc),
+            values: Vec::new(alloc),
+        }
+    }
+
+    /// The first value of that name, or `None` if the extension has none.
+    ///
+    /// ```
+    /// size.value_by_name("LARGE")?.directives
+    /// ```
+    pub fn value_by_name(&self, name: &str) -> Option<&Node<EnumValueDefinition>>
+        ensures { option_copied result
+            ≡ first_enum_value_definition_named name.now self.now.values.items }
+    {
+        self.values.iter().find(|node| node.value.as_str() == name)
+    }
 }

@@ -1,10 +1,12 @@
 //! Definitions of enum values, which enum types have.
+ghost use Rattle.std.specs.Prelude.{◌≡◌, [], None};
 
 pub(crate) mod print;
 
 use graphql_base::name::Name;
 use graphql_base::node::NodeStr;
 use graphql_values::directive_list::DirectiveList;
+use std::alloc::Global;
 
 /// A value of an enum type (`EnumValueDefinition`, section 3.9). Two are equal exactly if they differ in locations in
 /// a source text at most.
@@ -16,4 +18,24 @@ pub struct EnumValueDefinition {
     pub value: Name,
     /// The directives at its end. A variable in their arguments isn't well formed.
     pub directives: DirectiveList,
+}
+
+impl EnumValueDefinition {
+    /// A value without a description and directives. It takes no memory. One named `true`, `false` or `null` isn't well
+    /// formed.
+    ///
+    /// ```
+    /// EnumValueDefinition::new(alloc, name!(LARGE)) // LARGE
+    /// ```
+    pub fn new(alloc: Global, value: Name) -> EnumValueDefinition
+        ensures description { result.description ≡ None }
+        ensures value { result.value ≡ value }
+        ensures directives { result.directives.0.items ≡ [] }
+    {
+        EnumValueDefinition {
+            description: None,
+            value,
+            directives: DirectiveList::new(alloc),
+        }
+    }
 }

@@ -1,6 +1,6 @@
 //! Definitions of fields, which object types and interface types have.
-ghost use Rattle.std.specs.Prelude.{◌≡◌, ◌<◌, IfSome, length, option_copied, position};
-ghost use Rattle.graphql_values.specs.code.Queries.{first_input_value_definition_named, is_input_value_definition_named};
+ghost use Rattle.std.specs.Prelude.{◌≡◌, [], None, option_copied};
+ghost use Rattle.graphql_values.specs.code.Queries.{first_input_value_definition_named};
 
 pub(crate) mod print;
 
@@ -9,6 +9,7 @@ use graphql_base::node::{Node, NodeStr};
 use graphql_values::directive_list::DirectiveList;
 use graphql_values::input_value_definition::InputValueDefinition;
 use graphql_values::types::Type;
+use std::alloc::Global;
 
 /// A field of an object type or an interface type (`FieldDefinition`, section 3.6). Two are equal exactly if they
 /// differ in locations in a source text at most.
@@ -27,22 +28,38 @@ pub struct FieldDefinition {
 }
 
 impl FieldDefinition {
-    /// The first argument of that name.
+    /// A field without a description, arguments and directives. It takes no memory.
+    ///
+    /// ```
+    /// FieldDefinition::new(alloc, name!(id), ty!(ID!)) // id: ID!
+    /// ```
+    pub fn new(alloc: Global, name: Name, ty: Type) -> FieldDefinition
+        ensures description { result.description ≡ None }
+        ensures name { result.name ≡ name }
+        ensures arguments { result.arguments.items ≡ [] }
+        ensures ty { result.ty ≡ ty }
+        ensures directives { result.directives.0.items ≡ [] }
+    {
+        FieldDefinition {
+            description: None,
+            name,
+            arguments: Vec::new(alloc),
+            ty,
+            directives: DirectiveList::new(alloc),
+        }
+    }
+
+    /// The first argument of that name, or `None` if the field has none.
+    ///
+    /// ```
+    /// field.argument_by_name("first")?.default_value
+    /// ```
     pub fn argument_by_name(&self, name: &str) -> Option<&Node<InputValueDefinition>>
         ensures { option_copied result
             ≡ first_input_value_definition_named name.now self.now.arguments.items }
     {
-        let index = self.argument_position(name)?;
-        Some(&self.arguments[index])
-    }
-
-    fn argument_position(&self, name: &str) -> Option<usize>
-        ensures index { result
-            ≡ position (is_input_value_definition_named name.now) self.now.arguments.items }
-        ensures within { IfSome result (λ index. index < length self.now.arguments.items) }
-    {
         self.arguments
             .iter()
-            .position(|node| node.name.as_str() == name)
+            .find(|node| node.name.as_str() == name)
     }
 }

@@ -1,4 +1,6 @@
 //! Input object types: definitions and extensions.
+ghost use Rattle.std.specs.Prelude.{◌≡◌, [], None, option_copied};
+ghost use Rattle.graphql_values.specs.code.Queries.{first_input_value_definition_named};
 
 pub(crate) mod print;
 
@@ -6,6 +8,7 @@ use graphql_base::name::Name;
 use graphql_base::node::{Node, NodeStr};
 use graphql_values::directive_list::DirectiveList;
 use graphql_values::input_value_definition::InputValueDefinition;
+use std::alloc::Global;
 
 /// A definition of an input object type (`InputObjectTypeDefinition`, section 3.10). Two are equal exactly if they
 /// differ in locations in a source text at most.
@@ -21,6 +24,39 @@ pub struct InputObjectTypeDefinition {
     pub fields: Vec<Node<InputValueDefinition>>,
 }
 
+impl InputObjectTypeDefinition {
+    /// An input object type without a description, directives and fields. It takes no memory.
+    ///
+    /// ```
+    /// InputObjectTypeDefinition { fields, ..InputObjectTypeDefinition::new(alloc, name!(Page)) } // input Page { .. }
+    /// ```
+    pub fn new(alloc: Global, name: Name) -> InputObjectTypeDefinition
+        ensures description { result.description ≡ None }
+        ensures name { result.name ≡ name }
+        ensures directives { result.directives.0.items ≡ [] }
+        ensures fields { result.fields.items ≡ [] }
+    {
+        InputObjectTypeDefinition {
+            description: None,
+            name,
+            directives: DirectiveList::new(alloc),
+            fields: Vec::new(alloc),
+        }
+    }
+
+    /// The first field of that name, or `None` if the type has none.
+    ///
+    /// ```
+    /// page.field_by_name("first")?.default_value
+    /// ```
+    pub fn field_by_name(&self, name: &str) -> Option<&Node<InputValueDefinition>>
+        ensures { option_copied result
+            ≡ first_input_value_definition_named name.now self.now.fields.items }
+    {
+        self.fields.iter().find(|node| node.name.as_str() == name)
+    }
+}
+
 /// An extension of an input object type (`InputObjectTypeExtension`, section 3.10). Two are equal exactly if they
 /// differ in locations in a source text at most.
 ///
@@ -33,4 +69,36 @@ pub struct InputObjectTypeExtension {
     pub directives: DirectiveList,
     /// The fields, in order.
     pub fields: Vec<Node<InputValueDefinition>>,
+}
+
+impl InputObjectTypeExtension {
+    /// An extension that adds nothing yet. It takes no memory, and isn't well formed before it has a directive or a
+    /// field.
+    ///
+    /// ```
+    /// InputObjectTypeExtension { fields, ..InputObjectTypeExtension::new(alloc, name!(Page)) } // extend input Page ..
+    /// ```
+    pub fn new(alloc: Global, name: Name) -> InputObjectTypeExtension
+        ensures name { result.name ≡ name }
+        ensures directives { result.directives.0.items ≡ [] }
+        ensures fields { result.fields.items ≡ [] }
+    {
+        InputObjectTypeExtension {
+            name,
+            directives: DirectiveList::new(alloc),
+            fields: Vec::new(alloc),
+        }
+    }
+
+    /// The first field of that name, or `None` if the extension has none.
+    ///
+    /// ```
+    /// page.field_by_name("first")?.default_value
+    /// ```
+    pub fn field_by_name(&self, name: &str) -> Option<&Node<InputValueDefinition>>
+        ensures { option_copied result
+            ≡ first_input_value_definition_named name.now self.now.fields.items }
+    {
+        self.fields.iter().find(|node| node.name.as_str() == name)
+    }
 }

@@ -1,4 +1,6 @@
 //! Interface types: definitions and extensions.
+ghost use Rattle.std.specs.Prelude.{◌≡◌, [], None, option_copied};
+ghost use Rattle.graphql_type_system.specs.code.TypeSystemQueries.{first_field_definition_named};
 
 pub(crate) mod print;
 
@@ -6,6 +8,7 @@ use crate::field_definition::FieldDefinition;
 use graphql_base::name::Name;
 use graphql_base::node::{Node, NodeStr};
 use graphql_values::directive_list::DirectiveList;
+use std::alloc::Global;
 
 /// A definition of an interface type (`InterfaceTypeDefinition`, section 3.7). Two are equal exactly if they differ in
 /// locations in a source text at most.
@@ -23,6 +26,41 @@ pub struct InterfaceTypeDefinition {
     pub fields: Vec<Node<FieldDefinition>>,
 }
 
+impl InterfaceTypeDefinition {
+    /// An interface type without a description, interfaces, directives and fields. It takes no memory.
+    ///
+    /// ```
+    /// InterfaceTypeDefinition { fields, ..InterfaceTypeDefinition::new(alloc, name!(Node)) } // interface Node { .. }
+    /// ```
+    pub fn new(alloc: Global, name: Name) -> InterfaceTypeDefinition
+        ensures description { result.description ≡ None }
+        ensures name { result.name ≡ name }
+        ensures implements_interfaces { result.implements_interfaces.items ≡ [] }
+        ensures directives { result.directives.0.items ≡ [] }
+        ensures fields { result.fields.items ≡ [] }
+    {
+        InterfaceTypeDefinition {
+            description: None,
+            name,
+            implements_interfaces: Vec::new(alloc),
+            directives: DirectiveList::new(alloc),
+            fields: Vec::new(alloc),
+        }
+    }
+
+    /// The first field of that name, or `None` if the type has none.
+    ///
+    /// ```
+    /// node.field_by_name("id")?.ty
+    /// ```
+    pub fn field_by_name(&self, name: &str) -> Option<&Node<FieldDefinition>>
+        ensures { option_copied result
+            ≡ first_field_definition_named name.now self.now.fields.items }
+    {
+        self.fields.iter().find(|node| node.name.as_str() == name)
+    }
+}
+
 /// An extension of an interface type (`InterfaceTypeExtension`, section 3.7). Two are equal exactly if they differ in
 /// locations in a source text at most.
 ///
@@ -37,4 +75,38 @@ pub struct InterfaceTypeExtension {
     pub directives: DirectiveList,
     /// The fields, in order.
     pub fields: Vec<Node<FieldDefinition>>,
+}
+
+impl InterfaceTypeExtension {
+    /// An extension that adds nothing yet. It takes no memory, and isn't well formed before it has an interface, a
+    /// directive or a field.
+    ///
+    /// ```
+    /// InterfaceTypeExtension { fields, ..InterfaceTypeExtension::new(alloc, name!(Node)) } // extend interface Node ..
+    /// ```
+    pub fn new(alloc: Global, name: Name) -> InterfaceTypeExtension
+        ensures name { result.name ≡ name }
+        ensures implements_interfaces { result.implements_interfaces.items ≡ [] }
+        ensures directives { result.directives.0.items ≡ [] }
+        ensures fields { result.fields.items ≡ [] }
+    {
+        InterfaceTypeExtension {
+            name,
+            implements_interfaces: Vec::new(alloc),
+            directives: DirectiveList::new(alloc),
+            fields: Vec::new(alloc),
+        }
+    }
+
+    /// The first field of that name, or `None` if the extension has none.
+    ///
+    /// ```
+    /// node.field_by_name("id")?.ty
+    /// ```
+    pub fn field_by_name(&self, name: &str) -> Option<&Node<FieldDefinition>>
+        ensures { option_copied result
+            ≡ first_field_definition_named name.now self.now.fields.items }
+    {
+        self.fields.iter().find(|node| node.name.as_str() == name)
+    }
 }

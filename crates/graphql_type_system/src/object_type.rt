@@ -1,4 +1,6 @@
 //! Object types: definitions and extensions.
+ghost use Rattle.std.specs.Prelude.{◌≡◌, [], None, option_copied};
+ghost use Rattle.graphql_type_system.specs.code.TypeSystemQueries.{first_field_definition_named};
 
 pub(crate) mod print;
 
@@ -6,6 +8,7 @@ use crate::field_definition::FieldDefinition;
 use graphql_base::name::Name;
 use graphql_base::node::{Node, NodeStr};
 use graphql_values::directive_list::DirectiveList;
+use std::alloc::Global;
 
 /// A definition of an object type (`ObjectTypeDefinition`, section 3.6). Two are equal exactly if they differ in
 /// locations in a source text at most.
@@ -23,6 +26,41 @@ pub struct ObjectTypeDefinition {
     pub fields: Vec<Node<FieldDefinition>>,
 }
 
+impl ObjectTypeDefinition {
+    /// An object type without a description, interfaces, directives and fields. It takes no memory.
+    ///
+    /// ```
+    /// ObjectTypeDefinition { fields, ..ObjectTypeDefinition::new(alloc, name!(User)) } // type User { .. }
+    /// ```
+    pub fn new(alloc: Global, name: Name) -> ObjectTypeDefinition
+        ensures description { result.description ≡ None }
+        ensures name { result.name ≡ name }
+        ensures implements_interfaces { result.implements_interfaces.items ≡ [] }
+        ensures directives { result.directives.0.items ≡ [] }
+        ensures fields { result.fields.items ≡ [] }
+    {
+        ObjectTypeDefinition {
+            description: None,
+            name,
+            implements_interfaces: Vec::new(alloc),
+            directives: DirectiveList::new(alloc),
+            fields: Vec::new(alloc),
+        }
+    }
+
+    /// The first field of that name, or `None` if the type has none.
+    ///
+    /// ```
+    /// user.field_by_name("id")?.ty
+    /// ```
+    pub fn field_by_name(&self, name: &str) -> Option<&Node<FieldDefinition>>
+        ensures { option_copied result
+            ≡ first_field_definition_named name.now self.now.fields.items }
+    {
+        self.fields.iter().find(|node| node.name.as_str() == name)
+    }
+}
+
 /// An extension of an object type (`ObjectTypeExtension`, section 3.6). Two are equal exactly if they differ in
 /// locations in a source text at most.
 ///
@@ -37,4 +75,38 @@ pub struct ObjectTypeExtension {
     pub directives: DirectiveList,
     /// The fields, in order.
     pub fields: Vec<Node<FieldDefinition>>,
+}
+
+impl ObjectTypeExtension {
+    /// An extension that adds nothing yet. It takes no memory, and isn't well formed before it has an interface, a
+    /// directive or a field.
+    ///
+    /// ```
+    /// ObjectTypeExtension { fields, ..ObjectTypeExtension::new(alloc, name!(User)) } // extend type User { .. }
+    /// ```
+    pub fn new(alloc: Global, name: Name) -> ObjectTypeExtension
+        ensures name { result.name ≡ name }
+        ensures implements_interfaces { result.implements_interfaces.items ≡ [] }
+        ensures directives { result.directives.0.items ≡ [] }
+        ensures fields { result.fields.items ≡ [] }
+    {
+        ObjectTypeExtension {
+            name,
+            implements_interfaces: Vec::new(alloc),
+            directives: DirectiveList::new(alloc),
+            fields: Vec::new(alloc),
+        }
+    }
+
+    /// The first field of that name, or `None` if the extension has none.
+    ///
+    /// ```
+    /// user.field_by_name("id")?.ty
+    /// ```
+    pub fn field_by_name(&self, name: &str) -> Option<&Node<FieldDefinition>>
+        ensures { option_copied result
+            ≡ first_field_definition_named name.now self.now.fields.items }
+    {
+        self.fields.iter().find(|node| node.name.as_str() == name)
+    }
 }

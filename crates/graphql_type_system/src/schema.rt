@@ -1,4 +1,5 @@
 //! Schemas: definitions and extensions.
+ghost use Rattle.std.specs.Prelude.{◌≡◌, [], None};
 
 pub(crate) mod print;
 
@@ -6,6 +7,7 @@ use graphql_base::name::NamedType;
 use graphql_base::node::{Node, NodeStr};
 use graphql_values::directive_list::DirectiveList;
 use graphql_values::operation_type::OperationType;
+use std::alloc::Global;
 
 /// A definition of a schema (`SchemaDefinition`, section 3.3). Two are equal exactly if they differ in
 /// locations in a source text at most.
@@ -20,6 +22,26 @@ pub struct SchemaDefinition {
     pub root_operations: Vec<Node<(OperationType, NamedType)>>,
 }
 
+impl SchemaDefinition {
+    /// A schema without a description, directives and root operations. It takes no memory, and isn't well formed
+    /// before it has a root operation.
+    ///
+    /// ```
+    /// SchemaDefinition { root_operations, ..SchemaDefinition::new(alloc) } // schema { .. }
+    /// ```
+    pub fn new(alloc: Global) -> SchemaDefinition
+        ensures description { result.description ≡ None }
+        ensures directives { result.directives.0.items ≡ [] }
+        ensures root_operations { result.root_operations.items ≡ [] }
+    {
+        SchemaDefinition {
+            description: None,
+            directives: DirectiveList::new(alloc),
+            root_operations: Vec::new(alloc),
+        }
+    }
+}
+
 /// An extension of a schema (`SchemaExtension`, section 3.3). Two are equal exactly if they differ in
 /// locations in a source text at most.
 ///
@@ -30,4 +52,22 @@ pub struct SchemaExtension {
     pub directives: DirectiveList,
     /// For each type of operations the object type that they begin at, in order.
     pub root_operations: Vec<Node<(OperationType, NamedType)>>,
+}
+
+impl SchemaExtension {
+    /// An extension that adds nothing yet. It takes no memory, and isn't well formed before it has a directive or a
+    /// root operation.
+    ///
+    /// ```
+    /// SchemaExtension { root_operations, ..SchemaExtension::new(alloc) } // extend schema { .. }
+    /// ```
+    pub fn new(alloc: Global) -> SchemaExtension
+        ensures directives { result.directives.0.items ≡ [] }
+        ensures root_operations { result.root_operations.items ≡ [] }
+    {
+        SchemaExtension {
+            directives: DirectiveList::new(alloc),
+            root_operations: Vec::new(alloc),
+        }
+    }
 }

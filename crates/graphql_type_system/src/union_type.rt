@@ -1,10 +1,12 @@
 //! Union types: definitions and extensions.
+ghost use Rattle.std.specs.Prelude.{◌≡◌, [], None};
 
 pub(crate) mod print;
 
 use graphql_base::name::{Name, NamedType};
 use graphql_base::node::NodeStr;
 use graphql_values::directive_list::DirectiveList;
+use std::alloc::Global;
 
 /// A definition of a union type (`UnionTypeDefinition`, section 3.8). Two are equal exactly if they differ in
 /// locations in a source text at most.
@@ -20,6 +22,27 @@ pub struct UnionTypeDefinition {
     pub members: Vec<NamedType>,
 }
 
+impl UnionTypeDefinition {
+    /// A union type without a description, directives and members. It takes no memory.
+    ///
+    /// ```
+    /// UnionTypeDefinition { members, ..UnionTypeDefinition::new(alloc, name!(Found)) } // union Found = ..
+    /// ```
+    pub fn new(alloc: Global, name: Name) -> UnionTypeDefinition
+        ensures description { result.description ≡ None }
+        ensures name { result.name ≡ name }
+        ensures directives { result.directives.0.items ≡ [] }
+        ensures members { result.members.items ≡ [] }
+    {
+        UnionTypeDefinition {
+            description: None,
+            name,
+            directives: DirectiveList::new(alloc),
+            members: Vec::new(alloc),
+        }
+    }
+}
+
 /// An extension of a union type (`UnionTypeExtension`, section 3.8). Two are equal exactly if they differ in
 /// locations in a source text at most.
 ///
@@ -32,4 +55,24 @@ pub struct UnionTypeExtension {
     pub directives: DirectiveList,
     /// The names of the object types that a value may be of, in order.
     pub members: Vec<NamedType>,
+}
+
+impl UnionTypeExtension {
+    /// An extension that adds nothing yet. It takes no memory, and isn't well formed before it has a directive or a
+    /// member.
+    ///
+    /// ```
+    /// UnionTypeExtension { members, ..UnionTypeExtension::new(alloc, name!(Found)) } // extend union Found = ..
+    /// ```
+    pub fn new(alloc: Global, name: Name) -> UnionTypeExtension
+        ensures name { result.name ≡ name }
+        ensures directives { result.directives.0.items ≡ [] }
+        ensures members { result.members.items ≡ [] }
+    {
+        UnionTypeExtension {
+            name,
+            directives: DirectiveList::new(alloc),
+            members: Vec::new(alloc),
+        }
+    }
 }

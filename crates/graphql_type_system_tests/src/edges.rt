@@ -2,89 +2,26 @@
 ghost use Rattle.std.specs.Prelude.{None};
 
 use crate::checks::{check_displayed, check_line};
-use crate::samples::{directives_with_variable, enum_value, int_field, object};
+use crate::samples::{directives_with_variable, object};
 use graphql_base::name;
 use graphql_base::name::Name;
 use graphql_base::node::{Node, NodeStr};
 use graphql_text::engine::PrintError;
 use graphql_text::sink::{SinkFault, TextSink};
-use graphql_type_system::enum_type::{EnumTypeDefinition, EnumTypeExtension};
-use graphql_type_system::input_object_type::InputObjectTypeExtension;
-use graphql_type_system::interface_type::InterfaceTypeExtension;
-use graphql_type_system::object_type::{ObjectTypeDefinition, ObjectTypeExtension};
-use graphql_type_system::scalar_type::{ScalarTypeDefinition, ScalarTypeExtension};
-use graphql_type_system::schema::{SchemaDefinition, SchemaExtension};
-use graphql_type_system::union_type::UnionTypeExtension;
-use graphql_values::directive_list::DirectiveList;
+use graphql_type_system::enum_type::EnumTypeDefinition;
+use graphql_type_system::enum_value_definition::EnumValueDefinition;
+use graphql_type_system::field_definition::FieldDefinition;
+use graphql_type_system::object_type::ObjectTypeDefinition;
+use graphql_type_system::scalar_type::ScalarTypeDefinition;
+use graphql_values::ty;
 use std::alloc::{AllocError, Global};
 use std::process::Abort;
 
-#[test]
-fn extensions_that_add_nothing(rt: HostRuntime) {
-    let alloc = rt.alloc();
-    let none = || DirectiveList::new(alloc);
-    let schema = SchemaExtension {
-        directives: none(),
-        root_operations: Vec::new(alloc),
-    };
-    check_line(&rt, alloc, &schema, false, "extend schema");
-    let scalar = ScalarTypeExtension {
-        name: name!(A),
-        directives: none(),
-    };
-    check_line(&rt, alloc, &scalar, false, "extend scalar A");
-    let object = ObjectTypeExtension {
-        name: name!(T),
-        implements_interfaces: Vec::new(alloc),
-        directives: none(),
-        fields: Vec::new(alloc),
-    };
-    check_line(&rt, alloc, &object, false, "extend type T");
-    let interface = InterfaceTypeExtension {
-        name: name!(N),
-        implements_interfaces: Vec::new(alloc),
-        directives: none(),
-        fields: Vec::new(alloc),
-    };
-    check_line(&rt, alloc, &interface, false, "extend interface N");
-    let union = UnionTypeExtension {
-        name: name!(U),
-        directives: none(),
-        members: Vec::new(alloc),
-    };
-    check_line(&rt, alloc, &union, false, "extend union U");
-    let values = EnumTypeExtension {
-        name: name!(E),
-        directives: none(),
-        values: Vec::new(alloc),
-    };
-    check_line(&rt, alloc, &values, false, "extend enum E");
-    let input = InputObjectTypeExtension {
-        name: name!(I),
-        directives: none(),
-        fields: Vec::new(alloc),
-    };
-    check_line(&rt, alloc, &input, false, "extend input I");
-}
-
-#[test]
-fn a_schema_without_root_operation(rt: HostRuntime) {
-    let alloc = rt.alloc();
-    let schema = SchemaDefinition {
-        description: None,
-        directives: DirectiveList::new(alloc),
-        root_operations: Vec::new(alloc),
-    };
-    check_line(&rt, alloc, &schema, false, "schema {}");
-    check_displayed(&rt, alloc, &schema, "schema {}");
-}
-
 fn enum_of(alloc: Global, value: Name) -> Result<EnumTypeDefinition, AllocError> {
+    let node = Node::new(alloc, EnumValueDefinition::new(alloc, value))?;
     Ok(EnumTypeDefinition {
-        description: None,
-        name: name!(E),
-        directives: DirectiveList::new(alloc),
-        values: vec![in alloc; enum_value(alloc, value)?]?,
+        values: vec![in alloc; node]?,
+        ..EnumTypeDefinition::new(alloc, name!(E))
     })
 }
 
@@ -103,16 +40,17 @@ fn variables_in_a_type(rt: HostRuntime) {
     let mut at_the_type = object(alloc).expect(&rt, "memory");
     at_the_type.directives = directives_with_variable(alloc).expect(&rt, "memory");
     assert!(rt; !at_the_type.is_well_formed());
-    let mut field = int_field(alloc, name!(f));
-    field.directives = directives_with_variable(alloc).expect(&rt, "memory");
+    let field = FieldDefinition {
+        directives: directives_with_variable(alloc).expect(&rt, "memory"),
+        ..FieldDefinition::new(alloc, name!(f), ty!(Int))
+    };
     check_line(&rt, alloc, &field, false, "f: Int @d(a: $v)");
 }
 
 fn described_scalar(alloc: Global, description: &str) -> Result<ScalarTypeDefinition, AllocError> {
     Ok(ScalarTypeDefinition {
         description: Some(NodeStr::new_str(alloc, description)?),
-        name: name!(A),
-        directives: DirectiveList::new(alloc),
+        ..ScalarTypeDefinition::new(alloc, name!(A))
     })
 }
 
@@ -140,14 +78,12 @@ fn descriptions(rt: HostRuntime) {
 fn object_of(alloc: Global, count: usize) -> Result<ObjectTypeDefinition, AllocError> {
     let mut fields = Vec::new(alloc);
     for _ in 0..count {
-        fields.push(Node::new(alloc, int_field(alloc, name!(f)))?)?;
+        let field = FieldDefinition::new(alloc, name!(f), ty!(Int));
+        fields.push(Node::new(alloc, field)?)?;
     }
     Ok(ObjectTypeDefinition {
-        description: None,
-        name: name!(T),
-        implements_interfaces: Vec::new(alloc),
-        directives: DirectiveList::new(alloc),
         fields,
+        ..ObjectTypeDefinition::new(alloc, name!(T))
     })
 }
 

@@ -10,6 +10,8 @@ mod edges;
 #[cfg(test)]
 mod prints;
 #[cfg(test)]
+mod queries;
+#[cfg(test)]
 mod refusals;
 #[cfg(test)]
 mod samples;

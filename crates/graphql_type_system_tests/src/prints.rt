@@ -1,18 +1,20 @@
 //! Prints of each kind, a definition and an extension each, where memory is ample. How trees are laid out further is
 //! told by the cases of another program.
 use crate::checks::{check_displayed, check_line};
-use crate::samples::{directives, enum_value, field, int_field, int_input, object, root};
+use crate::samples::{directives, field, int_input, object};
 use graphql_base::name;
 use graphql_base::node::{Node, NodeStr};
 use graphql_type_system::enum_type::{EnumTypeDefinition, EnumTypeExtension};
+use graphql_type_system::enum_value_definition::EnumValueDefinition;
+use graphql_type_system::field_definition::FieldDefinition;
 use graphql_type_system::input_object_type::{InputObjectTypeDefinition, InputObjectTypeExtension};
 use graphql_type_system::interface_type::{InterfaceTypeDefinition, InterfaceTypeExtension};
 use graphql_type_system::object_type::ObjectTypeExtension;
 use graphql_type_system::scalar_type::{ScalarTypeDefinition, ScalarTypeExtension};
 use graphql_type_system::schema::{SchemaDefinition, SchemaExtension};
 use graphql_type_system::union_type::{UnionTypeDefinition, UnionTypeExtension};
-use graphql_values::directive_list::DirectiveList;
 use graphql_values::operation_type::OperationType;
+use graphql_values::ty;
 use std::alloc::{AllocError, Global};
 use std::process::Abort;
 
@@ -21,16 +23,17 @@ fn schema(alloc: Global) -> Result<SchemaDefinition, AllocError> {
         description: Some(NodeStr::new_str(alloc, "S")?),
         directives: directives(alloc, name!(d))?,
         root_operations: vec![in alloc;
-            root(alloc, OperationType::Query, name!(Q))?,
-            root(alloc, OperationType::Mutation, name!(M))?,
+            Node::new(alloc, (OperationType::Query, name!(Q)))?,
+            Node::new(alloc, (OperationType::Mutation, name!(M)))?,
         ]?,
     })
 }
 
 fn schema_extension(alloc: Global) -> Result<SchemaExtension, AllocError> {
+    let root_operation = Node::new(alloc, (OperationType::Subscription, name!(S)))?;
     Ok(SchemaExtension {
-        directives: DirectiveList::new(alloc),
-        root_operations: vec![in alloc; root(alloc, OperationType::Subscription, name!(S))?]?,
+        root_operations: vec![in alloc; root_operation]?,
+        ..SchemaExtension::new(alloc)
     })
 }
 
@@ -74,8 +77,8 @@ fn of_scalar_types(rt: HostRuntime) {
     let alloc = rt.alloc();
     let directives = directives(alloc, name!(d)).expect(&rt, "memory");
     let extension = ScalarTypeExtension {
-        name: name!(A),
         directives,
+        ..ScalarTypeExtension::new(alloc, name!(A))
     };
     assert!(rt; extension.is_well_formed());
     check_line(&rt, alloc, &extension, true, "extend scalar A @d");
@@ -83,8 +86,7 @@ fn of_scalar_types(rt: HostRuntime) {
     let description = NodeStr::new_str(alloc, "Hi").expect(&rt, "memory");
     let definition = ScalarTypeDefinition {
         description: Some(description),
-        name: name!(A),
-        directives: DirectiveList::new(alloc),
+        ..ScalarTypeDefinition::new(alloc, name!(A))
     };
     assert!(rt; definition.is_well_formed());
     check_line(&rt, alloc, &definition, true, "\"Hi\" scalar A");
@@ -110,13 +112,11 @@ fn of_object_types(rt: HostRuntime) {
         "type T implements A & B @d {\n  \"\"\"F\"\"\"\n  f(x: Int = 1): [String!]! @e\n}",
     );
     let extension = ObjectTypeExtension {
-        name: name!(T),
         implements_interfaces: definition
             .implements_interfaces
             .clone()
             .expect(&rt, "memory"),
-        directives: DirectiveList::new(alloc),
-        fields: Vec::new(alloc),
+        ..ObjectTypeExtension::new(alloc, name!(T))
     };
     assert!(rt; extension.is_well_formed());
     check_line(
@@ -137,13 +137,11 @@ fn of_object_types(rt: HostRuntime) {
 #[test]
 fn of_interface_types(rt: HostRuntime) {
     let alloc = rt.alloc();
-    let node = Node::new(alloc, int_field(alloc, name!(f))).expect(&rt, "memory");
+    let field = FieldDefinition::new(alloc, name!(f), ty!(Int));
+    let node = Node::new(alloc, field).expect(&rt, "memory");
     let definition = InterfaceTypeDefinition {
-        description: None,
-        name: name!(N),
-        implements_interfaces: Vec::new(alloc),
-        directives: DirectiveList::new(alloc),
         fields: vec![in alloc; node].expect(&rt, "memory"),
+        ..InterfaceTypeDefinition::new(alloc, name!(N))
     };
     assert!(rt; definition.is_well_formed());
     check_line(&rt, alloc, &definition, true, "interface N { f: Int }");
@@ -154,10 +152,8 @@ fn of_interface_types(rt: HostRuntime) {
         "interface N {\n  f: Int\n}",
     );
     let extension = InterfaceTypeExtension {
-        name: name!(N),
-        implements_interfaces: Vec::new(alloc),
-        directives: DirectiveList::new(alloc),
         fields: definition.fields.clone().expect(&rt, "memory"),
+        ..InterfaceTypeExtension::new(alloc, name!(N))
     };
     assert!(rt; extension.is_well_formed());
     check_line(
@@ -174,18 +170,16 @@ fn of_interface_types(rt: HostRuntime) {
 fn of_union_types(rt: HostRuntime) {
     let alloc = rt.alloc();
     let definition = UnionTypeDefinition {
-        description: None,
-        name: name!(U),
         directives: directives(alloc, name!(d)).expect(&rt, "memory"),
         members: vec![in alloc; name!(A), name!(B)].expect(&rt, "memory"),
+        ..UnionTypeDefinition::new(alloc, name!(U))
     };
     assert!(rt; definition.is_well_formed());
     check_line(&rt, alloc, &definition, true, "union U @d = A | B");
     check_displayed(&rt, alloc, &definition.serialize(), "union U @d = A | B");
     let extension = UnionTypeExtension {
-        name: name!(U),
-        directives: DirectiveList::new(alloc),
         members: vec![in alloc; name!(A)].expect(&rt, "memory"),
+        ..UnionTypeExtension::new(alloc, name!(U))
     };
     assert!(rt; extension.is_well_formed());
     check_line(&rt, alloc, &extension, true, "extend union U = A");
@@ -195,22 +189,20 @@ fn of_union_types(rt: HostRuntime) {
 #[test]
 fn of_enum_types(rt: HostRuntime) {
     let alloc = rt.alloc();
-    let value = enum_value(alloc, name!(A)).expect(&rt, "memory");
+    let value = EnumValueDefinition::new(alloc, name!(A));
     assert!(rt; value.is_well_formed());
     check_displayed(&rt, alloc, &value.serialize(), "A");
+    let node = Node::new(alloc, value).expect(&rt, "memory");
     let definition = EnumTypeDefinition {
-        description: None,
-        name: name!(E),
-        directives: DirectiveList::new(alloc),
-        values: vec![in alloc; value].expect(&rt, "memory"),
+        values: vec![in alloc; node].expect(&rt, "memory"),
+        ..EnumTypeDefinition::new(alloc, name!(E))
     };
     assert!(rt; definition.is_well_formed());
     check_line(&rt, alloc, &definition, true, "enum E { A }");
     check_displayed(&rt, alloc, &definition.serialize(), "enum E {\n  A\n}");
     let extension = EnumTypeExtension {
-        name: name!(E),
         directives: directives(alloc, name!(d)).expect(&rt, "memory"),
-        values: Vec::new(alloc),
+        ..EnumTypeExtension::new(alloc, name!(E))
     };
     assert!(rt; extension.is_well_formed());
     check_line(&rt, alloc, &extension, true, "extend enum E @d");
@@ -222,10 +214,8 @@ fn of_input_object_types(rt: HostRuntime) {
     let alloc = rt.alloc();
     let field = int_input(alloc, name!(a), true).expect(&rt, "memory");
     let definition = InputObjectTypeDefinition {
-        description: None,
-        name: name!(I),
-        directives: DirectiveList::new(alloc),
         fields: vec![in alloc; field].expect(&rt, "memory"),
+        ..InputObjectTypeDefinition::new(alloc, name!(I))
     };
     assert!(rt; definition.is_well_formed());
     check_line(&rt, alloc, &definition, true, "input I { a: Int = 1 }");
@@ -236,9 +226,8 @@ fn of_input_object_types(rt: HostRuntime) {
         "input I {\n  a: Int = 1\n}",
     );
     let extension = InputObjectTypeExtension {
-        name: name!(I),
-        directives: DirectiveList::new(alloc),
         fields: definition.fields.clone().expect(&rt, "memory"),
+        ..InputObjectTypeExtension::new(alloc, name!(I))
     };
     assert!(rt; extension.is_well_formed());
     check_line(

@@ -2,16 +2,13 @@
 use graphql_base::name;
 use graphql_base::name::Name;
 use graphql_base::node::{Node, NodeStr};
-use graphql_type_system::enum_value_definition::EnumValueDefinition;
 use graphql_type_system::field_definition::FieldDefinition;
 use graphql_type_system::object_type::ObjectTypeDefinition;
 use graphql_values::argument::Argument;
 use graphql_values::directive::Directive;
 use graphql_values::directive_list::DirectiveList;
 use graphql_values::input_value_definition::InputValueDefinition;
-use graphql_values::operation_type::OperationType;
 use graphql_values::ty;
-use graphql_values::types::Type;
 use graphql_values::value::Value;
 use std::alloc::{AllocError, Global};
 
@@ -25,14 +22,11 @@ pub(crate) fn directives(alloc: Global, name: Name) -> Result<DirectiveList, All
 pub(crate) fn directives_with_variable(alloc: Global) -> Result<DirectiveList, AllocError> {
     let value = Node::new(alloc, Value::Variable(name!(v)))?;
     let arguments = vec![in alloc; Argument::new_node(alloc, name!(a), value)?]?;
-    let directive = Node::new(
-        alloc,
-        Directive {
-            name: name!(d),
-            arguments,
-        },
-    )?;
-    Ok(DirectiveList(vec![in alloc; directive]?))
+    let directive = Directive {
+        arguments,
+        ..Directive::new(alloc, name!(d))
+    };
+    Ok(DirectiveList(vec![in alloc; Node::new(alloc, directive)?]?))
 }
 
 /// An input value of type `Int`, with the default value 1 where that is asked for.
@@ -46,65 +40,28 @@ pub(crate) fn int_input(
     } else {
         None
     };
-    let input = InputValueDefinition {
-        description: None,
-        name,
-        ty: Node::new(alloc, ty!(Int))?,
-        default_value,
-        directives: DirectiveList::new(alloc),
-    };
+    let mut input = InputValueDefinition::new(alloc, name, Node::new(alloc, ty!(Int))?);
+    input.default_value = default_value;
     Node::new(alloc, input)
-}
-
-/// A field of type `Int` without arguments.
-pub(crate) fn int_field(alloc: Global, name: Name) -> FieldDefinition {
-    FieldDefinition {
-        description: None,
-        name,
-        arguments: Vec::new(alloc),
-        ty: ty!(Int),
-        directives: DirectiveList::new(alloc),
-    }
 }
 
 /// `"F" f(x: Int = 1): [String!]! @e`
 pub(crate) fn field(alloc: Global) -> Result<FieldDefinition, AllocError> {
+    let ty = ty!(in alloc; [String!]!)?;
     Ok(FieldDefinition {
         description: Some(NodeStr::new_str(alloc, "F")?),
-        name: name!(f),
         arguments: vec![in alloc; int_input(alloc, name!(x), true)?]?,
-        ty: ty!(in alloc; [String!]!)?,
         directives: directives(alloc, name!(e))?,
+        ..FieldDefinition::new(alloc, name!(f), ty)
     })
 }
 
 /// `type T implements A & B @d { "F" f(x: Int = 1): [String!]! @e }`
 pub(crate) fn object(alloc: Global) -> Result<ObjectTypeDefinition, AllocError> {
     Ok(ObjectTypeDefinition {
-        description: None,
-        name: name!(T),
         implements_interfaces: vec![in alloc; name!(A), name!(B)]?,
         directives: directives(alloc, name!(d))?,
         fields: vec![in alloc; Node::new(alloc, field(alloc)?)?]?,
+        ..ObjectTypeDefinition::new(alloc, name!(T))
     })
-}
-
-pub(crate) fn enum_value(
-    alloc: Global,
-    value: Name,
-) -> Result<Node<EnumValueDefinition>, AllocError> {
-    let definition = EnumValueDefinition {
-        description: None,
-        value,
-        directives: DirectiveList::new(alloc),
-    };
-    Node::new(alloc, definition)
-}
-
-pub(crate) fn root(
-    alloc: Global,
-    operation_type: OperationType,
-    name: Name,
-) -> Result<Node<(OperationType, Name)>, AllocError> {
-    Node::new(alloc, (operation_type, name))
 }

@@ -2,7 +2,9 @@
 
 -- the bytes of a numeral, in place or not
 pub mod Numerals
--- what a value holds, by its variant
+-- why a text is made no int and no float
+pub mod LiteralErrors
+-- what a value holds, by its variant; the fields that it is made of
 pub mod ValueQueries
 -- what is looked up by name: arguments, directives, definitions
 pub mod Queries

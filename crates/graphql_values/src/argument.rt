@@ -20,6 +20,18 @@ pub struct Argument {
 }
 
 impl Argument {
+    /// The argument of a name and a value. It takes no memory.
+    ///
+    /// ```
+    /// Argument::new(name!(first), Node::new(alloc, Value::from_i32(alloc, 10)?)?) // first: 10
+    /// ```
+    pub fn new(name: Name, value: Node<Value>) -> Argument
+        ensures name { result.name ≡ name }
+        ensures value { result.value ≡ value }
+    {
+        Argument { name, value }
+    }
+
     /// A node of the argument, with no location. `AllocError` where memory is refused; the name and the value are
     /// given up then.
     pub fn new_node(

@@ -1,5 +1,5 @@
 //! Directives, and their arguments by name.
-ghost use Rattle.std.specs.Prelude.{◌≡◌, ◌↔◌, IfErr, IfOk, IfSome, IsErrOf, [], None, Some, length, ◌<◌, option_copied, position};
+ghost use Rattle.std.specs.Prelude.{◌≡◌, ◌↔◌, IfErr, IfOk, IfSome, IsErrOf, IsTrue, [], None, Some, length, ◌<◌, option_copied, position};
 ghost use Rattle.std.specs.Borrow.{sem};
 ghost use Rattle.std.specs.List.{HoldsAt};
 ghost use Rattle.std.specs.Option.{option_map};
@@ -61,6 +61,19 @@ pub enum SpecifiedArgumentError {
     Memory,
 }
 
+impl SpecifiedArgumentError {
+    /// Whether memory was refused.
+    ///
+    /// ```
+    /// SpecifiedArgumentError::NotSpecified.is_memory() // false
+    /// ```
+    pub fn is_memory(&self) -> bool
+        ensures { IsTrue result ↔ (self.now ≡ SpecifiedArgumentError.Memory) }
+    {
+        matches!(self, Self::Memory)
+    }
+}
+
 impl From<AllocError> for SpecifiedArgumentError {
     ghost use Rattle.graphql_values.specs.declared.directive.SpecifiedArgumentError.{SpecifiedArgumentError};
 
@@ -91,6 +104,10 @@ fn find_definition<'a>(
 
 impl Directive {
     /// A directive without arguments. It takes no memory.
+    ///
+    /// ```
+    /// Directive::new(alloc, name!(deprecated)) // @deprecated
+    /// ```
     pub fn new(alloc: Global, name: Name) -> Directive
         ensures name { result.name ≡ name }
         ensures arguments { result.arguments.items ≡ [] }

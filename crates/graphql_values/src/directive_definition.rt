@@ -1,5 +1,5 @@
 //! Definitions of directives.
-ghost use Rattle.std.specs.Prelude.{◌≡◌, ◌<◌, IfSome, length, option_copied, position};
+ghost use Rattle.std.specs.Prelude.{◌≡◌, ◌<◌, [], IfSome, None, false, length, option_copied, position};
 ghost use Rattle.std.specs.Borrow.{sem};
 ghost use Rattle.std.specs.Option.{option_copied_mut};
 ghost use Rattle.graphql_values.specs.code.Loans.{LendsArgument};
@@ -11,6 +11,7 @@ use crate::directive_location::DirectiveLocation;
 use crate::input_value_definition::InputValueDefinition;
 use graphql_base::name::Name;
 use graphql_base::node::{Node, NodeStr};
+use std::alloc::Global;
 
 /// A definition of a directive (`DirectiveDefinition`, section 3.13). Two are equal exactly if they differ in
 /// locations in a source text at most.
@@ -29,6 +30,29 @@ pub struct DirectiveDefinition {
 }
 
 impl DirectiveDefinition {
+    /// A directive without a description, arguments and locations, which may not be repeated. It takes no memory, and
+    /// isn't well formed before it has a location.
+    ///
+    /// ```
+    /// let mut definition = DirectiveDefinition::new(alloc, name!(tag));
+    /// definition.locations.push(DirectiveLocation::Field)?; // directive @tag on FIELD
+    /// ```
+    pub fn new(alloc: Global, name: Name) -> DirectiveDefinition
+        ensures description { result.description ≡ None }
+        ensures name { result.name ≡ name }
+        ensures arguments { result.arguments.items ≡ [] }
+        ensures repeatable { result.repeatable ≡ false }
+        ensures locations { result.locations.items ≡ [] }
+    {
+        DirectiveDefinition {
+            description: None,
+            name,
+            arguments: Vec::new(alloc),
+            repeatable: false,
+            locations: Vec::new(alloc),
+        }
+    }
+
     /// The first argument of that name.
     pub fn argument_by_name(&self, name: &str) -> Option<&Node<InputValueDefinition>>
         ensures { option_copied result

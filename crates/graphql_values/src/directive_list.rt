@@ -94,7 +94,13 @@ impl DirectiveList {
         }
     }
 
-    /// Appends a directive. Where memory is refused, the node is handed back and the list is as it was.
+    /// Appends a directive. Where memory is refused, the node is handed back and the list is as it was. `push` of the
+    /// list within answers an error that `?` makes an `AllocError`, and gives the node up then.
+    ///
+    /// ```
+    /// list.push(node)    // Err(node) where memory is refused
+    /// list.0.push(node)? // AllocError
+    /// ```
     pub fn push(&mut self, node: Node<Directive>) -> Result<(), Node<Directive>>
         ensures ok { OnOk result (self.new.0.items ≡ self.old.0.items ++ node ∷ []) }
         ensures err { OnErr result (self.new.0.items ≡ self.old.0.items) }

@@ -1,5 +1,5 @@
 //! Definitions of input values, which directives, fields and input objects have.
-ghost use Rattle.std.specs.Prelude.{◌≡◌};
+ghost use Rattle.std.specs.Prelude.{◌≡◌, [], None};
 ghost use Rattle.graphql_values.specs.code.Queries.{is_required};
 
 pub(crate) mod print;
@@ -9,6 +9,7 @@ use crate::types::Type;
 use crate::value::Value;
 use graphql_base::name::Name;
 use graphql_base::node::{Node, NodeStr};
+use std::alloc::Global;
 
 /// An argument of a field or a directive, or a field of an input object (`InputValueDefinition`, section 3.6.1). Two
 /// are equal exactly if they differ in locations at most.
@@ -27,6 +28,27 @@ pub struct InputValueDefinition {
 }
 
 impl InputValueDefinition {
+    /// An input value without a description, a default value and directives. It takes no memory.
+    ///
+    /// ```
+    /// InputValueDefinition::new(alloc, name!(first), Node::new(alloc, ty!(Int!))?) // first: Int!
+    /// ```
+    pub fn new(alloc: Global, name: Name, ty: Node<Type>) -> InputValueDefinition
+        ensures description { result.description ≡ None }
+        ensures name { result.name ≡ name }
+        ensures ty { result.ty ≡ ty }
+        ensures default_value { result.default_value ≡ None }
+        ensures directives { result.directives.0.items ≡ [] }
+    {
+        InputValueDefinition {
+            description: None,
+            name,
+            ty,
+            default_value: None,
+            directives: DirectiveList::new(alloc),
+        }
+    }
+
     /// Whether a value must be given: the type is non-null and there is no default value.
     pub fn is_required(&self) -> bool
         ensures { result ≡ is_required self.now }

@@ -1,6 +1,7 @@
 //! GraphQL's values, types, arguments and directives.
 //!
 //! - `value`, `literal`: values, and the numbers in them.
+//! - `value_macro`: the macro `value!`, and what it calls.
 //! - `types`: type references, and the macro `ty!`.
 //! - `argument`, `directive`, `directive_list`: directives, lists of them, and their arguments by name.
 //! - `input_value_definition`, `directive_definition`, `directive_location`: definitions of input values and of
@@ -27,4 +28,5 @@ mod parameters;
 mod stacks;
 pub mod types;
 pub mod value;
+pub mod value_macro;
 pub mod writers;

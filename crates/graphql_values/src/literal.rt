@@ -1,7 +1,7 @@
 //! Numbers as they are written: IntValue and FloatValue of the GraphQL specification.
-ghost use Rattle.std.specs.Prelude.{◌≡◌, FitsSigned, IfOk, IfSome, IsTrue, Some};
+ghost use Rattle.std.specs.Prelude.{◌≡◌, ◌≤◌, ◌↔◌, false, FitsSigned, IfErr, IfOk, IfSome, IsOk, IsSome, IsTrue, OnOk, Some, length};
 ghost use Rattle.std.specs.Fmt.{signed_decimal};
-ghost use Rattle.std.specs.Int.{w32};
+ghost use Rattle.std.specs.Int.{w32, w64};
 ghost use Rattle.std.specs.Result.{OkIff};
 ghost use Rattle.graphql_base.specs.ShortTexts.{short_bytes};
 ghost use Rattle.graphql_text.specs.lexical.Literals.{is_float, is_int};
@@ -12,6 +12,43 @@ use graphql_base::short_text::ShortText;
 use std::alloc::{AllocError, Global};
 use std::fmt::{self, Debug, Display, Formatter, Write};
 use std::num::ParseIntError;
+use thiserror::Error;
+
+/// Why a constructor of an int or a float made none.
+#[derive(Clone, Debug, Drop, PartialEq, Eq, Error)]
+pub enum LiteralError {
+    /// The text, which isn't in the syntax of the literal.
+    #[error("`{0}` is not a valid GraphQL number")]
+    Invalid(String),
+    /// Memory was refused, for the literal or for the text of an error.
+    #[error("out of memory")]
+    Memory,
+}
+
+impl LiteralError {
+    ghost use Rattle.graphql_values.specs.code.LiteralErrors.{IsRefusalOf};
+
+    /// The refusal of a text, which it holds where memory suffices.
+    fn invalid(alloc: Global, text: &str) -> LiteralError
+        ensures { IsRefusalOf false text.now result }
+    {
+        match String::from_str(alloc, text) {
+            Ok(text) => LiteralError::Invalid(text),
+            Err(_) => LiteralError::Memory,
+        }
+    }
+
+    /// Whether memory was refused.
+    ///
+    /// ```
+    /// LiteralError::Memory.is_memory() // true
+    /// ```
+    pub fn is_memory(&self) -> bool
+        ensures { IsTrue result ↔ (self.now ≡ LiteralError.Memory) }
+    {
+        matches!(self, Self::Memory)
+    }
+}
 
 /// The text of an integer (`IntValue`, section 2.9.1). It may be too great for any integer type. Two are equal
 /// exactly if their texts are. A text of at most 30 bytes takes no memory.
@@ -23,7 +60,13 @@ pub struct IntValue {
 }
 
 impl IntValue {
+    ghost use Rattle.graphql_values.specs.code.LiteralErrors.{IsRefusalOf};
     ghost use Rattle.graphql_values.specs.trees.Literals.{int_text, int_number};
+    ghost use Rattle.graphql_values.specs.declared.literal.TheConstants.IntValue.{IN_PLACE};
+    ghost use Rattle.graphql_values.specs.declared.numeral.TheConstants.{ROOM};
+
+    /// The most bytes of a text that stands in the int itself.
+    pub const IN_PLACE: usize = ROOM;
 
     /// Whether the text is an `IntValue`: `0` or digits that don't begin with `0`, after a `-` or not.
     pub fn valid_syntax(text: &str) -> bool
@@ -32,12 +75,36 @@ impl IntValue {
         is_int(text.as_bytes())
     }
 
-    /// The integer with this text. `AllocError` where memory is refused.
+    /// The integer with this text. A text in the syntax of at most `IN_PLACE` bytes always gives an integer, and takes
+    /// no memory.
+    ///
+    /// `LiteralError::Invalid` for a text outside the syntax, and for no other: it holds the text.
+    /// `LiteralError::Memory` where memory is refused.
+    ///
+    /// ```
+    /// IntValue::new(alloc, "-12") // an integer
+    /// IntValue::new(alloc, "012") // LiteralError::Invalid
+    /// ```
+    pub fn new(alloc: Global, text: &str) -> Result<IntValue, LiteralError>
+        ensures syntax { OnOk result (IsTrue (is_int text.now)) }
+        ensures ok { IfOk result (λ int. int_text int ≡ text.now) }
+        ensures err { IfErr result (IsRefusalOf (is_int text.now) text.now) }
+        ensures short { length text.now ≤ IN_PLACE → IsTrue (is_int text.now) → IsOk result }
+    {
+        if !IntValue::valid_syntax(text) {
+            return Err(LiteralError::invalid(alloc, text));
+        }
+        IntValue::new_parsed(alloc, text).map_err(|_| LiteralError::Memory)
+    }
+
+    /// The integer with this text. `AllocError` where memory is refused, which is only for a text of more than
+    /// `IN_PLACE` bytes.
     ///
     /// Condition: the text is in the syntax of an `IntValue`.
     pub fn new_parsed(alloc: Global, text: &str) -> Result<IntValue, AllocError>
         requires { IsTrue (is_int text.now) }
-        ensures { IfOk result (λ int. int_text int ≡ text.now) }
+        ensures text { IfOk result (λ int. int_text int ≡ text.now) }
+        ensures short { length text.now ≤ IN_PLACE → IsOk result }
     {
         Ok(IntValue {
             numeral: Numeral::new(alloc, text)?,
@@ -46,10 +113,25 @@ impl IntValue {
 
     /// The integer of a number: its decimal digits, after a `-` where it is negative.
     ///
-    /// `IntValue::from_i32(alloc, -7)?.as_str()` is `-7`. `AllocError` where memory is refused.
+    /// `IntValue::from_i32(alloc, -7)?.as_str()` is `-7`. It takes no memory, and is never an error.
     pub fn from_i32(alloc: Global, number: i32) -> Result<IntValue, AllocError>
         ensures text { IfOk result (λ int. int_text int ≡ signed_decimal number) }
         ensures number { IfOk result (λ int. int_number int ≡ number) }
+        ensures ok { IsOk result }
+    {
+        IntValue::from_i64(alloc, number as i64)
+    }
+
+    /// The integer of a number of 64 bits: its decimal digits, after a `-` where it is negative. It takes no memory,
+    /// and is never an error.
+    ///
+    /// ```
+    /// IntValue::from_i64(alloc, -3000000000)?.as_str() // -3000000000
+    /// ```
+    pub fn from_i64(alloc: Global, number: i64) -> Result<IntValue, AllocError>
+        ensures text { IfOk result (λ int. int_text int ≡ signed_decimal number) }
+        ensures number { IfOk result (λ int. int_number int ≡ number) }
+        ensures ok { IsOk result }
     {
         let mut buffer = itoa::Buffer::new();
         Ok(IntValue {
@@ -61,7 +143,18 @@ impl IntValue {
     pub fn try_to_i32(&self) -> Result<i32, ParseIntError>
         ensures { OkIff result (FitsSigned w32 (int_number self.now)) (int_number self.now) }
     {
-        self.as_str().parse()
+        self.as_str().parse::<i32>()
+    }
+
+    /// The number that the text writes in base ten, or an error exactly where that is outside `i64`.
+    ///
+    /// ```
+    /// IntValue::new(alloc, "3000000000")?.try_to_i64() // Ok(3000000000)
+    /// ```
+    pub fn try_to_i64(&self) -> Result<i64, ParseIntError>
+        ensures { OkIff result (FitsSigned w64 (int_number self.now)) (int_number self.now) }
+    {
+        self.as_str().parse::<i64>()
     }
 
     /// The text.
@@ -72,9 +165,10 @@ impl IntValue {
         self.numeral.as_str()
     }
 
-    /// The text, if it stands in the int itself: for the writer, which can copy it as it lies there.
+    /// The text, exactly if it stands in the int itself: for the writer, which can copy it as it lies there.
     #[inline(always)]
     pub(crate) fn short_text(&self) -> Option<&ShortText<ROOM>>
+        ensures some { IsSome result ↔ (length (int_text self.now) ≤ ROOM) }
         ensures text { IfSome result (λ text. short_bytes text.now ≡ int_text self.now) }
         ensures syntax { IfSome result (λ text. IsTrue (is_int (short_bytes text.now))) }
     {
@@ -112,7 +206,13 @@ pub struct FloatValue {
 }
 
 impl FloatValue {
+    ghost use Rattle.graphql_values.specs.code.LiteralErrors.{IsRefusalOf};
     ghost use Rattle.graphql_values.specs.trees.Literals.{float_text};
+    ghost use Rattle.graphql_values.specs.declared.literal.TheConstants.FloatValue.{IN_PLACE};
+    ghost use Rattle.graphql_values.specs.declared.numeral.TheConstants.{ROOM};
+
+    /// The most bytes of a text that stands in the float itself.
+    pub const IN_PLACE: usize = ROOM;
 
     /// Whether the text is a `FloatValue`: an integer part, and a fraction, an exponent or both.
     ///
@@ -123,12 +223,36 @@ impl FloatValue {
         is_float(text.as_bytes())
     }
 
-    /// The float with this text. `AllocError` where memory is refused.
+    /// The float with this text. A text in the syntax of at most `IN_PLACE` bytes always gives a float, and takes no
+    /// memory.
+    ///
+    /// `LiteralError::Invalid` for a text outside the syntax, and for no other: it holds the text.
+    /// `LiteralError::Memory` where memory is refused.
+    ///
+    /// ```
+    /// FloatValue::new(alloc, "1.50") // a float
+    /// FloatValue::new(alloc, "1")    // LiteralError::Invalid
+    /// ```
+    pub fn new(alloc: Global, text: &str) -> Result<FloatValue, LiteralError>
+        ensures syntax { OnOk result (IsTrue (is_float text.now)) }
+        ensures ok { IfOk result (λ float. float_text float ≡ text.now) }
+        ensures err { IfErr result (IsRefusalOf (is_float text.now) text.now) }
+        ensures short { length text.now ≤ IN_PLACE → IsTrue (is_float text.now) → IsOk result }
+    {
+        if !FloatValue::valid_syntax(text) {
+            return Err(LiteralError::invalid(alloc, text));
+        }
+        FloatValue::new_parsed(alloc, text).map_err(|_| LiteralError::Memory)
+    }
+
+    /// The float with this text. `AllocError` where memory is refused, which is only for a text of more than
+    /// `IN_PLACE` bytes.
     ///
     /// Condition: the text is in the syntax of a `FloatValue`.
     pub fn new_parsed(alloc: Global, text: &str) -> Result<FloatValue, AllocError>
         requires { IsTrue (is_float text.now) }
-        ensures { IfOk result (λ float. float_text float ≡ text.now) }
+        ensures text { IfOk result (λ float. float_text float ≡ text.now) }
+        ensures short { length text.now ≤ IN_PLACE → IsOk result }
     {
         Ok(FloatValue {
             text: Numeral::new(alloc, text)?,
@@ -143,9 +267,10 @@ impl FloatValue {
         self.text.as_str()
     }
 
-    /// The text, if it stands in the float itself: for the writer, which can copy it as it lies there.
+    /// The text, exactly if it stands in the float itself: for the writer, which can copy it as it lies there.
     #[inline(always)]
     pub(crate) fn short_text(&self) -> Option<&ShortText<ROOM>>
+        ensures some { IsSome result ↔ (length (float_text self.now) ≤ ROOM) }
         ensures text { IfSome result (λ text. short_bytes text.now ≡ float_text self.now) }
         ensures syntax { IfSome result (λ text. IsTrue (is_float (short_bytes text.now))) }
     {

@@ -1,5 +1,5 @@
 //! The text of a number, which takes no memory where it is short.
-ghost use Rattle.std.specs.Prelude.{◌≡◌, ◌≤◌, IfOk, IfSome, IsOk, length, nat_eq};
+ghost use Rattle.std.specs.Prelude.{◌≡◌, ◌↔◌, ◌≤◌, IfOk, IfSome, IsOk, IsSome, length, nat_eq};
 ghost use Rattle.std.specs.Cmp.{partial_equiv_from_equiv};
 ghost use Rattle.std.specs.Cmp.Lexicographic.{pointwise, nat_list_eq_equiv};
 ghost use Rattle.std.specs.Cmp.Rules.{hashing};
@@ -33,11 +33,13 @@ const _: () = prove!(size_of::<Numeral>() == 32);
 
 impl Model for Numeral {
     ghost use Rattle.std.specs.Prelude.{List, ℕ};
-    ghost use Rattle.graphql_values.specs.code.Numerals.{form_bytes};
+    ghost use Rattle.graphql_values.specs.code.Numerals.{StandsInPlaceIfShort, form_bytes};
 
     ghost Value = { List ℕ };
 
     ghost view = { λ numeral. form_bytes numeral.form };
+
+    ghost invariant = { λ numeral. StandsInPlaceIfShort numeral.form };
 }
 
 impl Numeral {
@@ -62,10 +64,11 @@ impl Numeral {
         }
     }
 
-    /// The text, if it stands in place.
+    /// The text, exactly if it stands in place.
     #[inline(always)]
     pub fn short_text(&self) -> Option<&ShortText<ROOM>>
-        ensures { IfSome result (λ text. short_bytes text.now ≡ self.now) }
+        ensures some { IsSome result ↔ (length self.now ≤ ROOM) }
+        ensures text { IfSome result (λ text. short_bytes text.now ≡ self.now) }
     {
         match &self.form {
             Form::Short(text) => Some(text),

@@ -1,7 +1,8 @@
 //! Values of arguments and defaults.
-ghost use Rattle.std.specs.Prelude.{◌≡◌, FitsSigned, IfOk, IsNone, IsSomeAnd, MatchOption, Some, SomeIff, option_copied, string_bytes};
+ghost use Rattle.std.specs.Prelude.{◌≡◌, FitsSigned, IfOk, IsNone, IsOk, IsSomeAnd, MatchOption, None, Some, SomeIff, map, option_copied, string_bytes};
 ghost use Rattle.std.specs.Fmt.{signed_decimal};
-ghost use Rattle.std.specs.Int.{w32};
+ghost use Rattle.std.specs.Int.{w32, w64};
+ghost use Rattle.graphql_base.specs.Node.{node_at};
 ghost use Rattle.graphql_values.specs.trees.Literals.{int_number, int_text};
 
 pub(crate) mod print;
@@ -34,16 +35,67 @@ pub enum Value {
 }
 
 impl Value {
-    ghost use Rattle.graphql_values.specs.code.ValueQueries.{boolean_of, enum_of, int_of, is_null, list_items_of, object_fields_of, string_of, variable_of};
+    ghost use Rattle.graphql_values.specs.code.ValueQueries.{boolean_of, enum_of, int_of, is_null, list_items_of, object_fields_of, string_of, unlocated_field, variable_of};
 
-    /// The number as an integer. `AllocError` where memory is refused.
+    /// The number as an integer. It takes no memory, and is never an error.
     pub fn from_i32(alloc: Global, number: i32) -> Result<Value, AllocError>
         ensures text { IfOk result (λ value.
             IsSomeAnd (int_of value) (λ int. int_text int ≡ signed_decimal number)) }
         ensures number { IfOk result
             (λ value. IsSomeAnd (int_of value) (λ int. int_number int ≡ number)) }
+        ensures ok { IsOk result }
     {
         Ok(Value::Int(IntValue::from_i32(alloc, number)?))
+    }
+
+    /// The number of 64 bits as an integer. It takes no memory, and is never an error.
+    ///
+    /// ```
+    /// Value::from_i64(alloc, 3000000000)? // 3000000000
+    /// ```
+    pub fn from_i64(alloc: Global, number: i64) -> Result<Value, AllocError>
+        ensures text { IfOk result (λ value.
+            IsSomeAnd (int_of value) (λ int. int_text int ≡ signed_decimal number)) }
+        ensures number { IfOk result
+            (λ value. IsSomeAnd (int_of value) (λ int. int_number int ≡ number)) }
+        ensures ok { IsOk result }
+    {
+        Ok(Value::Int(IntValue::from_i64(alloc, number)?))
+    }
+
+    /// The list of these items, each in a node without a location. `AllocError` where memory is refused; the items are
+    /// given up then.
+    ///
+    /// ```
+    /// Value::list(alloc, vec![in alloc; Value::from(true), Value::Null]?)? // [true, null]
+    /// ```
+    pub fn list(alloc: Global, items: Vec<Value>) -> Result<Value, AllocError>
+        ensures { IfOk result
+            (λ value. list_items_of value ≡ Some (map (node_at None) items.items)) }
+    {
+        let mut nodes = Vec::new(alloc);
+        for item in items {
+            nodes.push(Node::new(alloc, item)?)?;
+        }
+        Ok(Value::List(nodes))
+    }
+
+    /// The object of these fields, the value of each in a node without a location. `AllocError` where memory is
+    /// refused; the fields are given up then.
+    ///
+    /// ```
+    /// Value::object(alloc, vec![in alloc; (name!(a), Value::Null)]?)? // {a: null}
+    /// ```
+    pub fn object(alloc: Global, fields: Vec<(Name, Value)>) -> Result<Value, AllocError>
+        ensures { IfOk result
+            (λ value. object_fields_of value ≡ Some (map unlocated_field fields.items)) }
+    {
+        let mut nodes = Vec::new(alloc);
+        for field in fields {
+            let (name, value) = field;
+            nodes.push((name, Node::new(alloc, value)?))?;
+        }
+        Ok(Value::Object(nodes))
     }
 
     /// A string of a copy of the text. `AllocError` where memory is refused.
@@ -97,6 +149,22 @@ impl Value {
     {
         match self {
             Value::Int(int) => int.try_to_i32().ok(),
+            _ => None,
+        }
+    }
+
+    /// The number of an integer that is within `i64`.
+    ///
+    /// ```
+    /// Value::from_i64(alloc, 3000000000)?.to_i64() // Some(3000000000)
+    /// Value::Null.to_i64()                         // None
+    /// ```
+    pub fn to_i64(&self) -> Option<i64>
+        ensures { MatchOption (int_of self.now) (IsNone result)
+            (λ int. SomeIff result (FitsSigned w64 (int_number int)) (int_number int)) }
+    {
+        match self {
+            Value::Int(int) => int.try_to_i64().ok(),
             _ => None,
         }
     }

@@ -7,10 +7,8 @@ use graphql_values::directive::Directive;
 use graphql_values::directive_definition::DirectiveDefinition;
 use graphql_values::directive_list::DirectiveList;
 use graphql_values::input_value_definition::InputValueDefinition;
-use graphql_values::literal::FloatValue;
-use graphql_values::ty;
-use graphql_values::types::Type;
 use graphql_values::value::Value;
+use graphql_values::{ty, value};
 use std::alloc::{AllocError, Global};
 
 pub(crate) fn number(alloc: Global, number: i32) -> Result<Node<Value>, AllocError> {
@@ -19,13 +17,12 @@ pub(crate) fn number(alloc: Global, number: i32) -> Result<Node<Value>, AllocErr
 
 /// `[1]`
 pub(crate) fn one(alloc: Global) -> Result<Value, AllocError> {
-    Ok(Value::List(vec![in alloc; number(alloc, 1)?]?))
+    value!(in alloc; [1])
 }
 
 /// `[1, 2]`
 pub(crate) fn numbers(alloc: Global) -> Result<Value, AllocError> {
-    let items = vec![in alloc; number(alloc, 1)?, number(alloc, 2)?]?;
-    Ok(Value::List(items))
+    value!(in alloc; [1, 2])
 }
 
 /// What a value can be.
@@ -37,10 +34,10 @@ pub(crate) const FORMS: [&str; 9] = [
 pub(crate) fn value_of(alloc: Global, form: &str) -> Result<Value, AllocError> {
     match form {
         "string" => Value::from_text(alloc, "é"),
-        "float" => Ok(Value::Float(FloatValue::new_parsed(alloc, "1.50")?)),
-        "int" => Value::from_i32(alloc, -7),
+        "float" => value!(in alloc; 1.50),
+        "int" => value!(in alloc; -7),
         "list" => numbers(alloc),
-        "object" => object(alloc),
+        "object" => value!(in alloc; {a: 1, b: 2}),
         _ => Ok(plain_value(form)),
     }
 }
@@ -54,24 +51,18 @@ fn plain_value(form: &str) -> Value {
     }
 }
 
-/// `{a: 1, b: 2}`
-fn object(alloc: Global) -> Result<Value, AllocError> {
-    let fields = vec![in alloc;
-        (name!(a), number(alloc, 1)?),
-        (name!(b), number(alloc, 2)?),
-    ]?;
-    Ok(Value::Object(fields))
-}
-
 /// `[1, EXAMPLE, true, null]`
 pub(crate) fn items(alloc: Global) -> Result<Value, AllocError> {
-    let items = vec![in alloc;
-        number(alloc, 1)?,
-        Node::new(alloc, Value::Enum(name!(EXAMPLE)))?,
-        Node::new(alloc, Value::from(true))?,
-        Node::new(alloc, Value::Null)?,
-    ]?;
-    Ok(Value::List(items))
+    value!(in alloc; [1, EXAMPLE, true, null])
+}
+
+/// `[[true, null], {a: 1, a: 3000000000}]`
+pub(crate) fn made_of_parts(alloc: Global) -> Result<Value, AllocError> {
+    let list = Value::list(alloc, vec![in alloc; Value::from(true), Value::Null]?)?;
+    let mut fields = vec![in alloc; (name!(a), Value::from_i32(alloc, 1)?)]?;
+    fields.push((name!(a), Value::from_i64(alloc, 3000000000)?))?;
+    let object = Value::object(alloc, fields)?;
+    Value::list(alloc, vec![in alloc; list, object]?)
 }
 
 pub(crate) fn with_argument(
@@ -84,42 +75,6 @@ pub(crate) fn with_argument(
         .arguments
         .push(Argument::new_node(alloc, name, value)?)?;
     Ok(directive)
-}
-
-/// Adds a directive to the list.
-pub(crate) fn push(
-    alloc: Global,
-    list: &mut DirectiveList,
-    directive: Directive,
-) -> Result<(), AllocError> {
-    list.push(Node::new(alloc, directive)?)
-        .map_err(|_| AllocError)
-}
-
-/// An input value with a name and a type alone.
-pub(crate) fn input_value_definition(
-    alloc: Global,
-    name: Name,
-    ty: Type,
-) -> Result<InputValueDefinition, AllocError> {
-    Ok(InputValueDefinition {
-        description: None,
-        name,
-        ty: Node::new(alloc, ty)?,
-        default_value: None,
-        directives: DirectiveList::new(alloc),
-    })
-}
-
-/// A definition with a name alone.
-pub(crate) fn directive_definition(alloc: Global, name: Name) -> DirectiveDefinition {
-    DirectiveDefinition {
-        description: None,
-        name,
-        arguments: Vec::new(alloc),
-        repeatable: false,
-        locations: Vec::new(alloc),
-    }
 }
 
 /// `@a(x: true, y: false)`
@@ -142,24 +97,20 @@ pub(crate) fn directives(alloc: Global) -> Result<DirectiveList, AllocError> {
 
 /// `[[], 1.5]`
 pub(crate) fn nested(alloc: Global) -> Result<Value, AllocError> {
-    let float = FloatValue::new_parsed(alloc, "1.5")?;
-    let items = vec![in alloc;
-        Node::new(alloc, Value::List(Vec::new(alloc)))?,
-        Node::new(alloc, Value::Float(float))?,
-    ]?;
-    Ok(Value::List(items))
+    value!(in alloc; [[], 1.5])
 }
 
 /// `a: [[I!]] = [[], 1.5]`
 pub(crate) fn input(alloc: Global) -> Result<InputValueDefinition, AllocError> {
-    let mut input = input_value_definition(alloc, name!(a), ty!(in alloc; [[I!]])?)?;
+    let ty = Node::new(alloc, ty!(in alloc; [[I!]])?)?;
+    let mut input = InputValueDefinition::new(alloc, name!(a), ty);
     input.default_value = Some(Node::new(alloc, nested(alloc)?)?);
     Ok(input)
 }
 
 /// `directive @d(a: [[I!]] = [[], 1.5])`
 pub(crate) fn definition(alloc: Global) -> Result<DirectiveDefinition, AllocError> {
-    let mut definition = directive_definition(alloc, name!(d));
+    let mut definition = DirectiveDefinition::new(alloc, name!(d));
     definition.arguments.push(Node::new(alloc, input(alloc)?)?)?;
     Ok(definition)
 }

@@ -14,3 +14,4 @@ mod refusals;
 mod sizes;
 mod types;
 mod value;
+mod value_macro;

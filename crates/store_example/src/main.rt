@@ -10,11 +10,9 @@ ghost use Rattle.store_example.specs.Stores.{IsTooDeep, Stores};
 ghost use Rattle.store_example.specs.declared.StoreError.TheVariants.{Memory};
 
 use anyhow::Result;
-use graphql_ast::ast::{
-    Definition, DirectiveList, Document, Field, OperationDefinition, OperationType, Selection,
-};
+use graphql_ast::ast::{Document, Field, OperationDefinition, OperationType, Selection};
 use graphql_ast::serialize::PrintError;
-use graphql_ast::{Name, Node, name};
+use graphql_ast::{Name, name};
 use std::alloc::{AllocError, AllocFailed, Global};
 use thiserror::Error;
 
@@ -93,24 +91,13 @@ impl Store {
 
 /// A document of one query, for one field.
 fn query(alloc: Global, name: Option<Name>, field: Name) -> Result<Document, AllocError> {
-    let field = Field {
-        alias: None,
-        name: field,
-        arguments: Vec::new(alloc),
-        directives: DirectiveList::new(alloc),
-        selection_set: Vec::new(alloc),
-    };
     let operation = OperationDefinition {
-        description: None,
-        operation_type: OperationType::Query,
         name,
-        variables: Vec::new(alloc),
-        directives: DirectiveList::new(alloc),
-        selection_set: vec![in alloc; Selection::Field(Node::new(alloc, field)?)]?,
+        selection_set: vec![in alloc; Selection::field(alloc, Field::new(alloc, field))?]?,
+        ..OperationDefinition::new(alloc, OperationType::Query)
     };
     let mut document = Document::new(alloc);
-    let definition = Definition::from(Node::new(alloc, operation)?);
-    document.definitions.push(definition)?;
+    document.push(alloc, operation)?;
     Ok(document)
 }
 

@@ -1,18 +1,14 @@
 //! Trees of documents.
 use super::executable::{anonymous_query, described_query, query_with_directive};
-use super::type_system::object;
-use graphql_ast::ast::{Definition, Document, OperationDefinition};
+use graphql_ast::ast::{Document, ObjectTypeDefinition, OperationDefinition};
 use graphql_ast::name;
-use graphql_ast::node::Node;
 use std::alloc::{AllocError, Global};
 
 /// The document of `type A` and an operation.
 fn type_and(alloc: Global, operation: OperationDefinition) -> Result<Document, AllocError> {
     let mut document = Document::new(alloc);
-    document.definitions = vec![in alloc;
-        Definition::ObjectTypeDefinition(Node::new(alloc, object(alloc, name!(A)))?),
-        Definition::OperationDefinition(Node::new(alloc, operation)?),
-    ]?;
+    document.push(alloc, ObjectTypeDefinition::new(alloc, name!(A)))?;
+    document.push(alloc, operation)?;
     Ok(document)
 }
 
@@ -28,10 +24,7 @@ pub(super) fn type_and_described_query(alloc: Global) -> Result<Document, AllocE
 
 /// `query @dir { field }`
 pub(super) fn document_with_directive(alloc: Global) -> Result<Document, AllocError> {
-    let operation = query_with_directive(alloc)?;
     let mut document = Document::new(alloc);
-    document.definitions = vec![in alloc;
-        Definition::OperationDefinition(Node::new(alloc, operation)?),
-    ]?;
+    document.push(alloc, query_with_directive(alloc)?)?;
     Ok(document)
 }

@@ -1,41 +1,25 @@
 //! Trees of operations.
-use super::values::{argument, directive, include, int};
+use super::values::{directive, include};
 use graphql_ast::ast::{
-    DirectiveList, Field, FragmentSpread, InlineFragment, OperationDefinition, OperationType,
-    Selection, Value, VariableDefinition,
+    Argument, Field, FragmentSpread, InlineFragment, OperationDefinition, OperationType, Selection,
+    Value, VariableDefinition,
 };
 use graphql_ast::name::Name;
 use graphql_ast::node::{Node, NodeStr};
-use graphql_ast::{name, ty};
+use graphql_ast::{name, ty, value};
 use std::alloc::{AllocError, Global};
 
-/// One field with a name alone.
-fn field(alloc: Global, name: Name) -> Result<Vec<Selection>, AllocError> {
-    let field = Field {
-        alias: None,
-        name,
-        arguments: Vec::new(alloc),
-        directives: DirectiveList::new(alloc),
-        selection_set: Vec::new(alloc),
-    };
-    Ok(vec![in alloc; Selection::Field(Node::new(alloc, field)?)]?)
-}
-
-/// The anonymous query of these selections.
-fn query(alloc: Global, selection_set: Vec<Selection>) -> OperationDefinition {
-    OperationDefinition {
-        description: None,
-        operation_type: OperationType::Query,
-        name: None,
-        variables: Vec::new(alloc),
-        directives: DirectiveList::new(alloc),
-        selection_set,
-    }
+/// The anonymous query of one field with a name alone.
+fn query_of(alloc: Global, field: Name) -> Result<OperationDefinition, AllocError> {
+    Ok(OperationDefinition {
+        selection_set: vec![in alloc; Selection::field(alloc, Field::new(alloc, field))?]?,
+        ..OperationDefinition::new(alloc, OperationType::Query)
+    })
 }
 
 /// `{ a }`
 pub(super) fn anonymous_query(alloc: Global) -> Result<OperationDefinition, AllocError> {
-    Ok(query(alloc, field(alloc, name!(a))?))
+    query_of(alloc, name!(a))
 }
 
 /// `"D" query { a }`
@@ -47,26 +31,16 @@ pub(super) fn described_query(alloc: Global) -> Result<OperationDefinition, Allo
 
 /// `query @dir { field }`
 pub(super) fn query_with_directive(alloc: Global) -> Result<OperationDefinition, AllocError> {
-    let mut operation = query(alloc, field(alloc, name!(field))?);
+    let mut operation = query_of(alloc, name!(field))?;
     operation.directives = directive(alloc, name!(dir))?;
     Ok(operation)
 }
 
-/// A variable of type `Int`, with a name alone.
-fn variable(alloc: Global, name: Name) -> Result<VariableDefinition, AllocError> {
-    Ok(VariableDefinition {
-        description: None,
-        name,
-        ty: Node::new(alloc, ty!(Int))?,
-        default_value: None,
-        directives: DirectiveList::new(alloc),
-    })
-}
-
 /// A variable of type `Int` with default value 1.
 fn variable_with_default(alloc: Global, name: Name) -> Result<VariableDefinition, AllocError> {
-    let mut variable = variable(alloc, name)?;
-    variable.default_value = Some(int(alloc, 1)?);
+    let ty = Node::new(alloc, ty!(Int))?;
+    let mut variable = VariableDefinition::new(alloc, name, ty);
+    variable.default_value = Some(Node::new(alloc, value!(in alloc; 1)?)?);
     Ok(variable)
 }
 
@@ -74,7 +48,8 @@ fn variable_with_default(alloc: Global, name: Name) -> Result<VariableDefinition
 pub(super) fn query_with_described_variable(
     alloc: Global,
 ) -> Result<OperationDefinition, AllocError> {
-    let mut described = variable(alloc, name!(a))?;
+    let ty = Node::new(alloc, ty!(Int))?;
+    let mut described = VariableDefinition::new(alloc, name!(a), ty);
     described.description = Some(NodeStr::new_str(alloc, "A")?);
     let other = variable_with_default(alloc, name!(b))?;
     let mut operation = anonymous_query(alloc)?;
@@ -85,40 +60,36 @@ pub(super) fn query_with_described_variable(
 
 /// `...F` and `... on T { id }`
 fn fragments(alloc: Global) -> Result<Vec<Selection>, AllocError> {
-    let spread = FragmentSpread {
-        fragment_name: name!(F),
-        directives: DirectiveList::new(alloc),
-    };
-    let inline = InlineFragment {
-        type_condition: Some(name!(T)),
-        directives: DirectiveList::new(alloc),
-        selection_set: field(alloc, name!(id))?,
-    };
+    let mut inline = InlineFragment::new(alloc);
+    inline.type_condition = Some(name!(T));
+    inline.selection_set = vec![in alloc; Selection::field(alloc, Field::new(alloc, name!(id)))?]?;
     let selections = vec![in alloc;
-        Selection::FragmentSpread(Node::new(alloc, spread)?),
-        Selection::InlineFragment(Node::new(alloc, inline)?),
+        Selection::fragment_spread(alloc, FragmentSpread::new(alloc, name!(F)))?,
+        Selection::inline_fragment(alloc, inline)?,
     ]?;
     Ok(selections)
 }
 
 /// `r: s(a: $v) @include(if: true) { ...F ... on T { id } }`
-fn field_with_alias(alloc: Global) -> Result<Vec<Selection>, AllocError> {
-    let field = Field {
+fn field_with_alias(alloc: Global) -> Result<Field, AllocError> {
+    let variable = Node::new(alloc, Value::Variable(name!(v)))?;
+    Ok(Field {
         alias: Some(name!(r)),
         name: name!(s),
-        arguments: argument(alloc, name!(a), Value::Variable(name!(v)))?,
+        arguments: vec![in alloc; Argument::new_node(alloc, name!(a), variable)?]?,
         directives: include(alloc)?,
         selection_set: fragments(alloc)?,
-    };
-    Ok(vec![in alloc; Selection::Field(Node::new(alloc, field)?)]?)
+    })
 }
 
 /// `query N($v: Int = 1 @d) { .. }` of a field with an alias, an argument, a directive and fragments.
 pub(super) fn query_of_all_selections(alloc: Global) -> Result<OperationDefinition, AllocError> {
     let mut variable = variable_with_default(alloc, name!(v))?;
     variable.directives = directive(alloc, name!(d))?;
-    let mut operation = query(alloc, field_with_alias(alloc)?);
-    operation.name = Some(name!(N));
-    operation.variables = vec![in alloc; Node::new(alloc, variable)?]?;
-    Ok(operation)
+    Ok(OperationDefinition {
+        name: Some(name!(N)),
+        variables: vec![in alloc; Node::new(alloc, variable)?]?,
+        selection_set: vec![in alloc; Selection::field(alloc, field_with_alias(alloc)?)?]?,
+        ..OperationDefinition::new(alloc, OperationType::Query)
+    })
 }

@@ -1,49 +1,24 @@
 //! Trees of type system definitions.
-use super::values::{directive, int, numbers};
+use super::values::directive;
 use graphql_ast::ast::{
-    DirectiveDefinition, DirectiveList, DirectiveLocation, FieldDefinition, InputValueDefinition,
-    ObjectTypeDefinition, ScalarTypeDefinition, Type,
+    DirectiveDefinition, DirectiveLocation, FieldDefinition, InputValueDefinition,
+    ObjectTypeDefinition, ScalarTypeDefinition,
 };
-use graphql_ast::name::Name;
 use graphql_ast::node::{Node, NodeStr};
-use graphql_ast::{name, ty};
+use graphql_ast::{name, ty, value};
 use std::alloc::{AllocError, Global};
 
 /// `scalar A` with this description.
 pub(super) fn scalar(alloc: Global, description: &str) -> Result<ScalarTypeDefinition, AllocError> {
-    Ok(ScalarTypeDefinition {
-        description: Some(NodeStr::new_str(alloc, description)?),
-        name: name!(A),
-        directives: DirectiveList::new(alloc),
-    })
-}
-
-/// An object type with a name alone.
-pub(super) fn object(alloc: Global, name: Name) -> ObjectTypeDefinition {
-    ObjectTypeDefinition {
-        description: None,
-        name,
-        implements_interfaces: Vec::new(alloc),
-        directives: DirectiveList::new(alloc),
-        fields: Vec::new(alloc),
-    }
-}
-
-/// An argument with a name and a type alone.
-fn argument(alloc: Global, name: Name, ty: Type) -> Result<InputValueDefinition, AllocError> {
-    Ok(InputValueDefinition {
-        description: None,
-        name,
-        ty: Node::new(alloc, ty)?,
-        default_value: None,
-        directives: DirectiveList::new(alloc),
-    })
+    let mut scalar = ScalarTypeDefinition::new(alloc, name!(A));
+    scalar.description = Some(NodeStr::new_str(alloc, description)?);
+    Ok(scalar)
 }
 
 /// `"F" f(x: Int = 1): [String!]! @e`
 fn described_field(alloc: Global) -> Result<FieldDefinition, AllocError> {
-    let mut x = argument(alloc, name!(x), ty!(Int))?;
-    x.default_value = Some(int(alloc, 1)?);
+    let mut x = InputValueDefinition::new(alloc, name!(x), Node::new(alloc, ty!(Int))?);
+    x.default_value = Some(Node::new(alloc, value!(in alloc; 1)?)?);
     Ok(FieldDefinition {
         description: Some(NodeStr::new_str(alloc, "F")?),
         name: name!(f),
@@ -55,37 +30,33 @@ fn described_field(alloc: Global) -> Result<FieldDefinition, AllocError> {
 
 /// `type T implements A & B @d { .. }` of one field, which has a description, an argument and a directive.
 pub(super) fn object_with_field(alloc: Global) -> Result<ObjectTypeDefinition, AllocError> {
-    let mut definition = object(alloc, name!(T));
-    definition.implements_interfaces = vec![in alloc; name!(A), name!(B)]?;
-    definition.directives = directive(alloc, name!(d))?;
-    definition.fields = vec![in alloc; Node::new(alloc, described_field(alloc)?)?]?;
-    Ok(definition)
+    Ok(ObjectTypeDefinition {
+        implements_interfaces: vec![in alloc; name!(A), name!(B)]?,
+        directives: directive(alloc, name!(d))?,
+        fields: vec![in alloc; Node::new(alloc, described_field(alloc)?)?]?,
+        ..ObjectTypeDefinition::new(alloc, name!(T))
+    })
 }
 
 /// `f(a: [Int] = [1] @x): Int`
 pub(super) fn field_with_argument(alloc: Global) -> Result<FieldDefinition, AllocError> {
-    let mut a = argument(alloc, name!(a), ty!(in alloc; [Int])?)?;
-    a.default_value = Some(Node::new(alloc, numbers(alloc, 1)?)?);
+    let ty = Node::new(alloc, ty!(in alloc; [Int])?)?;
+    let mut a = InputValueDefinition::new(alloc, name!(a), ty);
+    a.default_value = Some(Node::new(alloc, value!(in alloc; [1])?)?);
     a.directives = directive(alloc, name!(x))?;
-    Ok(FieldDefinition {
-        description: None,
-        name: name!(f),
-        arguments: vec![in alloc; Node::new(alloc, a)?]?,
-        ty: ty!(Int),
-        directives: DirectiveList::new(alloc),
-    })
+    let mut field = FieldDefinition::new(alloc, name!(f), ty!(Int));
+    field.arguments = vec![in alloc; Node::new(alloc, a)?]?;
+    Ok(field)
 }
 
 /// `directive @d(a: Int @x, b: Int) on FIELD`
 pub(super) fn directive_definition(alloc: Global) -> Result<DirectiveDefinition, AllocError> {
-    let mut a = argument(alloc, name!(a), ty!(Int))?;
+    let mut a = InputValueDefinition::new(alloc, name!(a), Node::new(alloc, ty!(Int))?);
     a.directives = directive(alloc, name!(x))?;
-    let b = argument(alloc, name!(b), ty!(Int))?;
+    let b = InputValueDefinition::new(alloc, name!(b), Node::new(alloc, ty!(Int))?);
     Ok(DirectiveDefinition {
-        description: None,
-        name: name!(d),
         arguments: vec![in alloc; Node::new(alloc, a)?, Node::new(alloc, b)?]?,
-        repeatable: false,
         locations: vec![in alloc; DirectiveLocation::Field]?,
+        ..DirectiveDefinition::new(alloc, name!(d))
     })
 }

@@ -1,6 +1,6 @@
 //! What holds of definitions, documents and source files as they are compared and cloned.
 ghost use Rattle.std.specs.Prelude.{◌≡◌};
-ghost use Rattle.graphql_text.specs.trees.Comparisons.{◌&◌, AreKept, IsComparedBy};
+ghost use Rattle.graphql_text.specs.trees.Comparisons.{◌&◌, ClonesKeep, IsComparedBy};
 ghost use Rattle.graphql_ast.specs.AstTrees.{document_tree};
 ghost use Rattle.graphql_ast.specs.Sources.{document_sources, file_texts};
 ghost use Rattle.graphql_ast.specs.declared.document.SourceFile.{SourceFile};
@@ -16,8 +16,8 @@ pub fn source_files_compare_by_text()
 /// A clone of a definition has the very node. That of a document has the very definitions, in order, and the same
 /// sources: their ids, paths and texts.
 pub fn clones_are_the_same()
-    ensures definitions { AreKept ⟦<Definition as Clone>⟧.is_clone (λ it. it) }
-    ensures documents { AreKept ⟦<Document as Clone>⟧.is_clone (λ it. document_sources it
+    ensures definitions { ClonesKeep ⟦<Definition as Clone>⟧.is_clone (λ it. it) }
+    ensures documents { ClonesKeep ⟦<Document as Clone>⟧.is_clone (λ it. document_sources it
         & it.definitions.items & document_tree it) }
     ensures source_files { (a b : SourceFile) → ⟦<SourceFile as Clone>⟧.is_clone a b →
         file_texts b ≡ file_texts a }

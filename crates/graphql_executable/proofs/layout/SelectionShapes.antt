@@ -1,5 +1,5 @@
 -- The trees of selections, fields and inline fragments, and what their nesting and their side conditions are.
-use Rattle.std.proofs.Common.{◌≡◌, ◌==◌, max, not, ◌&&◌, List, [], ◌∷◌, ◌++◌, false, length, refl, ap, sym, append-nil, ◌∙◌}
+use Rattle.std.proofs.Common.{arith, ◌≡◌, ◌==◌, max, not, ◌&&◌, List, [], ◌∷◌, ◌++◌, false, length, refl, ap, sym, append-nil, ◌∙◌}
 use Rattle.std.proofs.lemmas.Bool.{true≢false}
 use Rattle.std.proofs.Math.Dec.{eqb-suc-zero}
 use Rattle.std.specs.Option.{option_map}
@@ -7,8 +7,11 @@ use Rattle.graphql_base.specs.declared.node.Node.{Node}
 use Rattle.graphql_text.specs.layout.Layout.{Space, Word}
 use Rattle.graphql_text.specs.trees.Leaves.{name_tree}
 use Rattle.graphql_text.specs.lexical.Tokens.{lbrace, rbrace, Punctuation}
-use Rattle.graphql_values.specs.trees.DirectiveTrees.{argument_trees, directive_trees}
+use Rattle.graphql_values.specs.trees.DirectiveTrees.{argument_trees, directive_node_trees, directive_trees}
+use Rattle.graphql_values.specs.kinds.Arguments.{arguments_nesting}
 use Rattle.graphql_values.specs.kinds.Directives.{directives_nesting}
+use Rattle.graphql_values.specs.declared.argument.Argument.{Argument}
+use Rattle.graphql_values.specs.declared.directive.Directive.{Directive}
 use Rattle.graphql_executable.specs.trees.ExecutableTrees.{field_tree, field_tree_step, fragment_spread_tree, inline_fragment_tree}
 use Rattle.graphql_executable.specs.trees.ExecutableTrees.{inline_fragment_tree_step, selection_tree, selection_tree_step, selection_trees}
 use Rattle.graphql_executable.specs.kinds.Fields.{FieldTree, selection_of_field}
@@ -101,6 +104,33 @@ nesting_inline n =
     ap selection_nesting (selection_is_inline n)
     ∙ ap (λ set. max (inline_fragment_head_nesting (inline_fragment_tree n.value).head) (selection_set_nesting set))
     (inline_selections_are n.value)
+
+-- what has no arguments, directives and selections nests nothing
+without_groups : (arguments : List (Node Argument)) (directives : List (Node Directive)) (selections : List Selection) →
+    length arguments ≡ 0 → length directives ≡ 0 → length selections ≡ 0 →
+    max (max (arguments_nesting (argument_trees arguments)) (directives_nesting (directive_node_trees directives)))
+    (selection_set_nesting (selection_trees selections)) ≡ 0
+without_groups [] [] [] a d s = refl
+without_groups (_ ∷ _) ds ss a d s = omega (arith, a)
+without_groups [] (_ ∷ _) ss a d s = omega (arith, d)
+without_groups [] [] (_ ∷ _) a d s = omega (arith, s)
+
+pub plain_field_nesting : (n : Node Field) → length n.value.arguments.items ≡ 0 → length n.value.directives.0.items ≡ 0 →
+    length n.value.selection_set.items ≡ 0 → selection_nesting (selection_tree (variant.Field n)) ≡ 0
+plain_field_nesting n a d s =
+    nesting_field n
+    ∙ ap (λ head. max (field_head_nesting head) (selection_set_nesting (selection_trees n.value.selection_set.items))) (field_head_is n.value)
+    ∙ without_groups n.value.arguments.items n.value.directives.0.items n.value.selection_set.items a d s
+
+spread_without : (directives : List (Node Directive)) → length directives ≡ 0 → directives_nesting (directive_node_trees directives) ≡ 0
+spread_without [] d = refl
+spread_without (_ ∷ _) d = omega (arith, d)
+
+pub plain_spread_nesting : (n : Node FragmentSpread) → length n.value.directives.0.items ≡ 0 →
+    selection_nesting (selection_tree (variant.FragmentSpread n)) ≡ 0
+plain_spread_nesting n d = nesting_spread n ∙ spread_without n.value.directives.0.items d
+
+pub ruleset plain_selection_steps = (plain_field_nesting, plain_spread_nesting)
 
 pub obeys_field : (n : Node Field) →
     selection_obeys (selection_tree (variant.Field n))

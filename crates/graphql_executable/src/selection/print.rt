@@ -1,5 +1,5 @@
 //! Selections are printed, and selection sets.
-ghost use Rattle.std.specs.Prelude.{◌≡◌, ◌+◌, ◌≤◌, ◌^◌, ◌∷◌, Some, false};
+ghost use Rattle.std.specs.Prelude.{◌≡◌, ◌+◌, ◌≤◌, ◌^◌, ◌∷◌, IsTrue, Some, false};
 ghost use Rattle.graphql_text.specs.code.Groups.{curly_rest};
 ghost use Rattle.graphql_text.specs.layout.Layout.{Space};
 ghost use Rattle.graphql_text.specs.layout.Levels.{Fits, IsCount};
@@ -71,12 +71,30 @@ pub(crate) fn is_selection_set_well_formed(selections: &[Selection]) -> bool
     !selections.is_empty() && are_selections_well_formed(selections)
 }
 
+/// Whether a selection is a field or a fragment spread alone, without arguments, directives and selections: most are.
+#[inline(always)]
+#[tactic(auto, using(crate::proofs::layout::SelectionShapes::plain_selection_steps))]
+fn is_plain(selection: &Selection) -> bool
+    ensures { IsTrue result → selection_nesting (selection_tree selection.now) ≡ 0 }
+{
+    match selection {
+        Selection::Field(field) => field.arguments.is_empty()
+            && field.directives.is_empty()
+            && field.selection_set.is_empty(),
+        Selection::FragmentSpread(spread) => spread.directives.is_empty(),
+        Selection::InlineFragment(_) => false,
+    }
+}
+
 /// How deep the groups of a selection stand in one another. `None` if it is above `usize::MAX`.
 #[cycle(nesting)]
 #[tactic(auto, using(crate::proofs::layout::SelectionShapes::selection_nesting_steps))]
 fn find_selection_nesting(selection: &Selection) -> Option<usize>
     ensures { IsCount result (selection_nesting (selection_tree selection.now)) }
 {
+    if is_plain(selection) {
+        return Some(0);
+    }
     match selection {
         Selection::Field(field) => {
             let head = find_field_head_nesting(field)?;

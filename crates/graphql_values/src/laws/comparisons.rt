@@ -1,6 +1,6 @@
 //! What holds of trees and errors as they are compared, hashed and cloned.
 ghost use Rattle.std.specs.Prelude.{◌≡◌, ◌↔◌, IsTrue};
-ghost use Rattle.graphql_text.specs.trees.Comparisons.{◌&◌, AreKept, IsComparedBy, IsHashedAlike};
+ghost use Rattle.graphql_text.specs.trees.Comparisons.{◌&◌, ClonesKeep, IsComparedBy, IsHashedAlike};
 ghost use Rattle.graphql_values.specs.trees.DefinitionTrees.{directive_definition_tree, input_value_definition_tree};
 ghost use Rattle.graphql_values.specs.trees.DirectiveTrees.{argument_tree, directive_tree, directive_trees};
 ghost use Rattle.graphql_values.specs.trees.Literals.{float_text, int_text};
@@ -54,22 +54,22 @@ pub fn equal_trees_hash_alike()
 
 /// A clone has the same tree, and the very names, nodes and other parts, at the same locations.
 pub fn clones_are_the_same()
-    ensures ints { AreKept ⟦<IntValue as Clone>⟧.is_clone (λ it. it) }
-    ensures floats { AreKept ⟦<FloatValue as Clone>⟧.is_clone (λ it. it) }
+    ensures ints { ClonesKeep ⟦<IntValue as Clone>⟧.is_clone (λ it. it) }
+    ensures floats { ClonesKeep ⟦<FloatValue as Clone>⟧.is_clone (λ it. it) }
     ensures values { (a b : Value) → ⟦<Value as Clone>⟧.is_clone a b →
         IsCloneOf a b × (value_tree b ≡ value_tree a) }
-    ensures types { AreKept ⟦<Type as Clone>⟧.is_clone (λ it. type_wrapping it & type_tree it) }
-    ensures arguments { AreKept ⟦<Argument as Clone>⟧.is_clone (λ it. it) }
-    ensures directives { AreKept ⟦<Directive as Clone>⟧.is_clone (λ it. it.name & it.arguments.items
+    ensures types { ClonesKeep ⟦<Type as Clone>⟧.is_clone (λ it. type_wrapping it & type_tree it) }
+    ensures arguments { ClonesKeep ⟦<Argument as Clone>⟧.is_clone (λ it. it) }
+    ensures directives { ClonesKeep ⟦<Directive as Clone>⟧.is_clone (λ it. it.name & it.arguments.items
         & directive_tree it) }
-    ensures directive_lists { AreKept ⟦<DirectiveList as Clone>⟧.is_clone (λ it. it.0.items
+    ensures directive_lists { ClonesKeep ⟦<DirectiveList as Clone>⟧.is_clone (λ it. it.0.items
         & directive_trees it) }
-    ensures input_value_definitions { AreKept ⟦<InputValueDefinition as Clone>⟧.is_clone
+    ensures input_value_definitions { ClonesKeep ⟦<InputValueDefinition as Clone>⟧.is_clone
         (λ it. it.description & it.name & it.ty & it.default_value & it.directives.0.items
         & input_value_definition_tree it) }
-    ensures directive_definitions { AreKept ⟦<DirectiveDefinition as Clone>⟧.is_clone
+    ensures directive_definitions { ClonesKeep ⟦<DirectiveDefinition as Clone>⟧.is_clone
         (λ it. it.description & it.name & it.arguments.items & it.repeatable & it.locations.items
         & directive_definition_tree it) }
-    ensures operation_types { AreKept ⟦<OperationType as Clone>⟧.is_clone (λ it. it) }
-    ensures locations { AreKept ⟦<DirectiveLocation as Clone>⟧.is_clone (λ it. it) }
+    ensures operation_types { ClonesKeep ⟦<OperationType as Clone>⟧.is_clone (λ it. it) }
+    ensures locations { ClonesKeep ⟦<DirectiveLocation as Clone>⟧.is_clone (λ it. it) }
 {}

@@ -2,7 +2,7 @@
 ghost use Rattle.std.specs.Prelude.{◌≡◌, OnErr, OnOk};
 ghost use Rattle.graphql_values.specs.code.Loans.{with_value_of};
 
-use crate::samples::{directive_definition, input_value_definition, number, with_argument};
+use crate::samples::{number, with_argument};
 use graphql_base::name;
 use graphql_base::name::Name;
 use graphql_base::node::Node;
@@ -24,8 +24,11 @@ fn argument(
     ty: Type,
     default_value: Option<Node<Value>>,
 ) -> Result<Node<InputValueDefinition>, AllocError> {
-    let mut argument = input_value_definition(alloc, name, ty)?;
-    argument.default_value = default_value;
+    let ty = Node::new(alloc, ty)?;
+    let argument = InputValueDefinition {
+        default_value,
+        ..InputValueDefinition::new(alloc, name, ty)
+    };
     Node::new(alloc, argument)
 }
 
@@ -42,7 +45,7 @@ fn arguments(alloc: Global) -> Result<Vec<Node<InputValueDefinition>>, AllocErro
 
 /// `directive @a(required: Int!, default: Int! = 1, free: Int)`, which may stand nowhere
 fn definition(alloc: Global) -> Result<DirectiveDefinition, AllocError> {
-    let mut definition = directive_definition(alloc, name!(a));
+    let mut definition = DirectiveDefinition::new(alloc, name!(a));
     definition.arguments = arguments(alloc)?;
     Ok(definition)
 }
@@ -190,6 +193,14 @@ fn only_what_is_lent_is_copied(rt: HostRuntime) {
     }
 }
 
+#[test]
+fn errors_of_memory(rt: HostRuntime) {
+    let mut bare = Directive::new(rt.alloc(), name!(a));
+    let error = bare.specified_argument_by_name_mut("x").err();
+    assert!(rt; error.is_some_and(|error| !error.is_memory()));
+    assert!(rt; SpecifiedArgumentError::Memory.is_memory());
+}
+
 /// `@a(x: 1, y: 2, x: 1, y: 3)`
 fn repeated(alloc: Global) -> Result<Directive, AllocError> {
     let mut directive = Directive::new(alloc, name!(a));
@@ -215,7 +226,12 @@ fn specified(directive: &Directive, name: &str) -> Option<i32> {
 fn the_first_of_a_name_is_answered(rt: HostRuntime) {
     let repeated = repeated(rt.alloc()).expect(&rt, "memory");
     assert_eq!(rt; specified(&repeated, "y"), Some(2));
-    assert!(rt; repeated.specified_argument_by_name("z").is_none());
+    for name in ["z", "Y", ""] {
+        assert!(rt;
+            repeated.specified_argument_by_name(name).is_none(),
+            "{name}"
+        );
+    }
 }
 
 #[test]

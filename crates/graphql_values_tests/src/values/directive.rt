@@ -13,10 +13,7 @@ use std::collections::HashSet;
 /// `@a(x: 1)` with its argument at a place in a file.
 fn placed(alloc: Global, file: u64) -> Result<Directive, AllocError> {
     let mut directive = Directive::new(alloc, name!(a));
-    let argument = Argument {
-        name: name!(x),
-        value: number(alloc, 1)?,
-    };
+    let argument = Argument::new(name!(x), number(alloc, 1)?);
     let node = match SourceSpan::new(FileId::new(file), 3, 7) {
         Some(span) => Node::new_parsed(alloc, argument, span)?,
         None => Node::new(alloc, argument)?,

@@ -4,7 +4,7 @@ ghost use Rattle.std.specs.Bool.{OnFalse, OnTrue};
 ghost use Rattle.graphql_values.specs.code.Loans.{first_changed};
 ghost use Rattle.graphql_values.specs.code.Queries.{is_input_value_definition_named};
 
-use crate::samples::{directive_definition, input_value_definition};
+use crate::checks::{check_printed, check_text};
 use graphql_base::name;
 use graphql_base::name::Name;
 use graphql_base::node::{Node, NodeStr};
@@ -17,8 +17,24 @@ use std::alloc::{AllocError, Global};
 use std::collections::HashSet;
 use std::process::Abort;
 
+#[test]
+fn new_definitions_are_empty(rt: HostRuntime) {
+    let alloc = rt.alloc();
+    let int = Node::new(alloc, Type::Named(name!(Int))).expect(&rt, "memory");
+    check_printed(
+        &rt,
+        &InputValueDefinition::new(alloc, name!(a), int),
+        "a: Int",
+    );
+    let directive = DirectiveDefinition::new(alloc, name!(d));
+    check_text(&rt, directive.name.as_str(), "d");
+    assert!(rt; directive.description.is_none() && directive.arguments.is_empty());
+    assert!(rt; !directive.repeatable && directive.locations.is_empty());
+}
+
 fn argument(alloc: Global, name: Name, ty: Name) -> Result<Node<InputValueDefinition>, AllocError> {
-    let mut argument = input_value_definition(alloc, name, Type::Named(ty))?;
+    let ty = Node::new(alloc, Type::Named(ty))?;
+    let mut argument = InputValueDefinition::new(alloc, name, ty);
     argument.description = Some(NodeStr::new_str(alloc, "é")?);
     Node::new(alloc, argument)
 }
@@ -34,7 +50,7 @@ fn arguments(alloc: Global) -> Result<Vec<Node<InputValueDefinition>>, AllocErro
 
 /// `directive @d(a: A, b: B, a: C) on FIELD`, with the same description each
 fn definition(alloc: Global) -> Result<DirectiveDefinition, AllocError> {
-    let mut definition = directive_definition(alloc, name!(d));
+    let mut definition = DirectiveDefinition::new(alloc, name!(d));
     definition.arguments = arguments(alloc)?;
     definition.locations.push(DirectiveLocation::Field)?;
     Ok(definition)
@@ -54,6 +70,7 @@ fn arguments_by_name(rt: HostRuntime) {
     check_type(&rt, &definition, "a", Some("A"));
     check_type(&rt, &definition, "b", Some("B"));
     check_type(&rt, &definition, "c", None);
+    check_type(&rt, &definition, "A", None);
 }
 
 /// What a caller knows of an argument that it wrote.
@@ -98,7 +115,8 @@ fn what_is_required(rt: HostRuntime) {
         (Type::NonNullNamed(name!(Int)), Some(null), false),
         (Type::Named(name!(Int)), None, false),
     ] {
-        let mut input = input_value_definition(alloc, name!(a), ty).expect(&rt, "memory");
+        let ty = Node::new(alloc, ty).expect(&rt, "memory");
+        let mut input = InputValueDefinition::new(alloc, name!(a), ty);
         input.default_value = default_value;
         assert_eq!(rt; input.is_required(), is_required);
     }

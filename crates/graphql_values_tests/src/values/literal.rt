@@ -1,6 +1,7 @@
 //! Texts of ints and floats.
 use crate::checks::{check_made, check_text};
-use graphql_values::literal::{FloatValue, IntValue};
+use graphql_values::literal::{FloatValue, IntValue, LiteralError};
+use graphql_values::value::Value;
 use std::alloc::Global;
 use std::process::Abort;
 
@@ -46,7 +47,7 @@ fn short_texts(rt: HostRuntime) {
 }
 
 /// A text, and whether it is an int and a float.
-const TEXTS: [(&str, bool, bool); 27] = [
+const TEXTS: [(&str, bool, bool); 28] = [
     ("-0", true, false),
     ("2147483648", true, false),
     ("-2147483648", true, false),
@@ -54,6 +55,7 @@ const TEXTS: [(&str, bool, bool); 27] = [
     ("", false, false),
     ("-", false, false),
     ("00", false, false),
+    ("01", false, false),
     ("+3", false, false),
     ("-01", false, false),
     (" 1", false, false),
@@ -137,4 +139,94 @@ fn floats(rt: HostRuntime) {
         format!(in rt.alloc(); "{float}|{float:<6}|"),
         "1.50|1.50  |",
     );
+}
+
+fn check_refused(rt: &impl Abort, error: LiteralError, text: &str) {
+    assert!(rt; !error.is_memory(), "{text}");
+    match error {
+        LiteralError::Invalid(refused) => check_text(rt, refused.as_str(), text),
+        LiteralError::Memory => assert!(rt; false, "{text}"),
+    }
+}
+
+fn check_int(rt: &impl Abort, alloc: Global, text: &str, is_int: bool) {
+    match IntValue::new(alloc, text) {
+        Ok(int) => {
+            assert!(rt; is_int, "{text}");
+            check_text(rt, int.as_str(), text);
+        }
+        Err(error) => {
+            assert!(rt; !is_int, "{text}");
+            check_refused(rt, error, text);
+        }
+    }
+}
+
+fn check_float(rt: &impl Abort, alloc: Global, text: &str, is_float: bool) {
+    match FloatValue::new(alloc, text) {
+        Ok(float) => {
+            assert!(rt; is_float, "{text}");
+            check_text(rt, float.as_str(), text);
+        }
+        Err(error) => {
+            assert!(rt; !is_float, "{text}");
+            check_refused(rt, error, text);
+        }
+    }
+}
+
+#[test]
+fn checked(rt: HostRuntime) {
+    for (text, is_int, is_float) in TEXTS {
+        check_int(&rt, rt.alloc(), text, is_int);
+        check_float(&rt, rt.alloc(), text, is_float);
+    }
+}
+
+#[test]
+fn long_texts(rt: HostRuntime) {
+    let alloc = rt.alloc();
+    let digits = "7".repeat(alloc, 10000).expect(&rt, "memory");
+    check_int(&rt, alloc, digits.as_str(), true);
+    check_float(&rt, alloc, digits.as_str(), false);
+    let float = format!(in alloc; "{digits}.5").expect(&rt, "memory");
+    check_float(&rt, alloc, float.as_str(), true);
+}
+
+#[test]
+fn message_of_a_refusal(rt: HostRuntime) {
+    let error = IntValue::new(rt.alloc(), "01")
+        .err()
+        .expect(&rt, "an error");
+    check_made(
+        &rt,
+        format!(in rt.alloc(); "{error}"),
+        "`01` is not a valid GraphQL number",
+    );
+}
+
+/// Numbers at the bounds of 64 bits, and their texts.
+const WIDE: [(i64, &str); 3] = [
+    (-9223372036854775808, "-9223372036854775808"),
+    (9223372036854775807, "9223372036854775807"),
+    (0, "0"),
+];
+
+#[test]
+fn wide_numbers(rt: HostRuntime) {
+    for (number, text) in WIDE {
+        let int = IntValue::from_i64(rt.alloc(), number).expect(&rt, "memory");
+        check_text(&rt, int.as_str(), text);
+        assert_eq!(rt; int.try_to_i64().ok(), Some(number), "{text}");
+        let value = Value::from_i64(rt.alloc(), number).expect(&rt, "memory");
+        assert_eq!(rt; value.to_i64(), Some(number), "{text}");
+    }
+}
+
+#[test]
+fn wide_numbers_out_of_range(rt: HostRuntime) {
+    for text in ["9223372036854775808", "-9223372036854775809"] {
+        let int = IntValue::new(rt.alloc(), text).expect(&rt, "an integer");
+        assert!(rt; int.try_to_i64().is_err(), "{text}");
+    }
 }

@@ -2,15 +2,14 @@
 //! `rt try --test --fail-alloc N` refuses the Nth growth of each test.
 mod copies;
 mod displays;
+mod made;
 mod prints;
 
 use crate::samples::{directive, directives};
 use graphql_base::name;
 use graphql_base::node::Node;
-use graphql_values::argument::Argument;
 use graphql_values::directive::{Directive, SpecifiedArgumentError};
 use graphql_values::directive_list::DirectiveList;
-use graphql_values::value::Value;
 
 #[test]
 fn no_memory_is_asked_for_what_is_not_specified(rt: HostRuntime) {
@@ -44,7 +43,7 @@ fn a_value_is_lent_or_the_directive_stays(rt: HostRuntime) {
         }
         Err(error) => Some(error),
     };
-    assert!(rt; error.is_none() || error == Some(SpecifiedArgumentError::Memory));
+    assert!(rt; error.is_none_or(|error| error.is_memory()));
     assert!(rt; shared == before && original == before);
 }
 
@@ -81,27 +80,5 @@ fn a_list_is_collected_or_refused(rt: HostRuntime) {
     };
     if let Ok(collected) = DirectiveList::collect_from(alloc, list.into_iter()) {
         assert!(rt; collected == before);
-    }
-}
-
-#[test]
-fn an_argument_is_made_or_refused(rt: HostRuntime) {
-    let alloc = rt.alloc();
-    let Ok(value) = Node::new(alloc, Value::Null) else {
-        return;
-    };
-    if let Ok(argument) = Argument::new_node(alloc, name!(x), value) {
-        assert!(rt; argument.name.as_str() == "x" && argument.value.is_null());
-    }
-}
-
-#[test]
-fn a_value_is_made_or_refused(rt: HostRuntime) {
-    let alloc = rt.alloc();
-    if let Ok(value) = Value::from_i32(alloc, -7) {
-        assert!(rt; value.to_i32() == Some(-7));
-    }
-    if let Ok(value) = Value::from_text(alloc, "text") {
-        assert!(rt; value.as_str() == Some("text"));
     }
 }

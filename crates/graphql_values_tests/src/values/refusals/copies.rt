@@ -26,6 +26,8 @@ fn a_float_is_made_and_copied_or_refused(rt: HostRuntime) {
 fn no_memory_is_asked_for_short_numbers(rt: HostRuntime) {
     let int = IntValue::from_i32(rt.alloc(), -2147483648).expect(&rt, "no memory");
     check_cloned(&rt, &int);
+    let int = IntValue::from_i64(rt.alloc(), -9223372036854775808).expect(&rt, "no memory");
+    check_cloned(&rt, &int);
     let text = "1.5000000000000000000000000002";
     let float = FloatValue::new_parsed(rt.alloc(), text).expect(&rt, "no memory");
     check_text(&rt, float.as_str(), text);

@@ -12,4 +12,5 @@ returns-in-Some g c =
 
 pub returns-in-None : goal.returns-in-None
 returns-in-None g c =
-    subst (λ text. WritesAnywhere g.O.Target.wrote c.args.out.now c.write_float.new.out (Word (FloatValue text) ∷ [])) c.as_str.ensures.text c.write_float.ensures
+    subst (λ text. WritesAnywhere g.O.Target.wrote c.args.out.now c.write_float.new.out (Word (FloatValue text) ∷ []))
+    c.as_str.ensures.text c.write_float.ensures

@@ -1,0 +1,82 @@
+//! Values as GraphQL writes them.
+use crate::checks::check_made;
+use crate::samples::made_of_parts;
+use graphql_text::engine::Serialize;
+use graphql_values::value;
+use graphql_values::value::Value;
+use std::alloc::{AllocError, Global};
+use std::process::Abort;
+
+/// The text on one line is the wanted one: memory is ample.
+fn check_value(rt: &impl Abort, alloc: Global, made: Result<Value, AllocError>, wanted: &str) {
+    let value = made.expect(rt, "memory");
+    check_made(
+        rt,
+        Serialize::new(&value).no_indent().to_text(alloc),
+        wanted,
+    );
+}
+
+#[test]
+fn plain_values(rt: HostRuntime) {
+    let alloc = rt.alloc();
+    check_value(&rt, alloc, value!(in alloc; null), "null");
+    check_value(&rt, alloc, value!(in alloc; true), "true");
+    check_value(&rt, alloc, value!(in alloc; false), "false");
+    check_value(&rt, alloc, value!(in alloc; NEW), "NEW");
+    check_value(&rt, alloc, value!(in alloc; $max), "$max");
+    check_value(&rt, alloc, value!(in alloc; "é"), "\"é\"");
+}
+
+#[test]
+fn numbers(rt: HostRuntime) {
+    let alloc = rt.alloc();
+    check_value(&rt, alloc, value!(in alloc; 12), "12");
+    check_value(
+        &rt,
+        alloc,
+        value!(in alloc; -9223372036854775808),
+        "-9223372036854775808",
+    );
+    check_value(&rt, alloc, value!(in alloc; 1.50), "1.50");
+    check_value(&rt, alloc, value!(in alloc; -2e5), "-2e5");
+}
+
+#[test]
+fn lists(rt: HostRuntime) {
+    let alloc = rt.alloc();
+    check_value(&rt, alloc, value!(in alloc; []), "[]");
+    check_value(
+        &rt,
+        alloc,
+        value!(in alloc; [1, A, [true],]),
+        "[1, A, [true]]",
+    );
+    check_value(
+        &rt,
+        alloc,
+        value!(in alloc; [-1, $a, {b: $c}]),
+        "[-1, $a, {b: $c}]",
+    );
+}
+
+#[test]
+fn objects(rt: HostRuntime) {
+    let alloc = rt.alloc();
+    check_value(&rt, alloc, value!(in alloc; {}), "{}");
+    check_value(
+        &rt,
+        alloc,
+        value!(in alloc; {min: 0, max: $max, tags: ["new", NEW], other: null}),
+        "{min: 0, max: $max, tags: [\"new\", NEW], other: null}",
+    );
+}
+
+#[test]
+fn parts(rt: HostRuntime) {
+    let alloc = rt.alloc();
+    let wanted = "[[true, null], {a: 1, a: 3000000000}]";
+    check_value(&rt, alloc, made_of_parts(alloc), wanted);
+    let written = value!(in alloc; [[true, null], {a: 1, a: 3000000000}]);
+    assert!(rt; made_of_parts(alloc).expect(&rt, "memory") == written.expect(&rt, "memory"));
+}

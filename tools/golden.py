@@ -1,41 +1,38 @@
 #!/usr/bin/env python3
-"""Makes the input of the program `golden` from cases that an independent model of the layout rules made.
+"""Makes cases of the program `golden` of cases that an independent model of the layout rules made.
 
-    tools/golden.py FILE.. > NEW && mv NEW crates/golden/stdin
+    tools/golden.py FILE.. > NEW && mv NEW crates/golden/data/GROUP.jsonl
 
-A FILE whose name ends in `.json` is an array of cases. Any other is an input that stands, whose lines stay: give `crates/golden/stdin`
-first, and then the new cases. The output has a case a line, each once, as the types of crates/golden/src/case.rt read it: a print has its
-tree in AST JSON, the form of graphql-js 16.
+A FILE whose name ends in `.json` is an array of cases. Any other is a group that stands, whose lines stay: give it first, and then the
+new cases. The output has a case a line, as the types of crates/golden/src/case.rt read it: a print has its tree in AST JSON, the form of
+graphql-js 16. A name that two cases have is refused, and so are names of two groups.
 
 The model knows the rules of docs/LAYOUT.md and nothing of this printer; the texts in the cases are its own. A case is an object with the
-members `kind` (those of other kinds than those of KINDS are passed over), `tree`, `prefix` (null: on one line), `level` (a text where
-the number is great), `well_formed`, and `text`, or `refusal` where the level overflows. A tree is `{"node": CLASS, FIELD: ..}`; one that
-is deeper than JSON is read is told by its number: `{"built": "N lists, each the one item .."}` or
+members `name`, `kind` (those of other kinds than those of KINDS are passed over), `tree`, `prefix` (null: on one line), `level` (a text
+where the number is great), `well_formed`, and `text`, or `refusal` where the level overflows. A tree is `{"node": CLASS, FIELD: ..}`; one
+that is deeper than JSON is read is told by its number: `{"built": "N lists, each the one item .."}` or
 `{"built": "anonymous query, N selection sets .."}`.
 
-The prints that stand there are of seven sources, and the model laid out the first six:
-- rows that docs/LAYOUT.md follows from, and rows written where these try nothing;
-- random trees of these kinds, some of them ill formed, each in several layouts and at levels near the greatest;
-- pieces longer than the buffer of a print (1,024 bytes): strings and descriptions of 600 to 3,000 bytes, plain, with characters to escape,
-  of several lines (one of them longer than the buffer), and of characters of two to four bytes; names and numbers of 1,500 bytes; names of
-  1,022 to 1,026 and of 2,047 to 2,049 letters, alone and in a list;
-- nested lists: 5,000 on one line and under an empty prefix, also at the greatest level that they fit and at the one above, and 200 under
-  two spaces and under a tab, whose text grows with the square of the number. As `rt run` builds the program its stack carries 5,000; the
-  checked build of `rt try` runs out of stack between 2,500 and 3,000;
-- executable trees at the edges of their side conditions: repeated arguments, object fields, directives, variables and selections, which are
-  kept and well formed; enum values `true`, `false` and `null` in arguments, defaults and directives, alone and in lists and objects, and
-  names that only look like these; variables in the default and in the directives of a variable, alone and up to four values deep, beside
-  the same values where they may stand;
-- descriptions of each kind of the type system that has one, or has a member that has one: of 70 and of 71 bytes, of 35 and of 36 characters
-  of two bytes, and empty, at each kind; of quotes, of backslashes, of carriage returns, of line feeds, of blank and of indented lines, at
-  two kinds each; and of 3,000 bytes, at eight kinds;
-- trees with locations, with `block`, and with optional members that are null or left out, written by hand.
+A name is the group, the rule in plain words, and the layout, if it isn't the default: `string/line-feed/one-line`. A group is a file of
+crates/golden/data. All texts are the model's but for those of `read` and `refused`, which are written by hand:
 
-The refusals are written by hand: JSON that is of no tree, and the error that the words of crates/graphql_ast_json/src/error.rt say of it.
+- `value`, `string`, `description` (at each kind that has one, or has a member that has one), `directive` (with directive definitions and
+  input values), `type-system`, `executable`, `document`: the rules of docs/LAYOUT.md, a case or a few each;
+- `layout`: prefixes, levels, and what needs a level at the greatest one;
+- `side-condition`: what is well formed and what isn't, in one layout, since no side condition depends on it;
+- `size`: pieces longer than the buffer of a print (1,024 bytes), and names about its length and twice its length; `nested`: 5,000 lists on
+  one line and under an empty prefix, 200 under two spaces and under a tab, whose text grows with the square of the number, and 1,000
+  selection sets. As `rt run` builds the program its stack carries 5,000; the checked build of `rt try` runs out of stack between 2,500
+  and 3,000;
+- `read`: JSON that is written as it was read, with its locations, and prints of trees with locations, with `block`, and with members that
+  are null or left out; `refused`: JSON that is of no tree, and the error that the words of crates/graphql_ast_json/src/error.rt say of it;
+- `random-value`, `random-directive`, `random-type-system`, `random-executable`, `random-document`: random trees, some of them ill formed,
+  each in one or several layouts and at levels near the greatest; the number in a name counts the trees of its kind.
 """
 import json
 import re
 import sys
+from collections import Counter
 
 LEAVES = {"Enum": "name", "String": "value", "Float": "text", "Int": "text", "Boolean": "value"}
 
@@ -270,16 +267,25 @@ KINDS = {
 }
 
 
+def kind(entry):
+    """The kind in the table of crates/golden/src/kinds.rt. A selection and a definition are of the kind of their node."""
+    if "built" in entry["tree"]:
+        return "NestedLists" if entry["kind"] == "Value" else "NestedFields"
+    return entry["tree"]["node"] if entry["kind"] in ("Selection", "Definition") else entry["kind"]
+
+
 def case(entry):
     assert ("refusal" in entry) != ("text" in entry)
     return {
+        "name": entry["name"],
+        "kind": kind(entry),
         "print": {
             "tree": KINDS[entry["kind"]](entry["tree"]),
             "prefix": entry["prefix"],
             "level": int(entry["level"]),
             "well_formed": entry["well_formed"],
             "text": entry.get("text"),
-        }
+        },
     }
 
 
@@ -292,7 +298,12 @@ def cases(path):
 
 
 def main(paths):
-    lines = dict.fromkeys(line for path in paths for line in cases(path))
+    lines = [line for path in paths for line in cases(path)]
+    names = [json.loads(line)["name"] for line in lines]
+    repeated = sorted(name for name, count in Counter(names).items() if count > 1)
+    groups = sorted({name.split("/")[0] for name in names})
+    if repeated or len(groups) > 1:
+        sys.exit(f"names of several cases: {repeated}; groups: {groups}")
     for line in lines:
         print(line)
 

@@ -1,9 +1,9 @@
 #!/usr/bin/env python3
 """Reads what the printer prints with the parser of the public package graphql-core, and compares trees.
 
-    tools/read_back.py [FILE]
+    tools/read_back.py [GROUP..]
 
-The program `golden` prints the tree of each print of FILE (crates/golden/stdin, if none is named), and says that the
+The program `golden` prints the tree of each print of the groups (all in crates/golden/data, if none is named), and says that the
 text is that of the case. graphql-core reads the text, and its tree, written as AST JSON, has to be that of the case.
 Locations and `block` are left out of the comparison, and so are cases that no reader can read: of trees that are not
 well formed, under a prefix of other characters than spaces and tabs, of trees that are deeper than JSON is read, and of
@@ -24,6 +24,8 @@ from graphql.language import ast, parse, parse_value
 
 sys.setrecursionlimit(20000)
 ROOT = os.path.join(os.path.dirname(os.path.abspath(__file__)), "..", "crates", "golden")
+DATA = os.path.join(ROOT, "data")
+PROGRAM = os.path.join(ROOT, "out", "golden")
 LISTS = {
     "Directive": ["arguments"],
     "InputValueDefinition": ["directives"],
@@ -115,16 +117,25 @@ def read(tree, text):
     return told(parse_value(text))
 
 
-def main(path):
-    with open(path, encoding="utf-8") as source:
-        lines = source.read()
-    program = os.path.join(ROOT, "out", "golden")
-    if subprocess.run([program], input=lines.encode()).returncode != 0:
+def groups_of(words):
+    """The files of the groups that are named, or of all."""
+    with open(os.path.join(ROOT, "args"), encoding="utf-8") as source:
+        files = source.read().split()
+    return [file for file in files if not words or file.removesuffix(".jsonl") in words]
+
+
+def cases_of(file):
+    with open(os.path.join(DATA, file), encoding="utf-8") as source:
+        return [json.loads(line) for line in source]
+
+
+def main(words):
+    files = groups_of(words)
+    if subprocess.run([PROGRAM, *files], cwd=DATA).returncode != 0:
         print("the program prints another text than that of a case")
         return 1
-    cases = [json.loads(line) for line in lines.splitlines()]
     count = different = 0
-    for number, case in enumerate(cases, 1):
+    for case in (case for file in files for case in cases_of(file)):
         wanted = case.get("print")
         if wanted is None or not is_readable(wanted):
             continue
@@ -135,9 +146,9 @@ def main(path):
             found = str(error)
         if found != normal(wanted["tree"]):
             different += 1
-            print(f"case {number}: {found}")
+            print(f"{case['name']}: {found}")
     print(f"{count} texts read with graphql-core {graphql.version}, {different} trees differ")
     return 0 if different == 0 else 1
 
 
-sys.exit(main(sys.argv[1] if len(sys.argv) > 1 else os.path.join(ROOT, "stdin")))
+sys.exit(main(sys.argv[1:]))

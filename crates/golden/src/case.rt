@@ -1,14 +1,20 @@
-//! Cases as they stand on the lines of the input, in JSON.
+//! Cases as they stand on the lines of a group, in JSON.
 use serde::Deserialize;
 use serde_json::Value as Json;
 use std::alloc::Global;
 
-/// What a line asks: `{"print":{..}}` or `{"json":{..}}`.
+/// A case: it has either `print` or `json`.
 #[derive(Drop, Deserialize)]
-#[serde(rename_all = "snake_case")]
-pub enum Case {
-    Print(PrintCase),
-    Json(JsonCase),
+#[serde(deny_unknown_fields)]
+pub struct Case {
+    /// The group, and the rule in plain words, as `string/line-feed/one-line`. No two cases have the same.
+    pub name: String,
+    /// The kind of trees, as `ScalarTypeDefinition`: one of the table in `kinds.rt`.
+    pub kind: String,
+    #[serde(default)]
+    pub print: Option<PrintCase>,
+    #[serde(default)]
+    pub json: Option<JsonCase>,
 }
 
 /// A tree, a layout, and what is wanted of its print.
@@ -31,30 +37,18 @@ pub struct PrintCase {
 #[derive(Drop, Deserialize)]
 #[serde(deny_unknown_fields)]
 pub struct JsonCase {
-    /// The kind of trees that it is read as, as `scalar_type_definition`.
-    pub kind: String,
     pub json: Json,
     /// The text of the error, or none where the tree that is read is written as this JSON again.
     pub error: Option<String>,
 }
 
-impl PrintCase {
-    /// How many lists in one another the tree is, if it is told so.
-    pub fn nested_lists(&self) -> Option<u64> {
-        self.tree.get("nested_lists").and_then(Json::as_u64)
-    }
-
-    /// How many selection sets in one another the tree is, if it is told so.
-    pub fn nested_fields(&self) -> Option<u64> {
-        self.tree.get("nested_fields").and_then(Json::as_u64)
-    }
-
-    /// The kind of the node that the tree is: nothing where it is no node, but a list of directives or nested.
-    pub fn kind(&self) -> &str {
-        self.tree
-            .get("kind")
-            .and_then(Json::as_str)
-            .unwrap_or_default()
+impl Case {
+    /// Whether the name begins with the group, and a `/`.
+    pub fn is_of_group(&self, group: &str) -> bool {
+        match self.name.as_str().split_once('/') {
+            Some((first, rule)) => first == group && !rule.is_empty(),
+            None => false,
+        }
     }
 }
 

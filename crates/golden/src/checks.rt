@@ -1,9 +1,10 @@
 //! What is compared with a case.
 use crate::case::PrintCase;
+use crate::difference::Difference;
 use crate::sink::ByteSink;
 use graphql_ast::serialize::{PrintError, Serialize, Syntax};
 use graphql_ast::sink::{StreamSink, TextSink, VecSink};
-use std::alloc::Global;
+use std::alloc::{AllocError, Global};
 use std::fmt;
 use std::fmt::{Display, Formatter, Write};
 
@@ -33,22 +34,26 @@ const CHECKS: [Check; 7] = [
 ];
 
 impl Check {
-    /// Whether the answer is the one that the case wants.
-    fn passes<T: Syntax + Display>(self, alloc: Global, case: &PrintCase, tree: &T) -> bool {
+    /// What is found other than the case wants, if it is.
+    fn difference<T: Syntax + Display>(
+        self,
+        alloc: Global,
+        case: &PrintCase,
+        tree: &T,
+    ) -> Result<Option<Difference>, AllocError> {
         let print = print_of(case, tree);
-        match self {
-            Check::AstJson => true,
-            Check::WellFormed => tree.is_well_formed() == case.well_formed,
-            Check::ToText => match print.to_text(alloc) {
-                Ok(text) => is_wanted(case, Ok(()), text.as_bytes()),
-                Err(error) => is_wanted(case, Err(error), b""),
-            },
-            Check::Display => is_displayed(alloc, case, &print),
-            Check::TreeDisplay => !is_in_default_layout(case) || is_displayed(alloc, case, tree),
-            Check::VecSink => is_put_into_vec(alloc, case, &print),
-            Check::StreamSink => is_put_into_writer(alloc, case, &print),
-            Check::ByteSink => is_put_bytewise(alloc, case, &print),
-        }
+        let found = match self {
+            Check::AstJson => return Ok(None),
+            Check::WellFormed => return of_answer(alloc, case, tree.is_well_formed()),
+            Check::ToText => of_text(alloc, &print)?,
+            Check::Display => displayed(alloc, &print)?,
+            Check::TreeDisplay if !is_in_default_layout(case) => return Ok(None),
+            Check::TreeDisplay => displayed(alloc, tree)?,
+            Check::VecSink => put_into_vec(alloc, &print)?,
+            Check::StreamSink => put_into_writer(alloc, &print)?,
+            Check::ByteSink => put_bytewise(alloc, &print)?,
+        };
+        of_print(alloc, self, case, &found)
     }
 }
 
@@ -67,18 +72,18 @@ impl Display for Check {
     }
 }
 
-/// The first check that a tree doesn't pass, if there is one.
+/// What the first check that a tree doesn't pass finds, if there is one.
 pub fn first_failed<T: Syntax + Display>(
     alloc: Global,
     case: &PrintCase,
     tree: &T,
-) -> Option<Check> {
+) -> Result<Option<Difference>, AllocError> {
     for check in CHECKS {
-        if !check.passes(alloc, case, tree) {
-            return Some(check);
+        if let Some(difference) = check.difference(alloc, case, tree)? {
+            return Ok(Some(difference));
         }
     }
-    None
+    Ok(None)
 }
 
 /// The tree, in the layout of the case.
@@ -95,42 +100,157 @@ fn is_in_default_layout(case: &PrintCase) -> bool {
     case.prefix.as_deref() == Some("  ") && case.level == 0
 }
 
-/// Whether a print ended as the case wants, with these bytes written.
-fn is_wanted(case: &PrintCase, printed: Result<(), PrintError>, bytes: &[u8]) -> bool {
-    match &case.text {
-        Some(text) => printed == Ok(()) && bytes == text.as_bytes(),
-        None => printed == Err(PrintError::LevelOverflow) && bytes.is_empty(),
+/// What a print came to: how it ended, the bytes that were written, and the faults of the sink.
+#[derive(Drop)]
+struct Found {
+    end: End,
+    bytes: Vec<u8>,
+    faults: u64,
+}
+
+/// How a print ended. A display doesn't say why it failed.
+#[derive(Clone, Copy, PartialEq, Eq)]
+enum End {
+    Whole,
+    Refused(PrintError),
+    Failed,
+}
+
+impl Display for End {
+    fn fmt<W: Write>(&self, f: &mut Formatter<W>) -> fmt::Result {
+        match self {
+            End::Whole => f.write_str("the whole print"),
+            End::Refused(error) => write!(f, "{error}"),
+            End::Failed => f.write_str("a failure"),
+        }
     }
 }
 
-fn is_displayed<T: Display>(alloc: Global, case: &PrintCase, printed: &T) -> bool {
-    let mut shown = String::new(alloc);
-    let is_ok = write!(shown, "{printed}").is_ok();
-    match &case.text {
-        Some(text) => is_ok && shown.as_str() == text.as_str(),
-        None => !is_ok && shown.is_empty(),
+fn end_of(printed: Result<(), PrintError>) -> End {
+    match printed {
+        Ok(()) => End::Whole,
+        Err(error) => End::Refused(error),
     }
 }
 
-fn is_put_into_vec<T: Syntax>(alloc: Global, case: &PrintCase, print: &Serialize<'_, T>) -> bool {
-    let mut sink = VecSink::new(alloc);
-    let printed = print.print_to(&mut sink);
-    is_wanted(case, printed, sink.bytes()) && sink.faults() == 0
+impl Found {
+    /// Whether it is what the case wants.
+    fn is_wanted(&self, case: &PrintCase) -> bool {
+        if self.faults != 0 {
+            return false;
+        }
+        match &case.text {
+            Some(text) => self.end == End::Whole && self.bytes.as_slice() == text.as_bytes(),
+            None => self.is_overflow() && self.bytes.is_empty(),
+        }
+    }
+
+    fn is_overflow(&self) -> bool {
+        matches!(
+            self.end,
+            End::Refused(PrintError::LevelOverflow) | End::Failed
+        )
+    }
+
+    /// The text, or how the print ended in the place of one.
+    fn told(&self, alloc: Global) -> Result<String, AllocError> {
+        let text = String::from_utf8_lossy(alloc, self.bytes.as_slice())?;
+        if self.end == End::Whole && self.faults == 0 {
+            return Ok(text);
+        }
+        format!(in alloc; "{text}<{} with {} faults>", self.end, self.faults)
+    }
 }
 
-fn is_put_into_writer<T: Syntax>(
+/// The difference of a print from what the case wants, if there is one.
+fn of_print(
+    alloc: Global,
+    check: Check,
+    case: &PrintCase,
+    found: &Found,
+) -> Result<Option<Difference>, AllocError> {
+    if found.is_wanted(case) {
+        return Ok(None);
+    }
+    let wanted = match &case.text {
+        Some(text) => text.as_str(),
+        None => "<indentation level overflow with 0 faults>",
+    };
+    let found = found.told(alloc)?;
+    Ok(Some(Difference::new(alloc, check, wanted, found.as_str())?))
+}
+
+/// The difference of the answer of `is_well_formed` from what the case wants, if there is one.
+fn of_answer(
     alloc: Global,
     case: &PrintCase,
-    print: &Serialize<'_, T>,
-) -> bool {
-    let mut sink = StreamSink::new(Vec::new(alloc));
-    let printed = print.print_to(&mut sink);
-    let faults = sink.faults();
-    is_wanted(case, printed, sink.into_inner().as_slice()) && faults == 0
+    is_well_formed: bool,
+) -> Result<Option<Difference>, AllocError> {
+    if is_well_formed == case.well_formed {
+        return Ok(None);
+    }
+    let wanted = format!(in alloc; "{}", case.well_formed)?;
+    let found = format!(in alloc; "{is_well_formed}")?;
+    Ok(Some(Difference::new(alloc, Check::WellFormed, wanted.as_str(), found.as_str())?))
 }
 
-fn is_put_bytewise<T: Syntax>(alloc: Global, case: &PrintCase, print: &Serialize<'_, T>) -> bool {
+fn of_text<T: Syntax>(alloc: Global, print: &Serialize<'_, T>) -> Result<Found, AllocError> {
+    let (end, text) = match print.to_text(alloc) {
+        Ok(text) => (End::Whole, text),
+        Err(error) => (End::Refused(error), String::new(alloc)),
+    };
+    Ok(Found {
+        end,
+        bytes: text.into_bytes(),
+        faults: 0,
+    })
+}
+
+fn displayed<T: Display>(alloc: Global, printed: &T) -> Result<Found, AllocError> {
+    let mut shown = String::new(alloc);
+    let end = match write!(shown, "{printed}") {
+        Ok(()) => End::Whole,
+        Err(_) => End::Failed,
+    };
+    Ok(Found {
+        end,
+        bytes: shown.into_bytes(),
+        faults: 0,
+    })
+}
+
+fn put_into_vec<T: Syntax>(alloc: Global, print: &Serialize<'_, T>) -> Result<Found, AllocError> {
+    let mut sink = VecSink::new(alloc);
+    let end = end_of(print.print_to(&mut sink));
+    let faults = sink.faults();
+    Ok(Found {
+        end,
+        bytes: sink.into_bytes(),
+        faults,
+    })
+}
+
+fn put_into_writer<T: Syntax>(
+    alloc: Global,
+    print: &Serialize<'_, T>,
+) -> Result<Found, AllocError> {
+    let mut sink = StreamSink::new(Vec::new(alloc));
+    let end = end_of(print.print_to(&mut sink));
+    let faults = sink.faults();
+    Ok(Found {
+        end,
+        bytes: sink.into_inner(),
+        faults,
+    })
+}
+
+fn put_bytewise<T: Syntax>(alloc: Global, print: &Serialize<'_, T>) -> Result<Found, AllocError> {
     let mut sink = ByteSink::new(alloc);
-    let printed = print.print_to(&mut sink);
-    is_wanted(case, printed, sink.bytes()) && sink.faults() == 0
+    let end = end_of(print.print_to(&mut sink));
+    let faults = sink.faults();
+    Ok(Found {
+        end,
+        bytes: Vec::from_slice(alloc, sink.bytes())?,
+        faults,
+    })
 }

@@ -59,7 +59,8 @@ impl Document {
     where
         Definition: From<Node<T>>,
         ensures ok { OnOk result (Appends
-            (⟦<Definition as From<Node<T>>>⟧.from_gives (node_at None definition)) self.old self.new) }
+            (⟦<Definition as From<Node<T>>>⟧.from_gives (node_at None definition))
+            self.old self.new) }
         ensures err { OnErr result (IsUnchanged self.old self.new) }
     {
         let node = Node::new(alloc, definition)?;

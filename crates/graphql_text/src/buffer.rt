@@ -132,4 +132,28 @@ impl Buffer {
             false
         }
     }
+
+    /// The same of the text and words behind it, which take the place of what stands there.
+    #[inline(always)]
+    pub(crate) fn add_padded_then<P: Padded>(&mut self, text: &P, words: &str) -> bool
+        ensures added { IsTrue result →
+            waiting_bytes self.new ≡ waiting_bytes self.old ++ (P.text text.now ++ words.now) }
+        ensures full { result ≡ false → self.new ≡ self.old }
+        ensures room { length (waiting_bytes self.old) + P.padded_size + length words.now ≤ SIZE →
+            IsTrue result }
+    {
+        let used = self.used;
+        let size = text.size();
+        let room = SIZE - used;
+        if size <= room && words.len() <= room - size {
+            text.copy_to(&mut self.bytes[used..used + size]);
+            let end = used + text.as_str().len();
+            let all = end + words.len();
+            copy_piece(&mut self.bytes[end..all], words.as_bytes());
+            self.used = all;
+            true
+        } else {
+            false
+        }
+    }
 }

@@ -27,6 +27,8 @@ fn write_with_escapes<O: Target>(out: &mut O, place: &Place<'_>, value: &str)
 ///
 /// A value can be a block string if it holds no carriage return, its first and its last line aren't blank, and at
 /// least one line begins with a character that is neither a space nor a tab.
+// A writer of values calls it last, and so needs no frame of its own for the values that are no strings.
+#[inline(never)]
 pub fn write_string_value<O: Target>(out: &mut O, place: &Place<'_>, value: &str)
     ensures { Writes O.wrote out.old out.new place.now (StringItem (chars value.now) AsValue ∷ []) }
 {

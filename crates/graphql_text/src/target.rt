@@ -32,6 +32,14 @@ pub trait Target {
         self.text(text.as_str());
     }
 
+    /// Writes a text that can be copied at a fixed size, and words behind it.
+    fn padded_then<P: Padded>(&mut self, text: &P, words: &str)
+        ensures { wrote self.old (P.text text.now ++ words.now) self.new }
+    {
+        self.padded(text);
+        self.text(words);
+    }
+
     /// Whether a write failed. A long loop asks, to end early.
     fn is_stopped(&self) -> bool
         ensures { IsTrue result ↔ stopped self.now };
@@ -146,6 +154,19 @@ impl<'a, S: TextSink> Target for ToSink<'a, S> {
         }
     }
 
+    #[inline(always)]
+    fn padded_then<P: Padded>(&mut self, text: &P, words: &str) {
+        if !self.buffer.add_padded_then(text, words) {
+            self.stopped = send(
+                &mut *self.sink,
+                self.stopped,
+                &mut self.buffer,
+                text.as_str(),
+            );
+            self.stopped = send(&mut *self.sink, self.stopped, &mut self.buffer, words);
+        }
+    }
+
     fn is_stopped(&self) -> bool {
         self.stopped
     }
@@ -225,6 +246,14 @@ impl Target for ToText {
     fn padded<P: Padded>(&mut self, text: &P) {
         if !self.buffer.add_padded(text) {
             self.failed = append(&mut self.text, self.failed, &mut self.buffer, text.as_str());
+        }
+    }
+
+    #[inline(always)]
+    fn padded_then<P: Padded>(&mut self, text: &P, words: &str) {
+        if !self.buffer.add_padded_then(text, words) {
+            self.failed = append(&mut self.text, self.failed, &mut self.buffer, text.as_str());
+            self.failed = append(&mut self.text, self.failed, &mut self.buffer, words);
         }
     }
 

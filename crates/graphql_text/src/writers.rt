@@ -46,6 +46,21 @@ pub fn write_name<O: Target>(out: &mut O, name: &Name)
     }
 }
 
+/// Writes a name, and keywords, punctuators and spaces behind it.
+#[inline(always)]
+pub fn write_name_then<O: Target>(out: &mut O, name: &Name, words: &str)
+    ensures { (items : List Item) → fixed_text items ≡ Some words.now →
+        WritesAnywhere O.wrote out.old out.new (Word (NameToken (name_text name.now)) ∷ items) }
+{
+    match name.short_text_or_str() {
+        Ok(text) => out.padded_then(text, words),
+        Err(text) => {
+            out.text(text);
+            write_words(out, words);
+        }
+    }
+}
+
 /// Writes an int.
 #[inline(always)]
 pub fn write_int<O: Target>(out: &mut O, int: &str)

@@ -9,9 +9,9 @@ ghost use Rattle.graphql_values.specs.trees.ValueTrees.{default_value_tree};
 
 use crate::constness::Constness;
 use crate::value::Value;
-use crate::value::print::{ValueEntry, find_value_nesting, is_value_well_formed};
+use crate::value::print::{ValueEntry, find_value_nesting, is_value_well_formed, write_value};
 use graphql_base::node::Node;
-use graphql_text::writers::{Place, Stack, Target, Written, write_words};
+use graphql_text::writers::{Place, Stack, Target, write_words};
 
 /// Whether a default value, if there is one, is well formed in its const context.
 pub fn is_default_value_well_formed(default_value: Option<&Node<Value>>) -> bool
@@ -49,6 +49,6 @@ pub fn write_default_value<'a, O: Target>(
 {
     if let Some(value) = default_value {
         write_words(out, " = ");
-        value.write_at(out, place, stack);
+        write_value(out, place, stack, value);
     }
 }

@@ -22,7 +22,7 @@ use crate::stacks::ExecutableStacks;
 use graphql_base::name::Name;
 use graphql_text::engine::{Serialize, Syntax, SyntaxTree};
 use graphql_text::writers::{
-    Depths, Place, Stack, Start, Target, Written, write_name, write_whole, write_words,
+    Depths, Place, Stack, Start, Target, Written, write_name, write_name_then, write_whole,
 };
 use graphql_values::writers::{
     Constness, ValueEntry, are_arguments_well_formed, are_directives_well_formed,
@@ -57,8 +57,7 @@ fn write_alias<O: Target>(out: &mut O, alias: Option<&Name>)
         (optional_shape alias_shape (option_map name_tree (option_copied alias.entry))) }
 {
     if let Some(alias) = alias {
-        write_name(out, alias);
-        write_words(out, ": ");
+        write_name_then(out, alias, ": ");
     }
 }
 

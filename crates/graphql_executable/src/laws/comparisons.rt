@@ -21,8 +21,8 @@ pub fn clones_are_the_same()
     ensures selections { ClonesKeep ⟦<Selection as Clone>⟧.is_clone (λ it. it) }
     ensures fields { (a b : Field) → ⟦<Field as Clone>⟧.is_clone a b →
         IsFieldCloneOf a b × (field_tree b ≡ field_tree a) }
-    ensures fragment_spreads { ClonesKeep ⟦<FragmentSpread as Clone>⟧.is_clone (λ it. it.fragment_name
-        & it.directives.0.items & fragment_spread_tree it) }
+    ensures fragment_spreads { ClonesKeep ⟦<FragmentSpread as Clone>⟧.is_clone
+        (λ it. it.fragment_name & it.directives.0.items & fragment_spread_tree it) }
     ensures inline_fragments { (a b : InlineFragment) → ⟦<InlineFragment as Clone>⟧.is_clone a b →
         IsInlineFragmentCloneOf a b × (inline_fragment_tree b ≡ inline_fragment_tree a) }
     ensures operation_definitions { ClonesKeep ⟦<OperationDefinition as Clone>⟧.is_clone

@@ -12,7 +12,7 @@ use crate::variable_definition::VariableDefinition;
 use graphql_base::node::Node;
 use graphql_text::engine::{Serialize, Syntax, SyntaxTree};
 use graphql_text::writers::{
-    Depths, Place, Start, Target, Written, write_leading_description, write_name, write_whole,
+    Depths, Place, Start, Target, Written, write_leading_description, write_name_then, write_whole,
     write_words,
 };
 use graphql_values::writers::{
@@ -97,8 +97,7 @@ impl<'t> Written<'t, Stacks<'t>> for VariableDefinition {
         } = self;
         write_leading_description(out, place, description.as_ref());
         write_words(out, "$");
-        write_name(out, name);
-        write_words(out, ": ");
+        write_name_then(out, name, ": ");
         write_type(out, &mut stacks.types, ty);
         write_default_value(out, place, &mut stacks.values, default_value.as_ref());
         write_optional_directives(out, place, &mut stacks.values, directives);

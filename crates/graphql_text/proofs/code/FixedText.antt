@@ -79,3 +79,11 @@ pub writes_fixed :
 writes_fixed {O} {wrote} {a} {b} mode level items {text} is done =
     let fixed = fixed_items mode level 0 0 items text is in
     record { text = subst (λ t. wrote a t b) (sym fixed.same) done; balanced = fixed.balanced }
+
+-- the same of a name before them
+pub writes_name_then :
+    {O : Type 0} {wrote : O → List ℕ → O → Type 0} {a b : O} (mode : Option (List ℕ)) (level : ℕ) (items : List Item) {name words : List ℕ} →
+    is_name name ≡ true → fixed_text items ≡ Some words → wrote a (name ++ words) b → WritesItems wrote a b mode level (Word (Name name) ∷ items)
+writes_name_then mode level items {name} {words} valid is done =
+    let whole : fixed_text (Word (Name name) ∷ items) ≡ Some (name ++ words) = rw (valid, is) refl in
+    writes_fixed mode level (Word (Name name) ∷ items) whole done

@@ -1,9 +1,13 @@
 -- A piece that is copied with bytes behind it.
-use Rattle.std.proofs.Common.{◌≡◌, ℕ, ◌+◌, ◌-◌, ◌≤◌, List, ◌++◌, length, take, ap, sym, ◌∙◌, arith, length-take-le}
+use Rattle.std.proofs.Common.{◌≡◌, ℕ, ◌+◌, ◌-◌, ◌≤◌, List, ◌++◌, length, take, ap, refl, sym, ◌∙◌, arith, length-take-le}
 use Rattle.std.proofs.Math.Seq.{take-append-add}
 use Rattle.std.proofs.lemmas.List.{take-append-le}
 use Rattle.std.proofs.lemmas.Grind.{common_steps}
+use Rattle.std.proofs.lemmas.Slice.{take-put_mid}
 use borrow.Rule.Slice.PartMut.{put_mid, post_of}
+
+length_put_mid : (at count : ℕ) (bytes part : List ℕ) → at + count ≤ length bytes → length part ≡ count → length (put_mid at count bytes part) ≡ length bytes
+length_put_mid at count bytes part room whole = grind (arith, common_steps)
 
 pub piece_fits : (padded text : List ℕ) → take (length text) padded ≡ text → length text ≤ length padded
 piece_fits padded text front = grind (arith, common_steps)
@@ -23,3 +27,16 @@ pub front_by_length : (n : ℕ) (padded text : List ℕ) → n ≤ length padded
 front_by_length n padded text within front =
     let long : length text ≡ n = ap length (sym front) ∙ length-take-le n padded within in
     ap (λ m. take m padded) long ∙ front
+
+-- words behind the piece take the place of what stands there
+pub words_behind : (used size : ℕ) (bytes padded text words : List ℕ) → used + size + length words ≤ length bytes → length padded ≡ size →
+    take (length text) padded ≡ text → let end = used + length text in
+    take (end + length words) (put_mid end (end + length words - end) (put_mid used (used + size - used) bytes padded) words)
+    ≡ (take used bytes ++ text) ++ words
+words_behind used size bytes padded text words room whole front =
+    let end = used + length text in
+    let before = put_mid used (used + size - used) bytes padded in
+    let long : length before ≡ length bytes = length_put_mid used (used + size - used) bytes padded (omega (arith, room)) (omega (arith, whole)) in
+    let within : end ≤ length before = omega (arith, room, whole, long, piece_fits padded text front) in
+    take-put_mid end (end + length words - end) before words (end + length words) refl within
+    ∙ ap (λ t. t ++ words) (padded_piece used size bytes padded text (omega (arith, room)) whole front)

@@ -35,9 +35,9 @@ pub fn clones_are_the_same()
     ensures input_object_type_definitions { ClonesKeep ⟦<InputObjectTypeDefinition as Clone>⟧.is_clone
         (λ it. it.description & it.name & it.directives.0.items & it.fields.items
         & input_object_type_definition_tree it) }
-    ensures field_definitions { ClonesKeep ⟦<FieldDefinition as Clone>⟧.is_clone (λ it. it.description
-        & it.name & it.arguments.items & type_wrapping it.ty & it.directives.0.items
-        & field_definition_tree it) }
+    ensures field_definitions { ClonesKeep ⟦<FieldDefinition as Clone>⟧.is_clone
+        (λ it. it.description & it.name & it.arguments.items & type_wrapping it.ty
+        & it.directives.0.items & field_definition_tree it) }
     ensures enum_value_definitions { ClonesKeep ⟦<EnumValueDefinition as Clone>⟧.is_clone
         (λ it. it.description & it.value & it.directives.0.items & enum_value_definition_tree it) }
     ensures schema_extensions { ClonesKeep ⟦<SchemaExtension as Clone>⟧.is_clone
@@ -50,8 +50,9 @@ pub fn clones_are_the_same()
     ensures interface_type_extensions { ClonesKeep ⟦<InterfaceTypeExtension as Clone>⟧.is_clone
         (λ it. it.name & it.implements_interfaces.items & it.directives.0.items & it.fields.items
         & interface_type_extension_tree it) }
-    ensures union_type_extensions { ClonesKeep ⟦<UnionTypeExtension as Clone>⟧.is_clone (λ it. it.name
-        & it.directives.0.items & it.members.items & union_type_extension_tree it) }
+    ensures union_type_extensions { ClonesKeep ⟦<UnionTypeExtension as Clone>⟧.is_clone
+        (λ it. it.name & it.directives.0.items & it.members.items
+        & union_type_extension_tree it) }
     ensures enum_type_extensions { ClonesKeep ⟦<EnumTypeExtension as Clone>⟧.is_clone (λ it. it.name
         & it.directives.0.items & it.values.items & enum_type_extension_tree it) }
     ensures input_object_type_extensions { ClonesKeep ⟦<InputObjectTypeExtension as Clone>⟧.is_clone

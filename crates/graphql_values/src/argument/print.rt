@@ -10,9 +10,9 @@ ghost use Rattle.graphql_values.specs.kinds.Values.{value_nesting};
 
 use crate::argument::Argument;
 use crate::constness::Constness;
-use crate::value::print::{ValueEntry, find_value_nesting, is_value_well_formed};
+use crate::value::print::{ValueEntry, find_value_nesting, is_value_well_formed, write_value};
 use graphql_base::node::Node;
-use graphql_text::writers::{Place, Stack, Target, Written, write_name, write_words};
+use graphql_text::writers::{Place, Stack, Target, write_name_then, write_words};
 
 /// Whether each argument's value is well formed in the context.
 pub fn are_arguments_well_formed(arguments: &[Node<Argument>], constness: Constness) -> bool
@@ -52,9 +52,8 @@ fn write_argument<'a, O: Target>(
     ensures written { WritesItems O.wrote out.old out.new None place.now.level
         (argument_items (argument_tree argument.now)) }
 {
-    write_name(out, &argument.name);
-    write_words(out, ": ");
-    argument.value.write_at(out, place, stack);
+    write_name_then(out, &argument.name, ": ");
+    write_value(out, place, stack, &argument.value);
 }
 
 /// Writes the arguments of a field or a directive, which stand on one line in every layout; nothing where there are

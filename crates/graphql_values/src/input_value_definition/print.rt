@@ -19,8 +19,7 @@ use crate::types::print::{find_list_depth, write_type};
 use graphql_base::node::Node;
 use graphql_text::engine::{Serialize, Syntax, SyntaxTree};
 use graphql_text::writers::{
-    Depths, Place, Start, Target, Written, write_leading_description, write_name, write_whole,
-    write_words,
+    Depths, Place, Start, Target, Written, write_leading_description, write_name_then, write_whole,
 };
 use std::alloc::AllocError;
 use std::fmt;
@@ -99,8 +98,7 @@ impl<'t> Written<'t, Stacks<'t>> for InputValueDefinition {
             directives,
         } = self;
         write_leading_description(out, place, description.as_ref());
-        write_name(out, name);
-        write_words(out, ": ");
+        write_name_then(out, name, ": ");
         write_type(out, &mut stacks.types, ty);
         write_default_value(out, place, &mut stacks.values, default_value.as_ref());
         directives.write_at(out, place, &mut stacks.values);

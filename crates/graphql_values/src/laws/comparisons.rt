@@ -60,8 +60,8 @@ pub fn clones_are_the_same()
         IsCloneOf a b × (value_tree b ≡ value_tree a) }
     ensures types { ClonesKeep ⟦<Type as Clone>⟧.is_clone (λ it. type_wrapping it & type_tree it) }
     ensures arguments { ClonesKeep ⟦<Argument as Clone>⟧.is_clone (λ it. it) }
-    ensures directives { ClonesKeep ⟦<Directive as Clone>⟧.is_clone (λ it. it.name & it.arguments.items
-        & directive_tree it) }
+    ensures directives { ClonesKeep ⟦<Directive as Clone>⟧.is_clone
+        (λ it. it.name & it.arguments.items & directive_tree it) }
     ensures directive_lists { ClonesKeep ⟦<DirectiveList as Clone>⟧.is_clone (λ it. it.0.items
         & directive_trees it) }
     ensures input_value_definitions { ClonesKeep ⟦<InputValueDefinition as Clone>⟧.is_clone

@@ -9,7 +9,7 @@ ghost use Rattle.graphql_values.specs.trees.TypeTrees.{type_tree};
 ghost use Rattle.graphql_values.specs.code.TypeEnds.{end_items, ends_items};
 
 use crate::types::Type;
-use graphql_text::writers::{Stack, Target, ToFormatter, write_name, write_words};
+use graphql_text::writers::{Stack, Target, ToFormatter, write_name, write_name_then, write_words};
 use std::alloc::{AllocError, Global};
 use std::fmt;
 
@@ -93,8 +93,7 @@ pub fn write_type<O: Target>(out: &mut O, stack: &mut Stack<TypeEntry>, ty: &Typ
                 break;
             }
             Type::NonNullNamed(name) => {
-                write_name(out, name);
-                write_words(out, "!");
+                write_name_then(out, name, "!");
                 break;
             }
             Type::List(item) => {

@@ -22,8 +22,8 @@ use graphql_base::node::Node;
 use graphql_text::engine::{Serialize, Syntax, SyntaxTree};
 use graphql_text::writers::{
     Depths, Place, ReadyCommaBreak, Stack, Start, Target, Written, ready_comma_lead,
-    write_comma_end, write_comma_lead, write_float, write_int, write_name, write_padded_float,
-    write_padded_int, write_string_value, write_whole, write_words,
+    write_comma_end, write_comma_lead, write_float, write_int, write_name, write_name_then,
+    write_padded_float, write_padded_int, write_string_value, write_whole, write_words,
 };
 use std::alloc::{AllocError, Global};
 use std::fmt;
@@ -382,8 +382,7 @@ fn write_next_field<'a, O: Target>(
     match fields.split_first() {
         Some((field, rest)) => {
             write_comma_lead(out, here, lead, is_first);
-            write_name(out, &field.0);
-            write_words(out, ": ");
+            write_name_then(out, &field.0, ": ");
             stack.push(ValueEntry::Fields(rest, false));
             write_opening(out, here, stack, &field.1);
         }
@@ -418,8 +417,7 @@ fn write_fields<'a, O: Target>(
             break;
         }
         write_comma_lead(out, here, lead, first);
-        write_name(out, &field.0);
-        write_words(out, ": ");
+        write_name_then(out, &field.0, ": ");
         write_leaf(out, here, &field.1);
         rest = more;
         first = false;
@@ -447,6 +445,26 @@ fn write_entry<'a, O: Target>(
     match entry {
         ValueEntry::Items(items, is_first) => write_items(out, here, stack, items, is_first),
         ValueEntry::Fields(fields, is_first) => write_fields(out, here, stack, fields, is_first),
+    }
+}
+
+/// Writes a value behind what stands before it. Most have no items or fields, and for those no stack is gone through.
+#[inline(always)]
+pub(crate) fn write_value<'a, O: Target>(
+    out: &mut O,
+    place: &Place<'_>,
+    stack: &mut Stack<ValueEntry<'a>>,
+    value: &'a Value,
+)
+    requires { CanWrite place.now stack.old (value_nesting (value_tree value.now)) }
+    ensures kept { IsKept stack.old stack.new }
+    ensures written { Writes O.wrote out.old out.new place.now
+        (value_shape (breaks place.now) (value_tree value.now)) }
+{
+    if opening_bracket(value).is_some() {
+        value.write_at(out, place, stack);
+    } else {
+        write_leaf(out, place, value);
     }
 }
 

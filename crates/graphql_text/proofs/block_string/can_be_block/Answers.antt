@@ -1,4 +1,4 @@
-use Rattle.std.proofs.Common.{◌≡◌, ◌-◌, ◌==◌, not, true, false, length, get_or, [], ap, sym, ◌∙◌}
+use Rattle.std.proofs.Common.{◌≡◌, ◌-◌, ◌==◌, not, length, get_or, [], ap, sym, ◌∙◌}
 use Rattle.std.specs.List.{list_any, list_all}
 use Rattle.graphql_text.specs.strings.BlockStringValue.{is_blank, lines_of}
 use Rattle.graphql_text.specs.strings.BlockForm.{begins_unindented}

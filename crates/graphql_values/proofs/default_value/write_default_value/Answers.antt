@@ -6,7 +6,7 @@ use Rattle.graphql_values.proofs.default_value.write_default_value.Goals as goal
 
 pub returns-in-Some-clause-written : goal.returns-in-Some-clause-written
 returns-in-Some-clause-written g c =
-    let value = rw c.deref.ensures at c.write_at.ensures.written in
+    let value = rw c.deref.ensures at c.write_value.ensures.written in
     rw c.in-Some.is (writes_then g.met.O.Target.more {xs = Space ∷ Word (Punctuation equals) ∷ Space ∷ []} (c.write_words.ensures.items _ _ _ refl) value)
 
 pub returns-in_default-clause-written : goal.returns-in_default-clause-written

@@ -1,9 +1,9 @@
-use Rattle.std.proofs.Common.{◌≡◌, ◌+◌, ◌≤◌, false, length, arith, sym, subst, ap, ap₂, ◌∙◌, map-id}
+use Rattle.std.proofs.Common.{◌+◌, ◌≤◌, false, length, arith, sym, subst, ap, ap₂, ◌∙◌, map-id}
 use Rattle.std.proofs.lemmas.Iterator.{YieldsList-from_chars}
 use Rattle.std.proofs.lemmas.Iterator.Consumers.{YieldsList-end}
 use Rattle.std.proofs.lemmas.List.{length_push}
 use Rattle.graphql_ast.specs.LinesAndColumns.{position_behind}
-use Rattle.graphql_ast.proofs.LinesAndColumnsSteps.{ends_with_return, ends_more, next_position, next_size, position_more, size}
+use Rattle.graphql_ast.proofs.LinesAndColumnsSteps.{ends_more, next_position, next_size, position_more, size}
 use Rattle.graphql_ast.proofs.document.lines_and_columns.position_behind.Goals as goal
 
 pub loop-character-preserved : goal.loop-character-preserved

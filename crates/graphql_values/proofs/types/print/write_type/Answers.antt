@@ -24,7 +24,7 @@ loop-inner-preserved-in-List g c =
       written = λ after mode level rest.
           c.loop-inner.invariant.written after mode level
           (rw opened.left (writes_then g.met.O.Target.more
-          (c.write_words-in-List.ensures.items mode level (Word (Punctuation lbracket) ∷ []) refl) rest));
+          (c.write_words.ensures.items mode level (Word (Punctuation lbracket) ∷ []) refl) rest));
     }
 
 pub loop-inner-preserved : goal.loop-inner-preserved
@@ -50,8 +50,6 @@ returns-clause-written g c = λ mode level.
           rw shape (writes_then g.met.O.Target.more name (rw (← w.out-is) ends))
       | in-NonNullNamed w ↦
           let shape = ap (λ ty. type_shape (type_tree ty)) w.in-NonNullNamed.is ∙ non_null_named_shape w.in-NonNullNamed.name in
-          let name =
-          writes_then g.met.O.Target.more (w.write_name-in-NonNullNamed.ensures mode level)
-          (w.write_words.ensures.items mode level (Word (Punctuation bang) ∷ []) refl) in
+          let name = w.write_name_then.ensures (Word (Punctuation bang) ∷ []) refl mode level in
           rw shape (writes_then g.met.O.Target.more name (rw (← w.out-is) ends))
     ])

@@ -1,10 +1,9 @@
 use Rattle.std.proofs.Common.{[], ◌∷◌, ap, arith, refl, le_refl}
-use Rattle.graphql_base.specs.Name.{name_text}
 use Rattle.graphql_text.specs.code.Groups.{comma_rest}
 use Rattle.graphql_text.specs.layout.Layout.{Space, Word, is_broken}
 use Rattle.graphql_text.specs.code.Place.{mode_of}
 use Rattle.graphql_text.specs.code.Stack.{stack_entries}
-use Rattle.graphql_text.specs.lexical.Tokens.{colon, rbrace, Punctuation, Name}
+use Rattle.graphql_text.specs.lexical.Tokens.{colon, rbrace, Punctuation}
 use Rattle.graphql_text.proofs.code.PendingStackSteps.{goes_on_after}
 use Rattle.graphql_text.proofs.code.WritingSteps.{beginning_none, beginning_next, writes_levels, writes_then}
 use Rattle.graphql_values.specs.kinds.Values.{object_fields_nesting, object_fields_shapes}
@@ -22,9 +21,7 @@ loop-field-preserved g c =
     let broken = is_broken (mode_of c.args.here.now.prefix) in
     let i = c.loop-field.invariant in
     let split = c.in-Some.ensures.cases.0 in
-    let name =
-    writes_then more {xs = Word (Name (name_text c.in-Some.field.now.0)) ∷ []} (c.write_name.ensures _ _)
-    (c.write_words.ensures.items _ _ (Word (Punctuation colon) ∷ Space ∷ []) refl) in
+    let name = c.write_name_then.ensures (Word (Punctuation colon) ∷ Space ∷ []) refl _ _ in
     let leaf = rw c.deref-in-Some.ensures at c.write_leaf.ensures in
     let lead =
     beginning_next more i.written

@@ -42,9 +42,7 @@ returns-in-Some-clause-written g c =
     let nests = ap (λ fields. object_fields_nesting (object_field_trees fields)) split in
     let words = Word (Name (name_text c.in-Some.field.now.0)) ∷ Word (Punctuation colon) ∷ Space ∷ [] in
     let lead = comma_lead c.args.is_first ++ words in
-    let name =
-    writes_then more {xs = Word (Name (name_text c.in-Some.field.now.0)) ∷ []} (c.write_name.ensures _ _)
-    (c.write_words.ensures.items _ _ (Word (Punctuation colon) ∷ Space ∷ []) refl) in
+    let name = c.write_name_then.ensures (Word (Punctuation colon) ∷ Space ∷ []) refl _ _ in
     let led = writes_then more c.write_comma_lead.ensures name in
     let parted =
     ap (λ fields. comma_rest rbrace b c.args.is_first (object_fields_shapes b (object_field_trees fields))) split

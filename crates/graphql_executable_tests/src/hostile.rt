@@ -104,11 +104,6 @@ fn trees_that_are_not_well_formed(rt: HostRuntime) {
     check_line(&rt, alloc, &named_on, "fragment F on on { a }", true);
     named_on.name = name!(on);
     check_line(&rt, alloc, &named_on, "fragment on on on { a }", false);
-}
-
-#[test]
-fn variables_in_a_default_value(rt: HostRuntime) {
-    let alloc = rt.alloc();
     let mut variable = variable(alloc).expect(&rt, "memory");
     let value = Node::new(alloc, Value::Variable(name!(x))).expect(&rt, "memory");
     variable.default_value = Some(value);

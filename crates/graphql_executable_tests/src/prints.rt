@@ -50,6 +50,10 @@ fn of_operations(rt: HostRuntime) {
         query.serialize(),
         "\"\"\"D\"\"\"\nquery {\n  a\n}",
     );
+    let mut repeated = query_of_a(alloc).expect(&rt, "memory");
+    let again = a(alloc).expect(&rt, "memory");
+    repeated.selection_set.push(again).expect(&rt, "memory");
+    check_line(&rt, alloc, &repeated, "{ a a }", true);
 }
 
 #[test]
@@ -66,14 +70,4 @@ fn of_variables_and_fragments(rt: HostRuntime) {
     );
     let fragment = fragment(alloc).expect(&rt, "memory");
     check_line(&rt, alloc, &fragment, "\"D\" fragment F on T { a }", true);
-}
-
-/// Selections may be repeated.
-#[test]
-fn of_repeated_selections(rt: HostRuntime) {
-    let alloc = rt.alloc();
-    let mut query = query_of_a(alloc).expect(&rt, "memory");
-    let again = a(alloc).expect(&rt, "memory");
-    query.selection_set.push(again).expect(&rt, "memory");
-    check_line(&rt, alloc, &query, "{ a a }", true);
 }

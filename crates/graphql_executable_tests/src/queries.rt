@@ -58,14 +58,6 @@ fn made_of_parts(rt: HostRuntime) {
     assert!(&rt; made.as_inline_fragment().is_some() && made.location().is_none());
 }
 
-#[test]
-fn of_response_names(rt: HostRuntime) {
-    let mut field = field(rt.alloc()).expect(&rt, "memory");
-    assert_eq!(&rt; field.response_name().as_str(), "r");
-    field.alias = None;
-    assert_eq!(&rt; field.response_name().as_str(), "s");
-}
-
 /// The name of the first directive, and how many selections there are.
 fn check_contents(
     rt: &impl Abort,
@@ -74,20 +66,13 @@ fn check_contents(
     count: Option<usize>,
 ) {
     let first = selection.directives().first();
-    assert_eq!(rt; first.map(|node| node.name.as_str()), directive);
-    assert_eq!(rt; selection.selection_set().map(|set| set.len()), count);
-}
-
-#[test]
-fn of_what_stands_in_selections(rt: HostRuntime) {
-    let alloc = rt.alloc();
-    let full = Selection::field(alloc, field(alloc).expect(&rt, "memory"));
-    check_contents(&rt, full.expect(&rt, "memory"), Some("include"), Some(2));
-    check_contents(&rt, a(alloc).expect(&rt, "memory"), None, Some(0));
-    let spread = Selection::fragment_spread(alloc, FragmentSpread::new(alloc, name!(F)));
-    check_contents(&rt, spread.expect(&rt, "memory"), None, None);
-    let inline = Selection::inline_fragment(alloc, inline_fragment(alloc).expect(&rt, "memory"));
-    check_contents(&rt, inline.expect(&rt, "memory"), None, Some(1));
+    assert_eq!(rt;
+        first.map(|node| node.name.as_str()),
+        directive,
+        "{selection}"
+    );
+    let found = selection.selection_set().map(|set| set.len());
+    assert_eq!(rt; found, count, "{selection}");
 }
 
 /// What a caller knows of directives that it wrote.
@@ -109,19 +94,40 @@ fn check_written(rt: &impl Abort, alloc: Global, mut selection: Selection, wante
     assert!(rt; !other.directives().has("d"));
 }
 
+/// `...F`
+fn spread(alloc: Global) -> Result<Selection, AllocError> {
+    Selection::fragment_spread(alloc, FragmentSpread::new(alloc, name!(F)))
+}
+
+/// `... on T { id }`
+fn inline(alloc: Global) -> Result<Selection, AllocError> {
+    Selection::inline_fragment(alloc, inline_fragment(alloc)?)
+}
+
+#[test]
+fn of_what_stands_in_selections(rt: HostRuntime) {
+    let alloc = rt.alloc();
+    let full = Selection::field(alloc, field(alloc).expect(&rt, "memory"));
+    for (made, directive, count) in [
+        (full, Some("include"), Some(2)),
+        (a(alloc), None, Some(0)),
+        (spread(alloc), None, None),
+        (inline(alloc), None, Some(1)),
+    ] {
+        check_contents(&rt, made.expect(&rt, "memory"), directive, count);
+    }
+}
+
 #[test]
 fn of_directives_that_are_written(rt: HostRuntime) {
     let alloc = rt.alloc();
-    check_written(&rt, alloc, a(alloc).expect(&rt, "memory"), "a @d");
-    let spread = Selection::fragment_spread(alloc, FragmentSpread::new(alloc, name!(F)));
-    check_written(&rt, alloc, spread.expect(&rt, "memory"), "...F @d");
-    let inline = Selection::inline_fragment(alloc, inline_fragment(alloc).expect(&rt, "memory"));
-    check_written(
-        &rt,
-        alloc,
-        inline.expect(&rt, "memory"),
-        "... on T @d { id }",
-    );
+    for (made, wanted) in [
+        (a(alloc), "a @d"),
+        (spread(alloc), "...F @d"),
+        (inline(alloc), "... on T @d { id }"),
+    ] {
+        check_written(&rt, alloc, made.expect(&rt, "memory"), wanted);
+    }
 }
 
 /// `$v: Int = 1 @d, $w: W, $v: W`
@@ -149,7 +155,8 @@ fn of_variables_by_name(rt: HostRuntime) {
         let found = query.variable_by_name(name);
         assert_eq!(&rt;
             found.map(|node| node.ty.inner_named_type().as_str()),
-            wanted
+            wanted,
+            "{name}"
         );
     }
 }
@@ -167,11 +174,16 @@ fn field_with_arguments(alloc: Global) -> Result<Field, AllocError> {
 }
 
 #[test]
-fn of_arguments_by_name(rt: HostRuntime) {
+fn of_fields(rt: HostRuntime) {
+    let mut named = field(rt.alloc()).expect(&rt, "memory");
+    assert_eq!(&rt; named.response_name().as_str(), "r");
+    named.alias = None;
+    assert_eq!(&rt; named.response_name().as_str(), "s");
     let field = field_with_arguments(rt.alloc()).expect(&rt, "memory");
     for (name, wanted) in [("x", Some(1)), ("y", Some(2)), ("X", None), ("", None)] {
         let found = field.specified_argument_by_name(name);
-        assert_eq!(&rt; found.and_then(|value| value.to_i32()), wanted);
+        let number = found.and_then(|value| value.to_i32());
+        assert_eq!(&rt; number, wanted, "{name}");
     }
 }
 

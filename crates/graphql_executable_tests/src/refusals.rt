@@ -6,6 +6,7 @@ use graphql_executable::field::Field;
 use graphql_executable::fragment_spread::FragmentSpread;
 use graphql_executable::operation_definition::OperationDefinition;
 use graphql_executable::selection::Selection;
+use std::alloc::AllocError;
 
 #[test]
 fn an_operation_is_copied_and_printed_or_refused(rt: HostRuntime) {
@@ -30,18 +31,19 @@ fn a_fragment_is_copied_and_printed_or_refused(rt: HostRuntime) {
 #[test]
 fn a_selection_is_made_or_refused(rt: HostRuntime) {
     let alloc = rt.alloc();
-    if let Ok(field) = Selection::field(alloc, Field::new(alloc, name!(a))) {
-        check_text_or_refused(&rt, alloc, &field, "a");
-    }
-    let spread = FragmentSpread::new(alloc, name!(F));
-    if let Ok(spread) = Selection::fragment_spread(alloc, spread) {
-        check_text_or_refused(&rt, alloc, &spread, "...F");
-    }
-    let Ok(inline) = inline_fragment(alloc) else {
-        return;
+    let spread = Selection::fragment_spread(alloc, FragmentSpread::new(alloc, name!(F)));
+    let inline = match inline_fragment(alloc) {
+        Ok(inline) => Selection::inline_fragment(alloc, inline),
+        Err(AllocError) => Err(AllocError),
     };
-    if let Ok(inline) = Selection::inline_fragment(alloc, inline) {
-        check_text_or_refused(&rt, alloc, &inline, "... on T { id }");
+    for (made, wanted) in [
+        (Selection::field(alloc, Field::new(alloc, name!(a))), "a"),
+        (spread, "...F"),
+        (inline, "... on T { id }"),
+    ] {
+        if let Ok(selection) = made {
+            check_text_or_refused(&rt, alloc, &selection, wanted);
+        }
     }
 }
 

@@ -26,6 +26,19 @@ pub(crate) fn check_displayed<T: Display>(rt: &impl Abort, alloc: Global, tree: 
     assert_eq!(rt; text.as_str(), wanted);
 }
 
+/// Both prints of a well formed tree.
+pub(crate) fn check_both<T: Syntax, D: Display>(
+    rt: &impl Abort,
+    alloc: Global,
+    tree: &T,
+    line: &str,
+    shown: &D,
+    wanted: &str,
+) {
+    check_line(rt, alloc, tree, true, line);
+    check_displayed(rt, alloc, shown, wanted);
+}
+
 /// The text on one line, where memory may be refused.
 pub(crate) fn check_text_or_refused<T: Syntax>(
     rt: &impl Abort,

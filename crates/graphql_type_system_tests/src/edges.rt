@@ -15,7 +15,6 @@ use graphql_type_system::object_type::ObjectTypeDefinition;
 use graphql_type_system::scalar_type::ScalarTypeDefinition;
 use graphql_values::ty;
 use std::alloc::{AllocError, Global};
-use std::process::Abort;
 
 fn enum_of(alloc: Global, value: Name) -> Result<EnumTypeDefinition, AllocError> {
     let node = Node::new(alloc, EnumValueDefinition::new(alloc, value))?;
@@ -28,10 +27,13 @@ fn enum_of(alloc: Global, value: Name) -> Result<EnumTypeDefinition, AllocError>
 #[test]
 fn enum_values_that_are_none(rt: HostRuntime) {
     let alloc = rt.alloc();
-    let null = enum_of(alloc, name!("null")).expect(&rt, "memory");
-    check_line(&rt, alloc, &null, false, "enum E { null }");
-    let truth = enum_of(alloc, name!("true")).expect(&rt, "memory");
-    check_line(&rt, alloc, &truth, false, "enum E { true }");
+    for (value, wanted) in [
+        (name!("null"), "enum E { null }"),
+        (name!("true"), "enum E { true }"),
+    ] {
+        let tree = enum_of(alloc, value).expect(&rt, "memory");
+        check_line(&rt, alloc, &tree, false, wanted);
+    }
 }
 
 #[test]
@@ -54,24 +56,18 @@ fn described_scalar(alloc: Global, description: &str) -> Result<ScalarTypeDefini
     })
 }
 
-fn check_description(rt: &impl Abort, alloc: Global, description: &str, wanted: &str) {
-    let scalar = described_scalar(alloc, description).expect(rt, "memory");
-    check_displayed(rt, alloc, &scalar, wanted);
-}
-
 #[test]
 fn descriptions(rt: HostRuntime) {
-    let alloc = rt.alloc();
-    check_description(&rt, alloc, "", "\"\"\nscalar A");
-    check_description(
-        &rt,
-        alloc,
-        "say \"hi\"",
-        "\"\"\"\nsay \"hi\"\n\"\"\"\nscalar A",
-    );
-    check_description(&rt, alloc, "C:\\", "\"\"\"\nC:\\\n\"\"\"\nscalar A");
-    check_description(&rt, alloc, "a\r\nb", "\"a\\r\\nb\"\nscalar A");
-    check_description(&rt, alloc, "a\n\nb", "\"\"\"\na\n\nb\n\"\"\"\nscalar A");
+    for (description, wanted) in [
+        ("", "\"\"\nscalar A"),
+        ("say \"hi\"", "\"\"\"\nsay \"hi\"\n\"\"\"\nscalar A"),
+        ("C:\\", "\"\"\"\nC:\\\n\"\"\"\nscalar A"),
+        ("a\r\nb", "\"a\\r\\nb\"\nscalar A"),
+        ("a\n\nb", "\"\"\"\na\n\nb\n\"\"\"\nscalar A"),
+    ] {
+        let scalar = described_scalar(rt.alloc(), description).expect(&rt, "memory");
+        check_displayed(&rt, rt.alloc(), &scalar, wanted);
+    }
 }
 
 /// A type of so many fields.
@@ -87,20 +83,7 @@ fn object_of(alloc: Global, count: usize) -> Result<ObjectTypeDefinition, AllocE
     })
 }
 
-#[test]
-fn ten_thousand_fields(rt: HostRuntime) {
-    let alloc = rt.alloc();
-    let object = object_of(alloc, 10_000).expect(&rt, "memory");
-    let text = object
-        .serialize()
-        .no_indent()
-        .to_text(alloc)
-        .expect(&rt, "memory");
-    assert_eq!(rt; text.len(), 70_010);
-    let same = object.clone().expect(&rt, "memory");
-    assert!(rt; same == object);
-}
-
+/// The last level that there is, and ten thousand fields.
 #[test]
 fn levels_at_the_edge(rt: HostRuntime) {
     let alloc = rt.alloc();
@@ -113,6 +96,15 @@ fn levels_at_the_edge(rt: HostRuntime) {
     assert_eq!(rt; last.as_str(), "type T { f: Int }");
     let above = print.initial_indent_level(usize::MAX).to_text(alloc);
     assert!(rt; above.is_err_and(|error| error == PrintError::LevelOverflow));
+    let wide = object_of(alloc, 10_000).expect(&rt, "memory");
+    let text = wide
+        .serialize()
+        .no_indent()
+        .to_text(alloc)
+        .expect(&rt, "memory");
+    assert_eq!(rt; text.len(), 70_010);
+    let same = wide.clone().expect(&rt, "memory");
+    assert!(rt; same == wide);
 }
 
 /// A sink that takes so many bytes, one a call, and then faults.

@@ -1,6 +1,6 @@
 //! Prints of each kind, a definition and an extension each, where memory is ample. How trees are laid out further is
 //! told by the cases of another program.
-use crate::checks::{check_displayed, check_line};
+use crate::checks::{check_both, check_displayed};
 use crate::samples::{directives, field, int_input, object};
 use graphql_base::name;
 use graphql_base::node::{Node, NodeStr};
@@ -16,7 +16,6 @@ use graphql_type_system::union_type::{UnionTypeDefinition, UnionTypeExtension};
 use graphql_values::operation_type::OperationType;
 use graphql_values::ty;
 use std::alloc::{AllocError, Global};
-use std::process::Abort;
 
 fn schema(alloc: Global) -> Result<SchemaDefinition, AllocError> {
     Ok(SchemaDefinition {
@@ -38,38 +37,23 @@ fn schema_extension(alloc: Global) -> Result<SchemaExtension, AllocError> {
 }
 
 #[test]
-fn of_schemas(rt: HostRuntime) {
+fn of_schemas_and_fields(rt: HostRuntime) {
     let alloc = rt.alloc();
-    let definition = schema(alloc).expect(&rt, "memory");
-    assert!(rt; definition.is_well_formed());
-    check_line(
-        &rt,
-        alloc,
-        &definition,
-        true,
-        "\"S\" schema @d { query: Q mutation: M }",
-    );
-    check_displayed(
-        &rt,
-        alloc,
-        &definition.serialize(),
-        "\"\"\"S\"\"\"\nschema @d {\n  query: Q\n  mutation: M\n}",
-    );
+    let schema = schema(alloc).expect(&rt, "memory");
+    assert!(rt; schema.is_well_formed());
+    let line = "\"S\" schema @d { query: Q mutation: M }";
+    let wanted = "\"\"\"S\"\"\"\nschema @d {\n  query: Q\n  mutation: M\n}";
+    check_both(&rt, alloc, &schema, line, &schema.serialize(), wanted);
     let extension = schema_extension(alloc).expect(&rt, "memory");
     assert!(rt; extension.is_well_formed());
-    check_line(
-        &rt,
-        alloc,
-        &extension,
-        true,
-        "extend schema { subscription: S }",
-    );
-    check_displayed(
-        &rt,
-        alloc,
-        &extension,
-        "extend schema {\n  subscription: S\n}",
-    );
+    let line = "extend schema { subscription: S }";
+    let wanted = "extend schema {\n  subscription: S\n}";
+    check_both(&rt, alloc, &extension, line, &extension, wanted);
+    let field = field(alloc).expect(&rt, "memory");
+    assert!(rt; field.is_well_formed());
+    let line = "\"F\" f(x: Int = 1): [String!]! @e";
+    let wanted = "\"\"\"F\"\"\"\nf(x: Int = 1): [String!]! @e";
+    check_both(&rt, alloc, &field, line, &field.serialize(), wanted);
 }
 
 #[test]
@@ -81,16 +65,17 @@ fn of_scalar_types(rt: HostRuntime) {
         ..ScalarTypeExtension::new(alloc, name!(A))
     };
     assert!(rt; extension.is_well_formed());
-    check_line(&rt, alloc, &extension, true, "extend scalar A @d");
-    check_displayed(&rt, alloc, &extension.serialize(), "extend scalar A @d");
+    let line = "extend scalar A @d";
+    check_both(&rt, alloc, &extension, line, &extension.serialize(), line);
     let description = NodeStr::new_str(alloc, "Hi").expect(&rt, "memory");
     let definition = ScalarTypeDefinition {
         description: Some(description),
         ..ScalarTypeDefinition::new(alloc, name!(A))
     };
     assert!(rt; definition.is_well_formed());
-    check_line(&rt, alloc, &definition, true, "\"Hi\" scalar A");
-    check_displayed(&rt, alloc, &definition, "\"\"\"Hi\"\"\"\nscalar A");
+    let line = "\"Hi\" scalar A";
+    let wanted = "\"\"\"Hi\"\"\"\nscalar A";
+    check_both(&rt, alloc, &definition, line, &definition, wanted);
 }
 
 #[test]
@@ -98,19 +83,9 @@ fn of_object_types(rt: HostRuntime) {
     let alloc = rt.alloc();
     let definition = object(alloc).expect(&rt, "memory");
     assert!(rt; definition.is_well_formed());
-    check_line(
-        &rt,
-        alloc,
-        &definition,
-        true,
-        "type T implements A & B @d { \"F\" f(x: Int = 1): [String!]! @e }",
-    );
-    check_displayed(
-        &rt,
-        alloc,
-        &definition,
-        "type T implements A & B @d {\n  \"\"\"F\"\"\"\n  f(x: Int = 1): [String!]! @e\n}",
-    );
+    let line = "type T implements A & B @d { \"F\" f(x: Int = 1): [String!]! @e }";
+    let wanted = "type T implements A & B @d {\n  \"\"\"F\"\"\"\n  f(x: Int = 1): [String!]! @e\n}";
+    check_both(&rt, alloc, &definition, line, &definition, wanted);
     let extension = ObjectTypeExtension {
         implements_interfaces: definition
             .implements_interfaces
@@ -119,143 +94,82 @@ fn of_object_types(rt: HostRuntime) {
         ..ObjectTypeExtension::new(alloc, name!(T))
     };
     assert!(rt; extension.is_well_formed());
-    check_line(
-        &rt,
-        alloc,
-        &extension,
-        true,
-        "extend type T implements A & B",
-    );
-    check_displayed(
-        &rt,
-        alloc,
-        &extension.serialize(),
-        "extend type T implements A & B",
-    );
+    let line = "extend type T implements A & B";
+    check_both(&rt, alloc, &extension, line, &extension.serialize(), line);
 }
 
 #[test]
-fn of_interface_types(rt: HostRuntime) {
+fn of_interface_and_input_object_types(rt: HostRuntime) {
     let alloc = rt.alloc();
     let field = FieldDefinition::new(alloc, name!(f), ty!(Int));
     let node = Node::new(alloc, field).expect(&rt, "memory");
-    let definition = InterfaceTypeDefinition {
+    let interface = InterfaceTypeDefinition {
         fields: vec![in alloc; node].expect(&rt, "memory"),
         ..InterfaceTypeDefinition::new(alloc, name!(N))
     };
-    assert!(rt; definition.is_well_formed());
-    check_line(&rt, alloc, &definition, true, "interface N { f: Int }");
-    check_displayed(
-        &rt,
-        alloc,
-        &definition.serialize(),
-        "interface N {\n  f: Int\n}",
-    );
+    assert!(rt; interface.is_well_formed());
+    let (line, wanted) = ("interface N { f: Int }", "interface N {\n  f: Int\n}");
+    check_both(&rt, alloc, &interface, line, &interface.serialize(), wanted);
     let extension = InterfaceTypeExtension {
-        fields: definition.fields.clone().expect(&rt, "memory"),
+        fields: interface.fields.clone().expect(&rt, "memory"),
         ..InterfaceTypeExtension::new(alloc, name!(N))
     };
     assert!(rt; extension.is_well_formed());
-    check_line(
-        &rt,
-        alloc,
-        &extension,
-        true,
-        "extend interface N { f: Int }",
-    );
-    check_displayed(&rt, alloc, &extension, "extend interface N {\n  f: Int\n}");
+    let line = "extend interface N { f: Int }";
+    let wanted = "extend interface N {\n  f: Int\n}";
+    check_both(&rt, alloc, &extension, line, &extension, wanted);
+    let field = int_input(alloc, name!(a), true).expect(&rt, "memory");
+    let input = InputObjectTypeDefinition {
+        fields: vec![in alloc; field].expect(&rt, "memory"),
+        ..InputObjectTypeDefinition::new(alloc, name!(I))
+    };
+    assert!(rt; input.is_well_formed());
+    let (line, wanted) = ("input I { a: Int = 1 }", "input I {\n  a: Int = 1\n}");
+    check_both(&rt, alloc, &input, line, &input.serialize(), wanted);
+    let extension = InputObjectTypeExtension {
+        fields: input.fields.clone().expect(&rt, "memory"),
+        ..InputObjectTypeExtension::new(alloc, name!(I))
+    };
+    assert!(rt; extension.is_well_formed());
+    let line = "extend input I { a: Int = 1 }";
+    let wanted = "extend input I {\n  a: Int = 1\n}";
+    check_both(&rt, alloc, &extension, line, &extension, wanted);
 }
 
 #[test]
-fn of_union_types(rt: HostRuntime) {
+fn of_union_and_enum_types(rt: HostRuntime) {
     let alloc = rt.alloc();
-    let definition = UnionTypeDefinition {
+    let union_type = UnionTypeDefinition {
         directives: directives(alloc, name!(d)).expect(&rt, "memory"),
         members: vec![in alloc; name!(A), name!(B)].expect(&rt, "memory"),
         ..UnionTypeDefinition::new(alloc, name!(U))
     };
-    assert!(rt; definition.is_well_formed());
-    check_line(&rt, alloc, &definition, true, "union U @d = A | B");
-    check_displayed(&rt, alloc, &definition.serialize(), "union U @d = A | B");
+    assert!(rt; union_type.is_well_formed());
+    let line = "union U @d = A | B";
+    check_both(&rt, alloc, &union_type, line, &union_type.serialize(), line);
     let extension = UnionTypeExtension {
         members: vec![in alloc; name!(A)].expect(&rt, "memory"),
         ..UnionTypeExtension::new(alloc, name!(U))
     };
     assert!(rt; extension.is_well_formed());
-    check_line(&rt, alloc, &extension, true, "extend union U = A");
-    check_displayed(&rt, alloc, &extension, "extend union U = A");
-}
-
-#[test]
-fn of_enum_types(rt: HostRuntime) {
-    let alloc = rt.alloc();
+    let line = "extend union U = A";
+    check_both(&rt, alloc, &extension, line, &extension, line);
     let value = EnumValueDefinition::new(alloc, name!(A));
     assert!(rt; value.is_well_formed());
     check_displayed(&rt, alloc, &value.serialize(), "A");
     let node = Node::new(alloc, value).expect(&rt, "memory");
-    let definition = EnumTypeDefinition {
+    let enum_type = EnumTypeDefinition {
         values: vec![in alloc; node].expect(&rt, "memory"),
         ..EnumTypeDefinition::new(alloc, name!(E))
     };
-    assert!(rt; definition.is_well_formed());
-    check_line(&rt, alloc, &definition, true, "enum E { A }");
-    check_displayed(&rt, alloc, &definition.serialize(), "enum E {\n  A\n}");
+    assert!(rt; enum_type.is_well_formed());
+    let (line, wanted) = ("enum E { A }", "enum E {\n  A\n}");
+    check_both(&rt, alloc, &enum_type, line, &enum_type.serialize(), wanted);
     let extension = EnumTypeExtension {
         directives: directives(alloc, name!(d)).expect(&rt, "memory"),
         ..EnumTypeExtension::new(alloc, name!(E))
     };
     assert!(rt; extension.is_well_formed());
-    check_line(&rt, alloc, &extension, true, "extend enum E @d");
-    check_displayed(&rt, alloc, &extension, "extend enum E @d");
-}
-
-#[test]
-fn of_input_object_types(rt: HostRuntime) {
-    let alloc = rt.alloc();
-    let field = int_input(alloc, name!(a), true).expect(&rt, "memory");
-    let definition = InputObjectTypeDefinition {
-        fields: vec![in alloc; field].expect(&rt, "memory"),
-        ..InputObjectTypeDefinition::new(alloc, name!(I))
-    };
-    assert!(rt; definition.is_well_formed());
-    check_line(&rt, alloc, &definition, true, "input I { a: Int = 1 }");
-    check_displayed(
-        &rt,
-        alloc,
-        &definition.serialize(),
-        "input I {\n  a: Int = 1\n}",
-    );
-    let extension = InputObjectTypeExtension {
-        fields: definition.fields.clone().expect(&rt, "memory"),
-        ..InputObjectTypeExtension::new(alloc, name!(I))
-    };
-    assert!(rt; extension.is_well_formed());
-    check_line(
-        &rt,
-        alloc,
-        &extension,
-        true,
-        "extend input I { a: Int = 1 }",
-    );
-    check_displayed(&rt, alloc, &extension, "extend input I {\n  a: Int = 1\n}");
-}
-
-#[test]
-fn of_fields(rt: HostRuntime) {
-    let alloc = rt.alloc();
-    let field = field(alloc).expect(&rt, "memory");
-    assert!(rt; field.is_well_formed());
-    check_line(
-        &rt,
-        alloc,
-        &field,
-        true,
-        "\"F\" f(x: Int = 1): [String!]! @e",
-    );
-    check_displayed(
-        &rt,
-        alloc,
-        &field.serialize(),
-        "\"\"\"F\"\"\"\nf(x: Int = 1): [String!]! @e",
-    );
+    let line = "extend enum E @d";
+    check_both(&rt, alloc, &extension, line, &extension, line);
 }

@@ -91,32 +91,29 @@ fn fields(alloc: Global) -> Result<Vec<Node<FieldDefinition>>, AllocError> {
 }
 
 #[test]
-fn of_fields_of_object_types(rt: HostRuntime) {
+fn of_fields_by_name(rt: HostRuntime) {
     let alloc = rt.alloc();
-    let mut definition = ObjectTypeDefinition::new(alloc, name!(A));
-    let mut extension = ObjectTypeExtension::new(alloc, name!(A));
-    assert!(rt; definition.field_by_name("x").is_none());
-    assert!(rt; extension.field_by_name("x").is_none());
-    definition.fields = fields(alloc).expect(&rt, "memory");
-    extension.fields = fields(alloc).expect(&rt, "memory");
+    let mut object = ObjectTypeDefinition::new(alloc, name!(A));
+    let mut of_object = ObjectTypeExtension::new(alloc, name!(A));
+    let mut interface = InterfaceTypeDefinition::new(alloc, name!(A));
+    let mut of_interface = InterfaceTypeExtension::new(alloc, name!(A));
+    assert!(rt; object.field_by_name("x").is_none());
+    assert!(rt; of_object.field_by_name("x").is_none());
+    assert!(rt; interface.field_by_name("x").is_none());
+    assert!(rt; of_interface.field_by_name("x").is_none());
+    object.fields = fields(alloc).expect(&rt, "memory");
+    of_object.fields = fields(alloc).expect(&rt, "memory");
+    interface.fields = fields(alloc).expect(&rt, "memory");
+    of_interface.fields = fields(alloc).expect(&rt, "memory");
     for (name, wanted) in asked() {
-        assert_eq!(rt; told(definition.field_by_name(name)), wanted, "{name}");
-        assert_eq!(rt; told(extension.field_by_name(name)), wanted, "{name}");
-    }
-}
-
-#[test]
-fn of_fields_of_interface_types(rt: HostRuntime) {
-    let alloc = rt.alloc();
-    let mut definition = InterfaceTypeDefinition::new(alloc, name!(A));
-    let mut extension = InterfaceTypeExtension::new(alloc, name!(A));
-    assert!(rt; definition.field_by_name("x").is_none());
-    assert!(rt; extension.field_by_name("x").is_none());
-    definition.fields = fields(alloc).expect(&rt, "memory");
-    extension.fields = fields(alloc).expect(&rt, "memory");
-    for (name, wanted) in asked() {
-        assert_eq!(rt; told(definition.field_by_name(name)), wanted, "{name}");
-        assert_eq!(rt; told(extension.field_by_name(name)), wanted, "{name}");
+        for (whose, found) in [
+            ("object", object.field_by_name(name)),
+            ("extended object", of_object.field_by_name(name)),
+            ("interface", interface.field_by_name(name)),
+            ("extended interface", of_interface.field_by_name(name)),
+        ] {
+            assert_eq!(rt; told(found), wanted, "{name} of {whose}");
+        }
     }
 }
 
@@ -149,10 +146,12 @@ fn of_values_by_name(rt: HostRuntime) {
     definition.values = values(alloc).expect(&rt, "memory");
     extension.values = values(alloc).expect(&rt, "memory");
     for (name, wanted) in asked() {
-        let found = definition.value_by_name(name);
-        assert_eq!(rt; told_of_value(found), wanted, "{name}");
-        let found = extension.value_by_name(name);
-        assert_eq!(rt; told_of_value(found), wanted, "{name}");
+        for (whose, found) in [
+            ("definition", definition.value_by_name(name)),
+            ("extension", extension.value_by_name(name)),
+        ] {
+            assert_eq!(rt; told_of_value(found), wanted, "{name} of {whose}");
+        }
     }
 }
 
@@ -184,11 +183,12 @@ fn of_inputs_by_name(rt: HostRuntime) {
     extension.fields = inputs(alloc).expect(&rt, "memory");
     field.arguments = inputs(alloc).expect(&rt, "memory");
     for (name, wanted) in asked() {
-        let found = definition.field_by_name(name);
-        assert_eq!(rt; told_of_input(found), wanted, "{name}");
-        let found = extension.field_by_name(name);
-        assert_eq!(rt; told_of_input(found), wanted, "{name}");
-        let found = field.argument_by_name(name);
-        assert_eq!(rt; told_of_input(found), wanted, "{name}");
+        for (whose, found) in [
+            ("definition", definition.field_by_name(name)),
+            ("extension", extension.field_by_name(name)),
+            ("field", field.argument_by_name(name)),
+        ] {
+            assert_eq!(rt; told_of_input(found), wanted, "{name} of {whose}");
+        }
     }
 }

@@ -51,10 +51,6 @@ fn valid_texts_are_names(rt: HostRuntime) {
         check_made_new(&rt, Name::new_static(rt.alloc(), text), text, true);
         check_made_new(&rt, new_shared(rt.alloc(), text), text, false);
     }
-}
-
-#[test]
-fn a_long_text_is_a_name(rt: HostRuntime) {
     let long = letters(rt.alloc(), 10_000).expect(&rt, "memory");
     let text = long.as_str();
     assert!(rt; Name::is_valid_syntax(text));
@@ -80,26 +76,22 @@ fn other_texts_are_refused(rt: HostRuntime) {
 #[test]
 fn names_are_made_without_a_test(rt: HostRuntime) {
     let alloc = rt.alloc();
-    check_new(&rt, &Name::new_static_unchecked("abc"), "abc", true);
     let text = "abc";
     assert!(rt; Name::is_valid_syntax(text));
-    check_new(
-        &rt,
-        &Name::new_unchecked(alloc, text).expect(&rt, "memory"),
-        text,
-        false,
-    );
+    let made = Name::new_unchecked(alloc, text).expect(&rt, "memory");
     let shared = RcStr::from_str(alloc, text).expect(&rt, "memory");
     assert!(rt; Name::is_valid_syntax(shared.as_str()));
-    check_new(&rt, &Name::from_arc_unchecked(shared), text, false);
-}
-
-#[test]
-fn the_macro_makes_static_names(rt: HostRuntime) {
-    check_new(&rt, &name!(abc), "abc", true);
-    check_new(&rt, &name!("__typename"), "__typename", true);
     let query: NamedType = name!(Query);
-    check_new(&rt, &query, "Query", true);
+    for (name, text, is_static) in [
+        (Name::new_static_unchecked("abc"), text, true),
+        (made, text, false),
+        (Name::from_arc_unchecked(shared), text, false),
+        (name!(abc), text, true),
+        (name!("__typename"), "__typename", true),
+        (query, "Query", true),
+    ] {
+        check_new(&rt, &name, text, is_static);
+    }
 }
 
 fn span() -> Option<SourceSpan> {
@@ -120,6 +112,7 @@ fn check_placed(rt: &impl Abort, name: &Name) {
     assert_eq!(rt; name.as_static_str(), None);
 }
 
+/// So has a clone, and a static name that stays static. It is no part of the name.
 #[test]
 fn a_name_has_a_location(rt: HostRuntime) {
     let name = placed(&rt, rt.alloc());
@@ -127,40 +120,15 @@ fn a_name_has_a_location(rt: HostRuntime) {
     let copy = name.clone().expect(&rt, "memory");
     check_placed(&rt, &copy);
     assert_eq!(rt; copy.as_ref(), &name);
-}
-
-/// It stays static, and so does a clone.
-#[test]
-fn a_static_name_has_a_location(rt: HostRuntime) {
-    let span = span().expect(&rt, "in order");
-    assert_eq!(rt; span.len(), 3);
-    let name = name!(abc).with_location(span);
-    let copy = name.clone().expect(&rt, "memory");
-    assert_eq!(rt; copy.as_static_str(), Some("abc"));
-    assert_eq!(rt; copy.location(), Some(span));
-}
-
-#[test]
-fn a_location_is_no_part_of_the_name(rt: HostRuntime) {
-    let name = placed(&rt, rt.alloc());
     let bare = name!(abc);
     assert_eq!(rt; bare.location(), None);
     assert_eq!(rt; name, bare);
-}
-
-fn check_static(rt: &impl Abort, name: &Name, text: Option<&str>) {
-    assert_eq!(rt; name.as_static_str(), text);
-}
-
-#[test]
-fn a_text_is_static_or_shared(rt: HostRuntime) {
-    let shared = Name::new(rt.alloc(), "abc").expect(&rt, "memory");
-    check_static(&rt, &shared, None);
-    let fixed = Name::new_static(rt.alloc(), "abc").expect(&rt, "memory");
-    check_static(&rt, &fixed, Some("abc"));
-    assert_eq!(rt; shared, fixed);
+    let span = span().expect(&rt, "in order");
+    assert_eq!(rt; span.len(), 3);
+    let fixed = name!(abc).with_location(span);
     let copy = fixed.clone().expect(&rt, "memory");
-    check_static(&rt, &copy, Some("abc"));
+    assert_eq!(rt; copy.as_static_str(), Some("abc"));
+    assert_eq!(rt; copy.location(), Some(span));
 }
 
 /// How many bytes of text names have, and whether they stand in place.
@@ -235,37 +203,38 @@ fn names_of_one_text_are_alike(rt: HostRuntime) {
             }
         }
     }
+    let mut names = HashSet::new(alloc);
+    names.insert(name!(abc)).expect(&rt, "memory");
+    assert!(rt; names.contains(&Name::new(alloc, "abc").expect(&rt, "memory")));
+    assert!(rt; !names.contains(&name!(ab)));
 }
 
-fn check_shared(rt: &impl Abort, made: Result<RcStr, AllocError>, wanted: &str) {
-    let text = made.expect(rt, "memory");
-    check_text(rt, text.as_str(), wanted);
-}
-
-#[test]
-fn a_shared_text_is_taken_out(rt: HostRuntime) {
-    let shared = Name::new(rt.alloc(), "abc").expect(&rt, "memory");
-    let copy = shared.to_cloned_arc().expect(&rt, "memory");
-    let text = copy.expect(&rt, "a shared text");
-    check_text(&rt, text.as_str(), "abc");
-    check_shared(&rt, shared.into_shared(rt.alloc()), "abc");
-}
-
-#[test]
-fn a_text_in_place_is_shared_anew(rt: HostRuntime) {
-    let name = Name::compact(rt.alloc(), "abc").expect(&rt, "a name");
-    let copy = name.to_cloned_arc().expect(&rt, "memory");
-    let text = copy.expect(&rt, "no static text");
-    check_text(&rt, text.as_str(), "abc");
-    check_shared(&rt, name.into_shared(rt.alloc()), "abc");
+/// The name `abc`, with a text that is shared, in place or static.
+fn names_of_each_form(alloc: Global) -> Result<[(Name, Option<&'static str>); 3], NameError> {
+    Ok([
+        (Name::new(alloc, "abc")?, None),
+        (Name::compact(alloc, "abc")?, None),
+        (Name::new_static(alloc, "abc")?, Some("abc")),
+    ])
 }
 
 #[test]
-fn a_static_text_is_shared_anew(rt: HostRuntime) {
-    let fixed = Name::new_static(rt.alloc(), "abc").expect(&rt, "memory");
-    let copy = fixed.to_cloned_arc().expect(&rt, "memory");
-    assert!(rt; copy.is_none());
-    check_shared(&rt, fixed.into_shared(rt.alloc()), "abc");
+fn texts_are_static_or_shared(rt: HostRuntime) {
+    for (name, text) in names_of_each_form(rt.alloc()).expect(&rt, "memory") {
+        assert_eq!(rt; name, name!(abc));
+        assert_eq!(rt; name.as_static_str(), text);
+        let copy = name.clone().expect(&rt, "memory");
+        assert_eq!(rt; copy.as_static_str(), text);
+        let taken = name.to_cloned_arc().expect(&rt, "memory");
+        let wanted = if text.is_some() { None } else { Some("abc") };
+        assert_eq!(rt;
+            taken.as_ref().map(|text| text.as_str()),
+            wanted,
+            "{text:?}"
+        );
+        let shared = name.into_shared(rt.alloc()).expect(&rt, "memory");
+        check_text(&rt, shared.as_str(), "abc");
+    }
 }
 
 fn check_order(rt: &impl Abort, name: &Name, other: &Name, order: Ordering) {
@@ -284,15 +253,6 @@ fn names_are_in_byte_order(rt: HostRuntime) {
             check_order(&rt, name, other, place.cmp(&other_place));
         }
     }
-}
-
-#[test]
-fn equal_names_are_one_key(rt: HostRuntime) {
-    let alloc = rt.alloc();
-    let mut names = HashSet::new(alloc);
-    names.insert(name!(abc)).expect(&rt, "memory");
-    assert!(rt; names.contains(&Name::new(alloc, "abc").expect(&rt, "memory")));
-    assert!(rt; !names.contains(&name!(ab)));
 }
 
 #[test]
@@ -329,17 +289,8 @@ fn errors_have_their_texts(rt: HostRuntime) {
         format!(in alloc; "{}", inner.expect(&rt, "invalid")),
         "`1nvalid` is not a valid GraphQL name",
     );
-}
-
-#[test]
-fn errors_compare_by_variant_and_fields(rt: HostRuntime) {
-    let error = invalid(rt.alloc(), "a b").expect(&rt, "memory");
-    let copy = error.clone().expect(&rt, "memory");
-    assert_eq!(rt; copy, error);
-    let other = invalid(rt.alloc(), "a c").expect(&rt, "memory");
-    assert_ne!(rt; error, other);
-    assert_ne!(rt; error, NameError::Memory);
-    assert_eq!(rt; NameError::Memory, NameError::Memory);
+    let error = Name::new(alloc, "1").err().expect(&rt, "no name");
+    assert!(rt; !error.is_memory() && NameError::Memory.is_memory());
 }
 
 /// The error of the text `a b` that stood somewhere.
@@ -351,16 +302,19 @@ fn elsewhere(alloc: Global) -> Result<InvalidNameError, AllocError> {
 }
 
 #[test]
-fn errors_compare_by_location(rt: HostRuntime) {
+fn errors_compare_by_variant_and_fields(rt: HostRuntime) {
+    let error = invalid(rt.alloc(), "a b").expect(&rt, "memory");
+    let copy = error.clone().expect(&rt, "memory");
+    assert_eq!(rt; copy, error);
     let elsewhere = elsewhere(rt.alloc()).expect(&rt, "memory");
     let copy = elsewhere.clone().expect(&rt, "memory");
     assert_eq!(rt; copy, elsewhere);
-    let error = invalid(rt.alloc(), "a b").expect(&rt, "memory");
-    assert_ne!(rt; error, NameError::Invalid(elsewhere));
-}
-
-#[test]
-fn which_error_is_for_memory(rt: HostRuntime) {
-    let error = Name::new(rt.alloc(), "1").err().expect(&rt, "no name");
-    assert!(rt; !error.is_memory() && NameError::Memory.is_memory());
+    for other in [
+        invalid(rt.alloc(), "a c").expect(&rt, "memory"),
+        NameError::Memory,
+        NameError::Invalid(elsewhere),
+    ] {
+        assert_ne!(rt; error, other);
+    }
+    assert_eq!(rt; NameError::Memory, NameError::Memory);
 }

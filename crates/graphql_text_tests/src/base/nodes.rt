@@ -18,44 +18,23 @@ fn check_number(rt: &impl Abort, node: &Node<u8>, value: u8, location: Option<So
     );
 }
 
+/// It has a value and a location, which a clone and a node beside it have too, of whichever type that one's value is.
 #[test]
 fn a_node_is_its_value_and_location(rt: HostRuntime) {
+    let alloc = rt.alloc();
     let span = span_in(&rt, 5);
-    let bare = Node::new(rt.alloc(), 1u8).expect(&rt, "memory");
-    check_number(&rt, &bare, 1, None);
-    let placed = Node::new_parsed(rt.alloc(), 2u8, span).expect(&rt, "memory");
-    check_number(&rt, &placed, 2, Some(span));
-}
-
-#[test]
-fn a_node_can_stand_where_another_does(rt: HostRuntime) {
-    let span = span_in(&rt, 5);
-    let placed = Node::new_parsed(rt.alloc(), 2u8, span).expect(&rt, "memory");
-    let beside = placed.same_location(rt.alloc(), 4u8).expect(&rt, "memory");
-    check_number(&rt, &beside, 4, Some(span));
-    let bare = Node::new(rt.alloc(), 1u8).expect(&rt, "memory");
-    let beside = bare.same_location(rt.alloc(), 3u8).expect(&rt, "memory");
-    check_number(&rt, &beside, 3, None);
-}
-
-/// Nor need the two have values of one type.
-#[test]
-fn a_text_can_stand_where_a_number_does(rt: HostRuntime) {
-    let span = span_in(&rt, 5);
-    let placed = Node::new_parsed(rt.alloc(), 2u8, span).expect(&rt, "memory");
-    let beside = placed
-        .same_location(rt.alloc(), "text")
-        .expect(&rt, "memory");
-    check_text(&rt, *beside, "text");
-    assert_eq!(rt; beside.location(), Some(span));
-}
-
-#[test]
-fn a_clone_has_the_value_and_location(rt: HostRuntime) {
-    let span = span_in(&rt, 5);
-    let placed = Node::new_parsed(rt.alloc(), 2u8, span).expect(&rt, "memory");
-    let copy = placed.clone().expect(&rt, "memory");
-    check_number(&rt, &copy, 2, Some(span));
+    let placed = Node::new_parsed(alloc, 2u8, span).expect(&rt, "memory");
+    let bare = Node::new(alloc, 1u8).expect(&rt, "memory");
+    for (node, value, location) in [(placed, 2, Some(span)), (bare, 1, None)] {
+        check_number(&rt, &node, value, location);
+        let copy = node.clone().expect(&rt, "memory");
+        check_number(&rt, &copy, value, location);
+        let beside = node.same_location(alloc, 4u8).expect(&rt, "memory");
+        check_number(&rt, &beside, 4, location);
+        let beside = node.same_location(alloc, "text").expect(&rt, "memory");
+        check_text(&rt, *beside, "text");
+        assert_eq!(rt; beside.location(), location);
+    }
 }
 
 fn built_in() -> Option<SourceSpan> {
@@ -64,23 +43,17 @@ fn built_in() -> Option<SourceSpan> {
 
 #[test]
 fn what_is_built_in_is_told_by_the_file(rt: HostRuntime) {
+    let alloc = rt.alloc();
     let span = built_in().expect(&rt, "in order");
-    let node = Node::new_parsed(rt.alloc(), 1u8, span).expect(&rt, "memory");
-    assert!(rt; node.is_built_in());
-    let node = Node::new_parsed(rt.alloc(), 1u8, span_in(&rt, 5)).expect(&rt, "memory");
+    for (location, wanted) in [(span, true), (span_in(&rt, 5), false)] {
+        let node = Node::new_parsed(alloc, 1u8, location).expect(&rt, "memory");
+        assert_eq!(rt; node.is_built_in(), wanted);
+        let text = NodeStr::new_str_parsed(alloc, "a", location).expect(&rt, "memory");
+        assert_eq!(rt; text.is_built_in(), wanted);
+    }
+    let node = Node::new(alloc, 1u8).expect(&rt, "memory");
     assert!(rt; !node.is_built_in());
-    let node = Node::new(rt.alloc(), 1u8).expect(&rt, "memory");
-    assert!(rt; !node.is_built_in());
-}
-
-#[test]
-fn a_text_that_is_built_in_is_told_by_the_file(rt: HostRuntime) {
-    let span = built_in().expect(&rt, "in order");
-    let text = NodeStr::new_str_parsed(rt.alloc(), "a", span).expect(&rt, "memory");
-    assert!(rt; text.is_built_in());
-    let text = NodeStr::new_str_parsed(rt.alloc(), "a", span_in(&rt, 5)).expect(&rt, "memory");
-    assert!(rt; !text.is_built_in());
-    let text = NodeStr::new_str(rt.alloc(), "a").expect(&rt, "memory");
+    let text = NodeStr::new_str(alloc, "a").expect(&rt, "memory");
     assert!(rt; !text.is_built_in());
 }
 
@@ -144,6 +117,7 @@ fn a_refused_clone_leaves_the_node(rt: HostRuntime) {
     check_unclonable(&rt, &second, span);
 }
 
+/// Compared, and as keys.
 #[test]
 fn nodes_compare_by_value(rt: HostRuntime) {
     let alloc = rt.alloc();
@@ -152,14 +126,6 @@ fn nodes_compare_by_value(rt: HostRuntime) {
     let other = here.same_location(alloc, name!(b)).expect(&rt, "memory");
     assert_eq!(rt; here, there);
     assert_ne!(rt; here, other);
-}
-
-#[test]
-fn nodes_of_one_value_are_one_key(rt: HostRuntime) {
-    let alloc = rt.alloc();
-    let here = Node::new_parsed(alloc, name!(a), span_in(&rt, 5)).expect(&rt, "memory");
-    let there = Node::new_parsed(alloc, name!(a), span_in(&rt, 6)).expect(&rt, "memory");
-    let other = here.same_location(alloc, name!(b)).expect(&rt, "memory");
     let mut nodes = HashSet::new(alloc);
     nodes.insert(here).expect(&rt, "memory");
     assert!(rt; nodes.contains(&there));
@@ -167,46 +133,38 @@ fn nodes_of_one_value_are_one_key(rt: HostRuntime) {
 }
 
 #[test]
-fn a_node_prints_its_value(rt: HostRuntime) {
+fn nodes_and_texts_print_their_values(rt: HostRuntime) {
     let alloc = rt.alloc();
     let number = Node::new(alloc, 7u8).expect(&rt, "memory");
     check_made(&rt, format!(in alloc; "{number}"), "7");
     check_made(&rt, format!(in alloc; "[{number:03}]"), "[007]");
     let name = Node::new(alloc, name!(abc)).expect(&rt, "memory");
     check_made(&rt, format!(in alloc; "[{name:>5}]"), "[  abc]");
+    let text = NodeStr::new_str(alloc, "été").expect(&rt, "memory");
+    check_made(&rt, format!(in alloc; "{text}"), "été");
+    check_made(&rt, format!(in alloc; "[{text:>5}]"), "[  été]");
+    check_made(&rt, format!(in alloc; "[{text:.1}]"), "[é]");
 }
 
 fn check_shared(rt: &impl Abort, node: &NodeStr, text: &str, location: Option<SourceSpan>) {
     assert_eq!(rt; (node.as_str(), node.location()), (text, location));
 }
 
+/// So have a clone, and a node beside it.
 #[test]
 fn a_shared_text_has_a_location(rt: HostRuntime) {
+    let alloc = rt.alloc();
     let span = span_in(&rt, 5);
-    let bare = NodeStr::new_str(rt.alloc(), "été").expect(&rt, "memory");
-    check_shared(&rt, &bare, "été", None);
-    let placed = NodeStr::new_str_parsed(rt.alloc(), "été", span).expect(&rt, "memory");
-    check_shared(&rt, &placed, "été", Some(span));
-}
-
-#[test]
-fn a_shared_text_is_copied(rt: HostRuntime) {
-    let span = span_in(&rt, 5);
-    let placed = NodeStr::new_str_parsed(rt.alloc(), "été", span).expect(&rt, "memory");
-    check_made(&rt, placed.to_text(rt.alloc()), "été");
-    let copy = placed.clone().expect(&rt, "memory");
-    check_shared(&rt, &copy, "été", Some(span));
-}
-
-#[test]
-fn a_node_can_stand_where_a_shared_text_does(rt: HostRuntime) {
-    let span = span_in(&rt, 5);
-    let placed = NodeStr::new_str_parsed(rt.alloc(), "été", span).expect(&rt, "memory");
-    let beside = placed.same_location(rt.alloc(), 1u8).expect(&rt, "memory");
-    check_number(&rt, &beside, 1, Some(span));
-    let bare = NodeStr::new_str(rt.alloc(), "été").expect(&rt, "memory");
-    let beside = bare.same_location(rt.alloc(), 1u8).expect(&rt, "memory");
-    check_number(&rt, &beside, 1, None);
+    let placed = NodeStr::new_str_parsed(alloc, "été", span).expect(&rt, "memory");
+    let bare = NodeStr::new_str(alloc, "été").expect(&rt, "memory");
+    for (text, location) in [(placed, Some(span)), (bare, None)] {
+        check_shared(&rt, &text, "été", location);
+        check_made(&rt, text.to_text(alloc), "été");
+        let copy = text.clone().expect(&rt, "memory");
+        check_shared(&rt, &copy, "été", location);
+        let beside = text.same_location(alloc, 1u8).expect(&rt, "memory");
+        check_number(&rt, &beside, 1, location);
+    }
 }
 
 #[test]
@@ -221,13 +179,4 @@ fn shared_texts_compare_by_text(rt: HostRuntime) {
     texts.insert(here).expect(&rt, "memory");
     assert!(rt; texts.contains(&there));
     assert!(rt; !texts.contains(&other));
-}
-
-#[test]
-fn a_shared_text_prints_itself(rt: HostRuntime) {
-    let alloc = rt.alloc();
-    let text = NodeStr::new_str(alloc, "été").expect(&rt, "memory");
-    check_made(&rt, format!(in alloc; "{text}"), "été");
-    check_made(&rt, format!(in alloc; "[{text:>5}]"), "[  été]");
-    check_made(&rt, format!(in alloc; "[{text:.1}]"), "[é]");
 }

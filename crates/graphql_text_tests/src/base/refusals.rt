@@ -93,7 +93,7 @@ fn check_placed_text(rt: &impl Abort, node: &NodeStr) {
 }
 
 #[test]
-fn texts_are_placed_or_refused(rt: HostRuntime) {
+fn texts_are_placed_and_cloned_or_refused(rt: HostRuntime) {
     let Ok(text) = placed_text(rt.alloc()) else {
         return;
     };
@@ -102,13 +102,6 @@ fn texts_are_placed_or_refused(rt: HostRuntime) {
         assert_eq!(rt; beside.location(), text.location());
     }
     check_placed_text(&rt, &text);
-}
-
-#[test]
-fn texts_are_cloned_or_refused(rt: HostRuntime) {
-    let Ok(text) = placed_text(rt.alloc()) else {
-        return;
-    };
     if let Ok(copy) = text.clone() {
         check_placed_text(&rt, &copy);
     }
@@ -138,13 +131,13 @@ fn names_are_made_or_refused(rt: HostRuntime) {
     if let Ok(text) = RcStr::from_str(rt.alloc(), "abc") {
         assert!(rt; Name::new_shared(rt.alloc(), text).is_ok());
     }
-}
-
-#[test]
-fn other_texts_are_refused(rt: HostRuntime) {
-    check_refused(&rt, Name::new(rt.alloc(), "1nvalid"), "1nvalid");
-    check_refused(&rt, Name::compact(rt.alloc(), "1nvalid"), "1nvalid");
-    check_refused(&rt, Name::new_static(rt.alloc(), "1nvalid"), "1nvalid");
+    for made in [
+        Name::new(rt.alloc(), "1nvalid"),
+        Name::compact(rt.alloc(), "1nvalid"),
+        Name::new_static(rt.alloc(), "1nvalid"),
+    ] {
+        check_refused(&rt, made, "1nvalid");
+    }
 }
 
 #[test]
@@ -220,12 +213,7 @@ fn names_are_cloned_or_refused(rt: HostRuntime) {
         check_placed_name(&rt, &copy);
     }
     check_placed_name(&rt, &name);
-}
-
-#[test]
-fn static_names_are_cloned_without_memory(rt: HostRuntime) {
-    let name = Name::new_static_unchecked("abc");
-    match name.clone() {
+    match Name::new_static_unchecked("abc").clone() {
         Ok(copy) => assert_eq!(rt; copy.as_static_str(), Some("abc")),
         Err(AllocError) => assert!(rt; false, "a static text takes no memory"),
     }

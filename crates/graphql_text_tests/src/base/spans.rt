@@ -19,23 +19,21 @@ fn a_span_has_its_numbers(rt: HostRuntime) {
 fn files_and_spans_compare_by_numbers(rt: HostRuntime) {
     assert_eq!(rt; FileId::new(0), FileId::BUILT_IN);
     assert_ne!(rt; FileId::new(1), FileId::BUILT_IN);
-    let span = SourceSpan::new(FileId::new(5), 10, 13);
-    assert_eq!(rt; span, SourceSpan::new(FileId::new(5), 10, 13));
-    assert_ne!(rt; span, SourceSpan::new(FileId::new(6), 10, 13));
-    assert_ne!(rt; span, SourceSpan::new(FileId::new(5), 9, 13));
-    assert_ne!(rt; span, SourceSpan::new(FileId::new(5), 10, 14));
-}
-
-#[test]
-fn files_and_spans_are_keys(rt: HostRuntime) {
     let mut files = HashSet::new(rt.alloc());
     files.insert(FileId::new(5)).expect(&rt, "memory");
     assert!(rt; files.contains(&FileId::new(5)));
     assert!(rt; !files.contains(&FileId::BUILT_IN));
+    let span = SourceSpan::new(FileId::new(5), 10, 13);
     let mut spans = HashSet::new(rt.alloc());
-    spans
-        .insert(SourceSpan::new(FileId::new(5), 10, 13))
-        .expect(&rt, "memory");
-    assert!(rt; spans.contains(&SourceSpan::new(FileId::new(5), 10, 13)));
-    assert!(rt; !spans.contains(&SourceSpan::new(FileId::new(5), 10, 14)));
+    spans.insert(span).expect(&rt, "memory");
+    for (file, start, end, is_same) in [
+        (5, 10, 13, true),
+        (6, 10, 13, false),
+        (5, 9, 13, false),
+        (5, 10, 14, false),
+    ] {
+        let other = SourceSpan::new(FileId::new(file), start, end);
+        assert!(rt; (span == other) == is_same, "{file}, {start}, {end}");
+        assert!(rt; spans.contains(&other) == is_same, "{file}, {start}, {end}");
+    }
 }

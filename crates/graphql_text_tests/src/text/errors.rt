@@ -6,22 +6,20 @@ use graphql_text::sink::SinkFault;
 
 #[test]
 fn what_errors_say(rt: HostRuntime) {
-    for (error, wanted) in [
-        (PrintError::LevelOverflow, "indentation level overflow"),
-        (PrintError::Memory, "out of memory"),
-        (PrintError::Sink, "the writer failed"),
+    for (error, wanted, is_memory) in [
+        (
+            PrintError::LevelOverflow,
+            "indentation level overflow",
+            false,
+        ),
+        (PrintError::Memory, "out of memory", true),
+        (PrintError::Sink, "the writer failed", false),
     ] {
+        assert_eq!(rt; error.is_memory(), is_memory, "{wanted}");
         check_made(&rt, format!(in rt.alloc(); "{error}"), wanted);
     }
-}
-
-#[test]
-fn what_a_fault_says(rt: HostRuntime) {
-    check_made(
-        &rt,
-        format!(in rt.alloc(); "{SinkFault}"),
-        "the writer failed",
-    );
+    let wanted = "the writer failed";
+    check_made(&rt, format!(in rt.alloc(); "{SinkFault}"), wanted);
 }
 
 #[test]
@@ -35,14 +33,8 @@ fn errors_are_equal_to_themselves_alone(rt: HostRuntime) {
         (LevelOverflow, Sink, false),
         (Memory, Sink, false),
     ] {
-        assert!(rt; (first == second) == is_same);
-        assert!(rt; (second == first) == is_same);
+        assert!(rt; (first == second) == is_same, "{first}, {second}");
+        assert!(rt; (second == first) == is_same, "{second}, {first}");
     }
     assert!(rt; SinkFault == SinkFault);
-}
-
-#[test]
-fn which_error_is_for_memory(rt: HostRuntime) {
-    assert!(rt; PrintError::Memory.is_memory());
-    assert!(rt; !PrintError::LevelOverflow.is_memory() && !PrintError::Sink.is_memory());
 }

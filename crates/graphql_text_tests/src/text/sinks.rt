@@ -1,22 +1,23 @@
 //! Sinks that take all.
 use graphql_text::sink::{StreamSink, TextSink, VecSink};
+use std::process::Abort;
 
 const TEXT: &[u8] = b"[1, 2]";
 
-#[test]
-fn a_vector_takes_all(rt: HostRuntime) {
-    let mut sink = VecSink::new(rt.alloc());
-    assert_eq!(rt; sink.put(TEXT), Ok(6));
-    assert_eq!(rt; sink.put(&[]), Ok(0));
-    assert_eq!(rt; (sink.bytes(), sink.faults()), (TEXT, 0));
-    assert_eq!(rt; sink.into_bytes().len(), 6);
-}
-
-#[test]
-fn a_writer_in_memory_takes_all(rt: HostRuntime) {
-    let mut sink = StreamSink::new(Vec::new(rt.alloc()));
+/// It takes the text, and then nothing.
+fn check_puts<S: TextSink>(rt: &impl Abort, sink: &mut S) {
     assert_eq!(rt; sink.put(TEXT), Ok(6));
     assert_eq!(rt; sink.put(&[]), Ok(0));
     assert_eq!(rt; sink.faults(), 0);
+}
+
+#[test]
+fn vectors_and_writers_take_all(rt: HostRuntime) {
+    let mut sink = VecSink::new(rt.alloc());
+    check_puts(&rt, &mut sink);
+    assert_eq!(rt; sink.bytes(), TEXT);
+    assert_eq!(rt; sink.into_bytes().len(), 6);
+    let mut sink = StreamSink::new(Vec::new(rt.alloc()));
+    check_puts(&rt, &mut sink);
     assert_eq!(rt; sink.into_inner().as_slice(), TEXT);
 }

@@ -47,15 +47,6 @@ const SMALL: [(usize, usize, Counts); 7] = [
     (1000, 3000, (3, 0, 0)),
 ];
 
-#[test]
-fn small_pieces_are_gathered(rt: HostRuntime) {
-    let item = number(rt.alloc(), 1).expect(&rt, "memory");
-    for (count, room, counts) in SMALL {
-        let list = repeated(rt.alloc(), &item, count).expect(&rt, "memory");
-        check_counted(&rt, &list, room, counts);
-    }
-}
-
 /// An enum value of so many letters.
 fn long_name(rt: &impl Abort, alloc: Global, length: usize) -> Node<Value> {
     let text = "x".repeat(alloc, length).expect(rt, "memory");
@@ -70,8 +61,14 @@ const LONG: [(usize, usize, Counts); 3] = [
     (500, 1004, (1, 0, 0)),
 ];
 
+/// Small pieces are gathered, and long ones aren't copied.
 #[test]
-fn long_pieces_are_not_copied(rt: HostRuntime) {
+fn pieces_of_each_length(rt: HostRuntime) {
+    let item = number(rt.alloc(), 1).expect(&rt, "memory");
+    for (count, room, counts) in SMALL {
+        let list = repeated(rt.alloc(), &item, count).expect(&rt, "memory");
+        check_counted(&rt, &list, room, counts);
+    }
     for (length, room, counts) in LONG {
         let item = long_name(&rt, rt.alloc(), length);
         let list = repeated(rt.alloc(), &item, 2).expect(&rt, "memory");

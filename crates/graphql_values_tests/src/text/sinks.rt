@@ -108,18 +108,6 @@ fn print_to_vector(list: &Value, alloc: Global) -> (bool, VecSink) {
     (is_put && is_printed, sink)
 }
 
-#[test]
-fn a_vector_takes_a_print(rt: HostRuntime) {
-    let list = numbers(rt.alloc()).expect(&rt, "memory");
-    let (is_whole, sink) = print_to_vector(&list, rt.alloc());
-    assert!(rt; is_whole);
-    assert_eq!(rt;
-        (sink.bytes(), sink.faults()),
-        (b"[1, 2][1, 2]".as_slice(), 0)
-    );
-    assert_eq!(rt; sink.into_bytes().len(), 12);
-}
-
 /// A print of the list: so many bytes were taken, and if they are not all of it there was one fault.
 fn check_taken(rt: &impl Abort, is_whole: bool, faults: u64, bytes: &[u8], taken: usize) {
     let wants_whole = taken == TEXT.len();
@@ -158,8 +146,15 @@ fn print_to_memory(list: &Value, alloc: Global) -> (bool, u64, Vec<u8>) {
 }
 
 #[test]
-fn a_writer_in_memory_takes_all(rt: HostRuntime) {
+fn sinks_in_memory_take_all(rt: HostRuntime) {
     let list = numbers(rt.alloc()).expect(&rt, "memory");
+    let (is_whole, sink) = print_to_vector(&list, rt.alloc());
+    assert!(rt; is_whole);
+    assert_eq!(rt;
+        (sink.bytes(), sink.faults()),
+        (b"[1, 2][1, 2]".as_slice(), 0)
+    );
+    assert_eq!(rt; sink.into_bytes().len(), 12);
     let (is_whole, faults, bytes) = print_to_memory(&list, rt.alloc());
     check_taken(&rt, is_whole, faults, bytes.as_slice(), TEXT.len());
 }

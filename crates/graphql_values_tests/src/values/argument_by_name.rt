@@ -16,7 +16,6 @@ use graphql_values::types::Type;
 use graphql_values::value::Value;
 use indexmap::IndexMap;
 use std::alloc::{AllocError, Global};
-use std::process::Abort;
 
 fn argument(
     alloc: Global,
@@ -70,54 +69,28 @@ fn told(answer: Result<ArgumentValue<'_>, ArgumentByNameError>) -> (Option<i32>,
     }
 }
 
-fn check_told(
-    rt: &impl Abort,
-    defined: &IndexMap<Name, Node<DirectiveDefinition>>,
-    directive: &Directive,
-    name: &str,
-    answer: (Option<i32>, &'static str),
-) {
-    assert_eq!(rt;
-        told(directive.argument_by_name(name, defined)),
-        answer,
-        "{name}"
-    );
+/// The key of the one definition, the name of a directive without arguments, that of an argument, and its value.
+fn cases() -> [(Name, Name, &'static str, (Option<i32>, &'static str)); 6] {
+    [
+        (name!(a), name!(a), "other", (None, "no such argument")),
+        (name!(a), name!(a), "required", (None, "required")),
+        (name!(a), name!(a), "default", (Some(1), "value")),
+        (name!(a), name!(a), "free", (None, "implicit null")),
+        (name!(b), name!(a), "default", (None, "undefined directive")),
+        (name!(b), name!(b), "default", (Some(1), "value")),
+    ]
 }
 
+/// The key defines the directive, and not the name in the definition.
 #[test]
 fn values_by_definition(rt: HostRuntime) {
-    let defined = definitions(rt.alloc(), name!(a)).expect(&rt, "memory");
-    let directive = Directive::new(rt.alloc(), name!(a));
-    check_told(
-        &rt,
-        &defined,
-        &directive,
-        "other",
-        (None, "no such argument"),
-    );
-    check_told(&rt, &defined, &directive, "required", (None, "required"));
-    check_told(&rt, &defined, &directive, "default", (Some(1), "value"));
-    check_told(&rt, &defined, &directive, "free", (None, "implicit null"));
-}
-
-#[test]
-fn the_key_defines_the_directive(rt: HostRuntime) {
-    let defined = definitions(rt.alloc(), name!(b)).expect(&rt, "memory");
-    let by_name = Directive::new(rt.alloc(), name!(a));
-    check_told(
-        &rt,
-        &defined,
-        &by_name,
-        "default",
-        (None, "undefined directive"),
-    );
-    let by_key = Directive::new(rt.alloc(), name!(b));
-    check_told(&rt, &defined, &by_key, "default", (Some(1), "value"));
-}
-
-#[test]
-fn specified_before_defined(rt: HostRuntime) {
     let alloc = rt.alloc();
+    for (key, name, argument, answer) in cases() {
+        let defined = definitions(alloc, key).expect(&rt, "memory");
+        let directive = Directive::new(alloc, name);
+        let value = directive.argument_by_name(argument, &defined);
+        assert_eq!(rt; told(value), answer, "{argument}");
+    }
     let null = Node::new(alloc, Value::Null).expect(&rt, "memory");
     let directive = with_argument(alloc, Directive::new(alloc, name!(a)), name!(n), null).expect(
         &rt, "memory",
@@ -127,7 +100,7 @@ fn specified_before_defined(rt: HostRuntime) {
         Ok(ArgumentValue::Value(value)) => Some(value),
         _ => None,
     };
-    assert!(rt; value.is_some_and(|value| value.is_null()));
+    assert!(rt; value.is_some_and(|value| value.is_null()), "specified");
 }
 
 /// `@a(x: 1, y: N)`
@@ -152,16 +125,6 @@ fn set_argument(
     Ok(())
 }
 
-#[test]
-fn what_is_lent_is_written_in_one_directive(rt: HostRuntime) {
-    let alloc = rt.alloc();
-    let other = directive(alloc, 2).expect(&rt, "memory");
-    let mut lent = other.clone().expect(&rt, "memory");
-    set_argument(&mut lent, "y", number(alloc, 3).expect(&rt, "memory")).expect(&rt, "memory");
-    assert!(rt; lent == directive(alloc, 3).expect(&rt, "memory"));
-    assert!(rt; other == directive(alloc, 2).expect(&rt, "memory"));
-}
-
 fn is_shared(directive: &mut Directive, place: usize) -> bool {
     match directive.arguments.get_mut(place) {
         Some(argument) => argument.get_mut().is_none(),
@@ -179,18 +142,24 @@ fn lend(directive: &mut Directive, name: &str) -> bool {
 }
 
 #[test]
-fn only_what_is_lent_is_copied(rt: HostRuntime) {
+fn what_is_lent(rt: HostRuntime) {
+    let alloc = rt.alloc();
     for (name, wanted) in [
         ("x", (true, [false, true])),
         ("y", (true, [true, false])),
         ("z", (false, [true, true])),
     ] {
-        let other = directive(rt.alloc(), 2).expect(&rt, "memory");
+        let other = directive(alloc, 2).expect(&rt, "memory");
         let mut lent = other.clone().expect(&rt, "memory");
         let is_lent = lend(&mut lent, name);
         assert_eq!(rt; (is_lent, sharing(&mut lent)), wanted, "{name}");
-        assert!(rt; lent == other);
+        assert!(rt; lent == other, "{name}");
     }
+    let other = directive(alloc, 2).expect(&rt, "memory");
+    let mut lent = other.clone().expect(&rt, "memory");
+    set_argument(&mut lent, "y", number(alloc, 3).expect(&rt, "memory")).expect(&rt, "memory");
+    assert!(rt; lent == directive(alloc, 3).expect(&rt, "memory"));
+    assert!(rt; other == directive(alloc, 2).expect(&rt, "memory"));
 }
 
 #[test]
@@ -223,8 +192,8 @@ fn specified(directive: &Directive, name: &str) -> Option<i32> {
 }
 
 #[test]
-fn the_first_of_a_name_is_answered(rt: HostRuntime) {
-    let repeated = repeated(rt.alloc()).expect(&rt, "memory");
+fn the_first_of_a_name(rt: HostRuntime) {
+    let mut repeated = repeated(rt.alloc()).expect(&rt, "memory");
     assert_eq!(rt; specified(&repeated, "y"), Some(2));
     for name in ["z", "Y", ""] {
         assert!(rt;
@@ -232,11 +201,6 @@ fn the_first_of_a_name_is_answered(rt: HostRuntime) {
             "{name}"
         );
     }
-}
-
-#[test]
-fn the_first_of_a_name_is_written(rt: HostRuntime) {
-    let mut repeated = repeated(rt.alloc()).expect(&rt, "memory");
     let four = number(rt.alloc(), 4).expect(&rt, "memory");
     set_argument(&mut repeated, "y", four).expect(&rt, "memory");
     let numbers = numbers(rt.alloc(), &repeated).expect(&rt, "memory");

@@ -16,32 +16,21 @@ fn type_of(alloc: Global, text: &str) -> Result<Type, AllocError> {
 }
 
 #[test]
-fn of_values(rt: HostRuntime) {
+fn of_trees_and_prints(rt: HostRuntime) {
     for form in FORMS {
         check_cloned(&rt, &value_of(rt.alloc(), form).expect(&rt, "memory"));
     }
-}
-
-#[test]
-fn of_types(rt: HostRuntime) {
     for text in ["A", "A!", "[A!]", "[[A]!]!"] {
         check_cloned(&rt, &type_of(rt.alloc(), text).expect(&rt, "memory"));
     }
-}
-
-#[test]
-fn of_literals(rt: HostRuntime) {
     let int = IntValue::new_parsed(rt.alloc(), "-120").expect(&rt, "memory");
     check_cloned(&rt, &int);
     let float = FloatValue::new_parsed(rt.alloc(), "1.50").expect(&rt, "memory");
     check_cloned(&rt, &float);
-}
-
-#[test]
-fn of_prints(rt: HostRuntime) {
     let value = nested(rt.alloc()).expect(&rt, "memory");
     let print = value.serialize().indent_prefix("-").initial_indent_level(1);
     let copy = print.clone().expect(&rt, "memory");
-    check_made(&rt, copy.to_text(rt.alloc()), "-[\n--[],\n--1.5,\n-]");
-    check_made(&rt, print.to_text(rt.alloc()), "-[\n--[],\n--1.5,\n-]");
+    for print in [copy, print] {
+        check_made(&rt, print.to_text(rt.alloc()), "-[\n--[],\n--1.5,\n-]");
+    }
 }

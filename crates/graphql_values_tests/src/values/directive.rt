@@ -23,49 +23,32 @@ fn placed(alloc: Global, file: u64) -> Result<Directive, AllocError> {
 }
 
 #[test]
-fn arguments(rt: HostRuntime) {
+fn made(rt: HostRuntime) {
     let alloc = rt.alloc();
     let value = Node::new(alloc, Value::from(true)).expect(&rt, "memory");
     let argument = Argument::new_node(alloc, name!(x), value).expect(&rt, "memory");
     check_text(&rt, argument.name.as_str(), "x");
     assert_eq!(rt; argument.value.to_bool(), Some(true));
     assert_eq!(rt; argument.location(), None);
-}
-
-#[test]
-fn directives(rt: HostRuntime) {
-    let directive = Directive::new(rt.alloc(), name!(a));
+    let directive = Directive::new(alloc, name!(a));
     check_text(&rt, directive.name.as_str(), "a");
     assert!(rt; directive.arguments.is_empty());
 }
 
+/// Equality and hashes leave them out, and a clone keeps them.
 #[test]
-fn equality(rt: HostRuntime) {
+fn locations(rt: HostRuntime) {
     let alloc = rt.alloc();
-    assert!(rt;
-        placed(alloc, 1).expect(&rt, "memory") == placed(alloc, 2).expect(&rt, "memory"),
-        "locations"
-    );
-    assert!(rt; placed(alloc, 1).expect(&rt, "memory") != Directive::new(alloc, name!(a)));
-}
-
-#[test]
-fn locations_are_left_out_of_hashes(rt: HostRuntime) {
-    let alloc = rt.alloc();
-    let mut set = HashSet::new(alloc);
-    set.insert(placed(alloc, 1).expect(&rt, "memory"))
-        .expect(&rt, "memory");
-    assert!(rt; set.contains(&placed(alloc, 2).expect(&rt, "memory")));
-}
-
-#[test]
-fn clones_keep_locations(rt: HostRuntime) {
-    let copy = placed(rt.alloc(), 7)
-        .expect(&rt, "memory")
-        .clone()
-        .expect(&rt, "memory");
+    let here = placed(alloc, 7).expect(&rt, "memory");
+    let there = placed(alloc, 2).expect(&rt, "memory");
+    assert!(rt; here == there);
+    assert!(rt; here != Directive::new(alloc, name!(a)));
+    let copy = here.clone().expect(&rt, "memory");
     assert_eq!(rt;
         copy.arguments.first().and_then(|node| node.location()),
         SourceSpan::new(FileId::new(7), 3, 7)
     );
+    let mut set = HashSet::new(alloc);
+    set.insert(here).expect(&rt, "memory");
+    assert!(rt; set.contains(&there));
 }

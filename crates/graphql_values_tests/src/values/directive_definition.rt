@@ -15,22 +15,6 @@ use graphql_values::types::Type;
 use graphql_values::value::Value;
 use std::alloc::{AllocError, Global};
 use std::collections::HashSet;
-use std::process::Abort;
-
-#[test]
-fn new_definitions_are_empty(rt: HostRuntime) {
-    let alloc = rt.alloc();
-    let int = Node::new(alloc, Type::Named(name!(Int))).expect(&rt, "memory");
-    check_printed(
-        &rt,
-        &InputValueDefinition::new(alloc, name!(a), int),
-        "a: Int",
-    );
-    let directive = DirectiveDefinition::new(alloc, name!(d));
-    check_text(&rt, directive.name.as_str(), "d");
-    assert!(rt; directive.description.is_none() && directive.arguments.is_empty());
-    assert!(rt; !directive.repeatable && directive.locations.is_empty());
-}
 
 fn argument(alloc: Global, name: Name, ty: Name) -> Result<Node<InputValueDefinition>, AllocError> {
     let ty = Node::new(alloc, Type::Named(ty))?;
@@ -60,19 +44,6 @@ fn type_of(node: Option<&Node<InputValueDefinition>>) -> Option<&str> {
     Some(node?.ty.inner_named_type().as_str())
 }
 
-fn check_type(rt: &impl Abort, definition: &DirectiveDefinition, name: &str, wanted: Option<&str>) {
-    assert_eq!(rt; type_of(definition.argument_by_name(name)), wanted);
-}
-
-#[test]
-fn arguments_by_name(rt: HostRuntime) {
-    let definition = definition(rt.alloc()).expect(&rt, "memory");
-    check_type(&rt, &definition, "a", Some("A"));
-    check_type(&rt, &definition, "b", Some("B"));
-    check_type(&rt, &definition, "c", None);
-    check_type(&rt, &definition, "A", None);
-}
-
 /// What a caller knows of an argument that it wrote.
 fn set_argument(
     definition: &mut DirectiveDefinition,
@@ -94,21 +65,33 @@ fn set_argument(
     }
 }
 
+/// The first of a name is answered, and written.
 #[test]
-fn the_first_of_a_name_is_written(rt: HostRuntime) {
-    let mut definition = definition(rt.alloc()).expect(&rt, "memory");
-    let other = definition.clone().expect(&rt, "memory");
+fn arguments_by_name(rt: HostRuntime) {
+    let mut changed = definition(rt.alloc()).expect(&rt, "memory");
+    let other = changed.clone().expect(&rt, "memory");
     let written = argument(rt.alloc(), name!(c), name!(A)).expect(&rt, "memory");
-    assert!(rt; set_argument(&mut definition, "a", written));
-    check_type(&rt, &definition, "c", Some("A"));
-    check_type(&rt, &definition, "a", Some("C"));
-    check_type(&rt, &other, "a", Some("A"));
-    assert!(rt; definition.argument_by_name_mut("z").is_none());
+    assert!(rt; set_argument(&mut changed, "a", written));
+    for (name, before, after) in [
+        ("a", Some("A"), Some("C")),
+        ("b", Some("B"), Some("B")),
+        ("c", None, Some("A")),
+        ("A", None, None),
+    ] {
+        let found = type_of(other.argument_by_name(name));
+        assert_eq!(rt; found, before, "{name} before");
+        let found = type_of(changed.argument_by_name(name));
+        assert_eq!(rt; found, after, "{name} after");
+    }
+    assert!(rt; changed.argument_by_name_mut("z").is_none());
 }
 
 #[test]
-fn what_is_required(rt: HostRuntime) {
+fn new_inputs(rt: HostRuntime) {
     let alloc = rt.alloc();
+    let int = Node::new(alloc, Type::Named(name!(Int))).expect(&rt, "memory");
+    let input = InputValueDefinition::new(alloc, name!(a), int);
+    check_printed(&rt, &input, "a: Int");
     let null = Node::new(alloc, Value::Null).expect(&rt, "memory");
     for (ty, default_value, is_required) in [
         (Type::NonNullNamed(name!(Int)), None, true),
@@ -118,13 +101,17 @@ fn what_is_required(rt: HostRuntime) {
         let ty = Node::new(alloc, ty).expect(&rt, "memory");
         let mut input = InputValueDefinition::new(alloc, name!(a), ty);
         input.default_value = default_value;
-        assert_eq!(rt; input.is_required(), is_required);
+        assert_eq!(rt; input.is_required(), is_required, "{input}");
     }
 }
 
 #[test]
-fn equality(rt: HostRuntime) {
+fn definitions(rt: HostRuntime) {
     let alloc = rt.alloc();
+    let bare = DirectiveDefinition::new(alloc, name!(d));
+    check_text(&rt, bare.name.as_str(), "d");
+    assert!(rt; bare.description.is_none() && bare.arguments.is_empty());
+    assert!(rt; !bare.repeatable && bare.locations.is_empty());
     let mut changed = definition(alloc).expect(&rt, "memory");
     let same = definition(alloc).expect(&rt, "memory");
     assert!(rt; changed == same);

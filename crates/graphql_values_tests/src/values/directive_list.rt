@@ -27,47 +27,35 @@ fn number(node: &Node<Directive>) -> Option<i32> {
     node.specified_argument_by_name("x")?.to_i32()
 }
 
+/// A name, how many directives have it, and the argument of the first.
+const NAMES: [(&str, usize, Option<i32>); 3] = [("a", 2, Some(1)), ("b", 1, None), ("c", 0, None)];
+
 #[test]
 fn look_ups(rt: HostRuntime) {
     let list = list(rt.alloc()).expect(&rt, "memory");
-    assert_eq!(rt; list.get("a").and_then(number), Some(1));
-    assert!(rt; list.get("c").is_none());
-    assert!(rt; list.has("a"));
-    assert!(rt; list.has("b"));
-    assert!(rt; !list.has("c"));
-}
-
-#[test]
-fn all_of_a_name(rt: HostRuntime) {
-    let list = list(rt.alloc()).expect(&rt, "memory");
+    for (name, count, first) in NAMES {
+        assert_eq!(rt; list.has(name), count > 0, "{name}");
+        assert_eq!(rt; list.get(name).is_some(), count > 0, "{name}");
+        assert_eq!(rt; list.get(name).and_then(number), first, "{name}");
+        assert_eq!(rt; list.get_all(name).count(), count, "{name}");
+    }
     let mut all = list.get_all("a");
     assert_eq!(rt; all.next().and_then(number), Some(1));
     assert_eq!(rt; all.next().and_then(number), Some(2));
     assert!(rt; all.next().is_none());
     assert!(rt; all.next().is_none());
-}
-
-#[test]
-fn counts_of_a_name(rt: HostRuntime) {
-    let list = list(rt.alloc()).expect(&rt, "memory");
-    assert_eq!(rt; list.get_all("a").count(), 2);
-    assert_eq!(rt; list.get_all("c").count(), 0);
-}
-
-#[test]
-fn positions(rt: HostRuntime) {
-    let list = list(rt.alloc()).expect(&rt, "memory");
-    for (from, position) in [
-        (0, Some(0)),
-        (1, Some(2)),
-        (2, Some(2)),
-        (3, None),
-        (4, None),
-        (usize::MAX, None),
+    for (name, from, position) in [
+        ("a", 0, Some(0)),
+        ("a", 1, Some(2)),
+        ("a", 2, Some(2)),
+        ("a", 3, None),
+        ("a", 4, None),
+        ("a", usize::MAX, None),
+        ("c", 0, None),
     ] {
-        assert_eq!(rt; list.next_position("a", from), position, "from {from}");
+        let found = list.next_position(name, from);
+        assert_eq!(rt; found, position, "{name} from {from}");
     }
-    assert_eq!(rt; list.next_position("c", 0), None);
 }
 
 /// None is handed back where memory is ample.
@@ -85,49 +73,34 @@ fn pushes(rt: HostRuntime) {
 }
 
 #[test]
-fn collected_in_order(rt: HostRuntime) {
+fn the_nodes_are_collected_and_lent(rt: HostRuntime) {
     let alloc = rt.alloc();
-    let collected = DirectiveList::collect_from(
-        alloc,
-        list(alloc).expect(&rt, "memory").into_iter(),
-    ).expect(&rt, "memory");
+    let nodes = list(alloc).expect(&rt, "memory").into_iter();
+    let mut collected = DirectiveList::collect_from(alloc, nodes).expect(&rt, "memory");
     assert!(rt; collected == list(alloc).expect(&rt, "memory"));
-}
-
-#[test]
-fn the_nodes_are_lent(rt: HostRuntime) {
-    let alloc = rt.alloc();
-    let mut list = list(alloc).expect(&rt, "memory");
-    assert_eq!(rt; list.pop().as_ref().and_then(number), Some(2));
-    assert_eq!(rt; list.len(), 2);
-    list.reverse();
-    assert_eq!(rt; list.first().map(|node| node.name.as_str()), Some("b"));
+    assert_eq!(rt; collected.pop().as_ref().and_then(number), Some(2));
+    assert_eq!(rt; collected.len(), 2);
+    collected.reverse();
+    let first = collected.first().map(|node| node.name.as_str());
+    assert_eq!(rt; first, Some("b"));
 }
 
 #[test]
 fn gone_over(rt: HostRuntime) {
-    let list = list(rt.alloc()).expect(&rt, "memory");
-    let mut numbers = Vec::new(rt.alloc());
-    for node in &list {
-        numbers.push(number(node)).expect(&rt, "memory");
-    }
-    assert_eq!(rt; numbers.as_slice(), [Some(1), None, Some(2)].as_slice());
-}
-
-#[test]
-fn gone_over_to_write(rt: HostRuntime) {
     let mut list = list(rt.alloc()).expect(&rt, "memory");
+    let mut lent = Vec::new(rt.alloc());
+    for node in &list {
+        lent.push(number(node)).expect(&rt, "memory");
+    }
     for node in &mut list {
         node.make_mut().expect(&rt, "memory").name = name!(c);
     }
     assert_eq!(rt; list.get_all("c").count(), 3);
-}
-
-#[test]
-fn gone_over_and_taken(rt: HostRuntime) {
-    let mut numbers = Vec::new(rt.alloc());
-    for node in list(rt.alloc()).expect(&rt, "memory") {
-        numbers.push(number(&node)).expect(&rt, "memory");
+    let mut taken = Vec::new(rt.alloc());
+    for node in list {
+        taken.push(number(&node)).expect(&rt, "memory");
     }
-    assert_eq!(rt; numbers.as_slice(), [Some(1), None, Some(2)].as_slice());
+    for numbers in [lent, taken] {
+        assert_eq!(rt; numbers.as_slice(), [Some(1), None, Some(2)].as_slice());
+    }
 }

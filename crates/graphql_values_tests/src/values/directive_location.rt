@@ -1,7 +1,6 @@
 //! The words of directive locations.
 use crate::checks::check_made;
 use graphql_values::directive_location::DirectiveLocation;
-use graphql_values::operation_type::OperationType;
 
 #[test]
 fn words(rt: HostRuntime) {
@@ -32,21 +31,6 @@ fn words(rt: HostRuntime) {
         assert_eq!(rt; location.name(), word);
         check_made(&rt, format!(in rt.alloc(); "{location}"), word);
     }
-}
-
-#[test]
-fn of_operations(rt: HostRuntime) {
-    for (operation_type, location) in [
-        (OperationType::Query, DirectiveLocation::Query),
-        (OperationType::Mutation, DirectiveLocation::Mutation),
-        (OperationType::Subscription, DirectiveLocation::Subscription),
-    ] {
-        assert_eq!(rt; DirectiveLocation::from(operation_type), location);
-    }
-}
-
-#[test]
-fn padded(rt: HostRuntime) {
     for (location, wanted) in [
         (DirectiveLocation::Field, "       FIELD"),
         (DirectiveLocation::Subscription, "SUBSCRIPTION"),

@@ -74,27 +74,16 @@ fn all_shared_then_z_not_lent_takes_0(rt: HostRuntime) {
     assert_eq!(rt; error, Some(SpecifiedArgumentError::NotSpecified));
 }
 
+/// Each value once, and not those that were lent before.
 #[test]
-fn only_x_shared_built(rt: HostRuntime) {
-    let (_directive, mut lent) = all_shared(rt.alloc()).expect(&rt, "memory");
-    check_lent(&rt, &mut lent, "y");
-}
-
-#[test]
-fn only_x_shared_then_x_lent_takes_1(rt: HostRuntime) {
+fn all_shared_then_y_and_x_lent_takes_2(rt: HostRuntime) {
     let (_directive, mut lent) = all_shared(rt.alloc()).expect(&rt, "memory");
     check_lent(&rt, &mut lent, "y");
     check_lent(&rt, &mut lent, "x");
 }
 
 #[test]
-fn only_y_shared_built(rt: HostRuntime) {
-    let (_directive, mut lent) = all_shared(rt.alloc()).expect(&rt, "memory");
-    check_lent(&rt, &mut lent, "x");
-}
-
-#[test]
-fn only_y_shared_then_y_lent_takes_1(rt: HostRuntime) {
+fn all_shared_then_x_and_y_lent_takes_2(rt: HostRuntime) {
     let (_directive, mut lent) = all_shared(rt.alloc()).expect(&rt, "memory");
     check_lent(&rt, &mut lent, "x");
     check_lent(&rt, &mut lent, "y");

@@ -78,67 +78,27 @@ const TEXTS: [(&str, bool, bool); 28] = [
     ("01.5", false, false),
 ];
 
-#[test]
-fn syntax(rt: HostRuntime) {
-    for (text, is_int, is_float) in TEXTS {
-        check_syntax(&rt, text, is_int, is_float);
-    }
-}
+/// A text, and its number within 32 bits or why there is none.
+const NUMBERS: [(&str, Result<i32, &str>); 4] = [
+    ("-0", Ok(0)),
+    ("-2147483648", Ok(-2147483648)),
+    ("2147483648", Err("number too large to fit in target type")),
+    ("-2147483649", Err("number too small to fit in target type")),
+];
 
 #[test]
 fn numbers_of_texts(rt: HostRuntime) {
-    for (text, wanted) in [
-        ("-0", Some(0)),
-        ("-2147483648", Some(-2147483648)),
-        ("2147483648", None),
-    ] {
+    for (text, wanted) in NUMBERS {
         assert!(rt; IntValue::valid_syntax(text));
         let int = IntValue::new_parsed(rt.alloc(), text).expect(&rt, "memory");
-        assert_eq!(rt; int.try_to_i32().ok(), wanted, "{text}");
+        match int.try_to_i32() {
+            Ok(number) => assert!(rt; wanted == Ok(number), "{text}"),
+            Err(error) => {
+                let reason = wanted.err().expect(&rt, "out of range");
+                check_made(&rt, format!(in rt.alloc(); "{error}"), reason);
+            }
+        }
     }
-}
-
-#[test]
-fn numbers_out_of_range(rt: HostRuntime) {
-    for (text, wanted) in [
-        ("2147483648", "number too large to fit in target type"),
-        ("-2147483649", "number too small to fit in target type"),
-    ] {
-        assert!(rt; IntValue::valid_syntax(text));
-        let int = IntValue::new_parsed(rt.alloc(), text).expect(&rt, "memory");
-        let error = int.try_to_i32().err().expect(&rt, "out of range");
-        check_made(&rt, format!(in rt.alloc(); "{error}"), wanted);
-    }
-}
-
-#[test]
-fn texts_of_numbers(rt: HostRuntime) {
-    for (number, wanted) in [
-        (0, "0"),
-        (-7, "-7"),
-        (1000000, "1000000"),
-        (-2147483648, "-2147483648"),
-    ] {
-        let int = IntValue::from_i32(rt.alloc(), number).expect(&rt, "memory");
-        check_text(&rt, int.as_str(), wanted);
-    }
-}
-
-#[test]
-fn printed(rt: HostRuntime) {
-    let int = IntValue::new_parsed(rt.alloc(), "10").expect(&rt, "memory");
-    check_made(&rt, format!(in rt.alloc(); "{int}|{int:>4}"), "10|  10");
-}
-
-#[test]
-fn floats(rt: HostRuntime) {
-    let float = FloatValue::new_parsed(rt.alloc(), "1.50").expect(&rt, "memory");
-    check_text(&rt, float.as_str(), "1.50");
-    check_made(
-        &rt,
-        format!(in rt.alloc(); "{float}|{float:<6}|"),
-        "1.50|1.50  |",
-    );
 }
 
 fn check_refused(rt: &impl Abort, error: LiteralError, text: &str) {
@@ -178,13 +138,10 @@ fn check_float(rt: &impl Abort, alloc: Global, text: &str, is_float: bool) {
 #[test]
 fn checked(rt: HostRuntime) {
     for (text, is_int, is_float) in TEXTS {
+        check_syntax(&rt, text, is_int, is_float);
         check_int(&rt, rt.alloc(), text, is_int);
         check_float(&rt, rt.alloc(), text, is_float);
     }
-}
-
-#[test]
-fn long_texts(rt: HostRuntime) {
     let alloc = rt.alloc();
     let digits = "7".repeat(alloc, 10000).expect(&rt, "memory");
     check_int(&rt, alloc, digits.as_str(), true);
@@ -194,15 +151,17 @@ fn long_texts(rt: HostRuntime) {
 }
 
 #[test]
-fn message_of_a_refusal(rt: HostRuntime) {
-    let error = IntValue::new(rt.alloc(), "01")
-        .err()
-        .expect(&rt, "an error");
-    check_made(
-        &rt,
-        format!(in rt.alloc(); "{error}"),
-        "`01` is not a valid GraphQL number",
-    );
+fn displayed(rt: HostRuntime) {
+    let alloc = rt.alloc();
+    let int = IntValue::new_parsed(alloc, "10").expect(&rt, "memory");
+    let float = FloatValue::new_parsed(alloc, "1.50").expect(&rt, "memory");
+    check_text(&rt, float.as_str(), "1.50");
+    let error = IntValue::new(alloc, "01").err().expect(&rt, "an error");
+    check_made(&rt, format!(in alloc; "{int}|{int:>4}"), "10|  10");
+    let wanted = "1.50|1.50  |";
+    check_made(&rt, format!(in alloc; "{float}|{float:<6}|"), wanted);
+    let wanted = "`01` is not a valid GraphQL number";
+    check_made(&rt, format!(in alloc; "{error}"), wanted);
 }
 
 /// Numbers at the bounds of 64 bits, and their texts.
@@ -212,6 +171,7 @@ const WIDE: [(i64, &str); 3] = [
     (0, "0"),
 ];
 
+/// Those of 32 bits too, and those out of range.
 #[test]
 fn wide_numbers(rt: HostRuntime) {
     for (number, text) in WIDE {
@@ -221,12 +181,17 @@ fn wide_numbers(rt: HostRuntime) {
         let value = Value::from_i64(rt.alloc(), number).expect(&rt, "memory");
         assert_eq!(rt; value.to_i64(), Some(number), "{text}");
     }
-}
-
-#[test]
-fn wide_numbers_out_of_range(rt: HostRuntime) {
     for text in ["9223372036854775808", "-9223372036854775809"] {
         let int = IntValue::new(rt.alloc(), text).expect(&rt, "an integer");
         assert!(rt; int.try_to_i64().is_err(), "{text}");
+    }
+    for (number, text) in [
+        (0, "0"),
+        (-7, "-7"),
+        (1000000, "1000000"),
+        (-2147483648, "-2147483648"),
+    ] {
+        let int = IntValue::from_i32(rt.alloc(), number).expect(&rt, "memory");
+        check_text(&rt, int.as_str(), text);
     }
 }

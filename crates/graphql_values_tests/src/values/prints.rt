@@ -16,45 +16,27 @@ fn check_print<T: Syntax>(rt: &impl Abort, alloc: Global, print: Serialize<'_, T
 }
 
 #[test]
-fn of_values(rt: HostRuntime) {
+fn of_each_kind(rt: HostRuntime) {
     let alloc = rt.alloc();
     let value = nested(alloc).expect(&rt, "memory");
-    check_print(&rt, alloc, value.serialize(), "[\n  [],\n  1.5,\n]");
-    check_print(
-        &rt,
-        alloc,
-        value
-            .serialize()
-            .indent_prefix("\t")
-            .initial_indent_level(1),
-        "\t[\n\t\t[],\n\t\t1.5,\n\t]",
-    );
-}
-
-#[test]
-fn of_directives(rt: HostRuntime) {
-    let alloc = rt.alloc();
+    let indented = value
+        .serialize()
+        .indent_prefix("\t")
+        .initial_indent_level(1);
+    for (print, wanted) in [
+        (value.serialize(), "[\n  [],\n  1.5,\n]"),
+        (indented, "\t[\n\t\t[],\n\t\t1.5,\n\t]"),
+    ] {
+        check_print(&rt, alloc, print, wanted);
+    }
     let one = directive(alloc).expect(&rt, "memory");
     check_print(&rt, alloc, one.serialize(), "@a(x: true, y: false)");
     let two = directives(alloc).expect(&rt, "memory");
     check_print(&rt, alloc, two.serialize(), " @a @b");
-}
-
-#[test]
-fn of_definitions(rt: HostRuntime) {
-    let alloc = rt.alloc();
     let input = input(alloc).expect(&rt, "memory");
-    check_print(
-        &rt,
-        alloc,
-        input.serialize().no_indent(),
-        "a: [[I!]] = [[], 1.5]",
-    );
+    let wanted = "a: [[I!]] = [[], 1.5]";
+    check_print(&rt, alloc, input.serialize().no_indent(), wanted);
     let definition = definition(alloc).expect(&rt, "memory");
-    check_print(
-        &rt,
-        alloc,
-        definition.serialize(),
-        "directive @d(a: [[I!]] = [[], 1.5])",
-    );
+    let wanted = "directive @d(a: [[I!]] = [[], 1.5])";
+    check_print(&rt, alloc, definition.serialize(), wanted);
 }

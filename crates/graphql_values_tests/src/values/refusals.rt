@@ -1,7 +1,5 @@
 //! Calls that meet a refused growth, wherever it comes: the answer is the refusal, or that of an undisturbed call.
 //! `rt try --test --fail-alloc N` refuses the Nth growth of each test.
-mod copies;
-mod displays;
 mod made;
 mod prints;
 
@@ -11,10 +9,11 @@ use graphql_base::node::Node;
 use graphql_values::directive::{Directive, SpecifiedArgumentError};
 use graphql_values::directive_list::DirectiveList;
 
+/// No memory is asked for what is not specified, nor of one owner.
 #[test]
-fn no_memory_is_asked_for_what_is_not_specified(rt: HostRuntime) {
+fn a_value_is_lent_or_the_directive_stays(rt: HostRuntime) {
     let alloc = rt.alloc();
-    let (Ok(original), Ok(before)) = (directive(alloc), directive(alloc)) else {
+    let (Ok(original), Ok(mut before)) = (directive(alloc), directive(alloc)) else {
         return;
     };
     let Ok(mut shared) = original.clone() else {
@@ -25,17 +24,6 @@ fn no_memory_is_asked_for_what_is_not_specified(rt: HostRuntime) {
         Some(SpecifiedArgumentError::NotSpecified)
     );
     assert!(rt; shared == before && original == before);
-}
-
-#[test]
-fn a_value_is_lent_or_the_directive_stays(rt: HostRuntime) {
-    let alloc = rt.alloc();
-    let (Ok(original), Ok(before)) = (directive(alloc), directive(alloc)) else {
-        return;
-    };
-    let Ok(mut shared) = original.clone() else {
-        return;
-    };
     let error = match shared.specified_argument_by_name_mut("y") {
         Ok(value) => {
             assert!(rt; value.to_bool() == Some(false));
@@ -45,39 +33,23 @@ fn a_value_is_lent_or_the_directive_stays(rt: HostRuntime) {
     };
     assert!(rt; error.is_none_or(|error| error.is_memory()));
     assert!(rt; shared == before && original == before);
+    assert!(rt; before.specified_argument_by_name_mut("y").is_ok());
 }
 
 #[test]
-fn no_memory_is_asked_of_one_owner(rt: HostRuntime) {
-    let Ok(mut directive) = directive(rt.alloc()) else {
-        return;
-    };
-    assert!(rt; directive.specified_argument_by_name_mut("y").is_ok());
-}
-
-#[test]
-fn a_node_is_pushed_or_handed_back(rt: HostRuntime) {
+fn nodes_are_pushed_and_collected_or_handed_back(rt: HostRuntime) {
     let alloc = rt.alloc();
     let (Ok(mut list), Ok(before)) = (directives(alloc), directives(alloc)) else {
         return;
     };
-    let Ok(node) = Node::new(alloc, Directive::new(alloc, name!(c))) else {
-        return;
-    };
-    let back = match list.push(node) {
-        Ok(()) => list.pop(),
-        Err(node) => Some(node),
-    };
-    assert!(rt; back.is_some_and(|node| *node == Directive::new(alloc, name!(c))));
-    assert!(rt; list == before);
-}
-
-#[test]
-fn a_list_is_collected_or_refused(rt: HostRuntime) {
-    let alloc = rt.alloc();
-    let (Ok(list), Ok(before)) = (directives(alloc), directives(alloc)) else {
-        return;
-    };
+    if let Ok(node) = Node::new(alloc, Directive::new(alloc, name!(c))) {
+        let back = match list.push(node) {
+            Ok(()) => list.pop(),
+            Err(node) => Some(node),
+        };
+        assert!(rt; back.is_some_and(|node| *node == Directive::new(alloc, name!(c))));
+        assert!(rt; list == before);
+    }
     if let Ok(collected) = DirectiveList::collect_from(alloc, list.into_iter()) {
         assert!(rt; collected == before);
     }

@@ -39,20 +39,6 @@ const TEXTS: [&str; 9] = [
     "Bar",
 ];
 
-#[test]
-fn displayed(rt: HostRuntime) {
-    for text in TEXTS {
-        let ty = of_text(rt.alloc(), text).expect(&rt, "memory");
-        check_made(&rt, format!(in rt.alloc(); "{ty}"), text);
-    }
-}
-
-#[test]
-fn width_and_precision_do_not_reach_the_type(rt: HostRuntime) {
-    let ty = of_text(rt.alloc(), "[Foo!]!").expect(&rt, "memory");
-    check_made(&rt, format!(in rt.alloc(); "{ty:>9.1}"), "[Foo!]!");
-}
-
 /// Two types, and whether the first is assignable to the second.
 const ASSIGNABLE: [(&str, &str, bool); 12] = [
     ("[Foo!]!", "[Foo]", true),
@@ -81,28 +67,34 @@ fn assignability(rt: HostRuntime) {
     }
 }
 
-#[test]
-fn items(rt: HostRuntime) {
-    let list = of_text(rt.alloc(), "[Foo!]").expect(&rt, "memory");
-    assert!(rt; *list.item_type() == ty!(Foo!));
-    assert!(rt; *ty!(Foo!).item_type() == ty!(Foo!));
-    assert!(rt; list.is_list() && !list.is_named() && !list.is_non_null());
-    assert!(rt; ty!(Foo!).is_named() && ty!(Foo!).is_non_null());
-}
+/// A type, its item type, and whether it is a list, named and not null.
+const ITEMS: [(&str, &str, [bool; 3]); 2] = [
+    ("[Foo!]", "Foo!", [true, false, false]),
+    ("Foo!", "Foo!", [false, true, true]),
+];
 
 #[test]
-fn nullability(rt: HostRuntime) {
-    let nullable = of_text(rt.alloc(), "[Foo!]!")
-        .expect(&rt, "memory")
-        .nullable();
-    assert!(rt; nullable == of_text(rt.alloc(), "[Foo!]").expect(&rt, "memory"));
-    assert!(rt; nullable.non_null() == of_text(rt.alloc(), "[Foo!]!").expect(&rt, "memory"));
-}
-
-#[test]
-fn inner_names(rt: HostRuntime) {
-    let ty = of_text(rt.alloc(), "[[a!]]!").expect(&rt, "memory");
-    check_text(&rt, ty.inner_named_type().as_str(), "a");
+fn texts_and_parts(rt: HostRuntime) {
+    for text in TEXTS {
+        let ty = of_text(rt.alloc(), text).expect(&rt, "memory");
+        check_made(&rt, format!(in rt.alloc(); "{ty}"), text);
+    }
+    for (text, item, kinds) in ITEMS {
+        let ty = of_text(rt.alloc(), text).expect(&rt, "memory");
+        let wanted = of_text(rt.alloc(), item).expect(&rt, "memory");
+        assert!(rt; *ty.item_type() == wanted, "{text}");
+        assert!(rt;
+            [ty.is_list(), ty.is_named(), ty.is_non_null()] == kinds,
+            "{text}"
+        );
+    }
+    let bare = of_text(rt.alloc(), "[Foo!]").expect(&rt, "memory");
+    let whole = of_text(rt.alloc(), "[Foo!]!").expect(&rt, "memory");
+    let nullable = whole.clone().expect(&rt, "memory").nullable();
+    assert!(rt; nullable == bare);
+    assert!(rt; nullable.non_null() == whole);
+    let nested = of_text(rt.alloc(), "[[a!]]!").expect(&rt, "memory");
+    check_text(&rt, nested.inner_named_type().as_str(), "a");
 }
 
 /// A name that stands in a file.
@@ -113,24 +105,15 @@ fn name_in(file: u64) -> NamedType {
     }
 }
 
+/// A clone keeps them, and equality leaves them out.
 #[test]
-fn clones_keep_locations(rt: HostRuntime) {
+fn locations(rt: HostRuntime) {
     let ty = Type::NonNullNamed(name_in(7))
         .list(rt.alloc())
         .expect(&rt, "memory");
     let copy = ty.clone().expect(&rt, "memory");
     assert!(rt; copy.inner_named_type().location().is_some());
     assert_eq!(rt; copy.inner_named_type().location(), name_in(7).location());
-}
-
-#[test]
-fn equality(rt: HostRuntime) {
-    let ty = Type::NonNullNamed(name_in(7))
-        .list(rt.alloc())
-        .expect(&rt, "memory");
-    assert!(rt;
-        ty == of_text(rt.alloc(), "[Foo!]").expect(&rt, "memory"),
-        "locations"
-    );
+    assert!(rt; ty == of_text(rt.alloc(), "[Foo!]").expect(&rt, "memory"));
     assert!(rt; ty != of_text(rt.alloc(), "[Foo]").expect(&rt, "memory"));
 }

@@ -32,57 +32,33 @@ fn object(alloc: Global, file: u64) -> Result<Value, AllocError> {
 }
 
 #[test]
-fn constants(rt: HostRuntime) {
+fn queries(rt: HostRuntime) {
+    let alloc = rt.alloc();
     assert!(rt; Value::from(()).is_null());
     assert_eq!(rt; Value::from(true).to_bool(), Some(true));
     let name = Value::Enum(name!(A));
     assert!(rt; name.as_enum().is_some());
     assert!(rt; name.as_variable().is_none());
-}
-
-#[test]
-fn strings(rt: HostRuntime) {
-    let alloc = rt.alloc();
-    let value = Value::from_text(alloc, "é\n").expect(&rt, "memory");
-    assert_eq!(rt; value.as_str(), Some("é\n"));
-    assert!(rt; value == Value::from(String::from_str(alloc, "é\n").expect(&rt, "memory")));
-}
-
-#[test]
-fn numbers(rt: HostRuntime) {
-    assert_eq!(rt;
-        Value::from_i32(rt.alloc(), -5)
-            .expect(&rt, "memory")
-            .to_i32(),
-        Some(-5)
-    );
-}
-
-#[test]
-fn items_and_fields(rt: HostRuntime) {
-    let value = object(rt.alloc(), 1).expect(&rt, "memory");
+    let text = Value::from_text(alloc, "é\n").expect(&rt, "memory");
+    assert_eq!(rt; text.as_str(), Some("é\n"));
+    assert!(rt; text == Value::from(String::from_str(alloc, "é\n").expect(&rt, "memory")));
+    let number = Value::from_i32(alloc, -5).expect(&rt, "memory");
+    assert_eq!(rt; number.to_i32(), Some(-5));
+    let value = object(alloc, 1).expect(&rt, "memory");
     let field = value.as_object().and_then(|fields| fields.first());
     let items = field.and_then(|field| field.1.as_list());
     assert_eq!(rt; items.map(|items| items.len()), Some(2));
 }
 
+/// Equality leaves them out, and a clone keeps them.
 #[test]
-fn equality(rt: HostRuntime) {
+fn locations(rt: HostRuntime) {
     let alloc = rt.alloc();
     let value = object(alloc, 1).expect(&rt, "memory");
-    assert!(rt;
-        value == object(alloc, 2).expect(&rt, "memory"),
-        "locations"
-    );
-    assert!(rt; value != list(alloc, 1).expect(&rt, "memory"));
-}
-
-#[test]
-fn clones_keep_locations(rt: HostRuntime) {
-    let copy = list(rt.alloc(), 7)
-        .expect(&rt, "memory")
-        .clone()
-        .expect(&rt, "memory");
+    assert!(rt; value == object(alloc, 2).expect(&rt, "memory"));
+    let list = list(alloc, 7).expect(&rt, "memory");
+    assert!(rt; value != list);
+    let copy = list.clone().expect(&rt, "memory");
     let first = copy.as_list().and_then(|items| items.first());
     assert_eq!(rt;
         first.and_then(|node| node.location()),

@@ -18,65 +18,37 @@ fn check_value(rt: &impl Abort, alloc: Global, made: Result<Value, AllocError>, 
 }
 
 #[test]
-fn plain_values(rt: HostRuntime) {
+fn as_graphql_writes_them(rt: HostRuntime) {
     let alloc = rt.alloc();
-    check_value(&rt, alloc, value!(in alloc; null), "null");
-    check_value(&rt, alloc, value!(in alloc; true), "true");
-    check_value(&rt, alloc, value!(in alloc; false), "false");
-    check_value(&rt, alloc, value!(in alloc; NEW), "NEW");
-    check_value(&rt, alloc, value!(in alloc; $max), "$max");
-    check_value(&rt, alloc, value!(in alloc; "é"), "\"é\"");
-}
-
-#[test]
-fn numbers(rt: HostRuntime) {
-    let alloc = rt.alloc();
-    check_value(&rt, alloc, value!(in alloc; 12), "12");
-    check_value(
-        &rt,
-        alloc,
-        value!(in alloc; -9223372036854775808),
-        "-9223372036854775808",
-    );
-    check_value(&rt, alloc, value!(in alloc; 1.50), "1.50");
-    check_value(&rt, alloc, value!(in alloc; -2e5), "-2e5");
-}
-
-#[test]
-fn lists(rt: HostRuntime) {
-    let alloc = rt.alloc();
-    check_value(&rt, alloc, value!(in alloc; []), "[]");
-    check_value(
-        &rt,
-        alloc,
-        value!(in alloc; [1, A, [true],]),
-        "[1, A, [true]]",
-    );
-    check_value(
-        &rt,
-        alloc,
-        value!(in alloc; [-1, $a, {b: $c}]),
-        "[-1, $a, {b: $c}]",
-    );
-}
-
-#[test]
-fn objects(rt: HostRuntime) {
-    let alloc = rt.alloc();
-    check_value(&rt, alloc, value!(in alloc; {}), "{}");
-    check_value(
-        &rt,
-        alloc,
-        value!(in alloc; {min: 0, max: $max, tags: ["new", NEW], other: null}),
-        "{min: 0, max: $max, tags: [\"new\", NEW], other: null}",
-    );
-}
-
-#[test]
-fn parts(rt: HostRuntime) {
-    let alloc = rt.alloc();
-    let wanted = "[[true, null], {a: 1, a: 3000000000}]";
-    check_value(&rt, alloc, made_of_parts(alloc), wanted);
+    for (made, wanted) in [
+        (value!(in alloc; null), "null"),
+        (value!(in alloc; true), "true"),
+        (value!(in alloc; false), "false"),
+        (value!(in alloc; NEW), "NEW"),
+        (value!(in alloc; $max), "$max"),
+        (value!(in alloc; "é"), "\"é\""),
+        (value!(in alloc; 12), "12"),
+        (
+            value!(in alloc; -9223372036854775808),
+            "-9223372036854775808",
+        ),
+        (value!(in alloc; 1.50), "1.50"),
+        (value!(in alloc; -2e5), "-2e5"),
+        (value!(in alloc; []), "[]"),
+        (value!(in alloc; [1, A, [true],]), "[1, A, [true]]"),
+        (value!(in alloc; [-1, $a, {b: $c}]), "[-1, $a, {b: $c}]"),
+        (value!(in alloc; {}), "{}"),
+        (
+            value!(in alloc; {min: 0, max: $max, tags: ["new", NEW], other: null}),
+            "{min: 0, max: $max, tags: [\"new\", NEW], other: null}",
+        ),
+        (
+            made_of_parts(alloc),
+            "[[true, null], {a: 1, a: 3000000000}]",
+        ),
+    ] {
+        check_value(&rt, alloc, made, wanted);
+    }
     let written = value!(in alloc; [[true, null], {a: 1, a: 3000000000}]);
     assert!(rt; made_of_parts(alloc).expect(&rt, "memory") == written.expect(&rt, "memory"));
 }

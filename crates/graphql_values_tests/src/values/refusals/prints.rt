@@ -1,101 +1,99 @@
-//! Trees that are printed or refused.
-use crate::checks::{check_print_or_refused, check_printed, check_text_or_refused};
-use crate::samples::{definition, directive, directives, input, items, nested};
+//! Trees that are copied, printed and displayed, or refused.
+use crate::checks::{
+    check_cloned_or_refused, check_displayed_or_refused, check_print_or_refused, check_printed,
+    check_text_or_refused,
+};
+use crate::samples::{FORMS, definition, directive, directives, input, items, nested, value_of};
 use graphql_base::name;
-use graphql_text::engine::PrintError;
+use graphql_text::engine::{PrintError, Syntax};
 use graphql_text::sink::{TextSink, VecSink};
 use graphql_values::directive::Directive;
+use graphql_values::ty;
 use graphql_values::value::Value;
+use std::alloc::{AllocError, Global};
+use std::fmt::Display;
 use std::process::Abort;
 
-const DEFINITION: &str = "directive @d(a: [[I!]] = [[], 1.5])";
-
-#[test]
-fn items_are_printed_or_none_is(rt: HostRuntime) {
-    if let Ok(value) = items(rt.alloc()) {
-        check_print_or_refused(&rt, &value, "[1, EXAMPLE, true, null]");
+/// A tree, its text on one line, and as it is displayed: each call on it is whole or refused.
+fn check_calls<T: Clone + PartialEq + Display + Syntax + Drop>(
+    rt: &impl Abort,
+    alloc: Global,
+    made: Result<T, AllocError>,
+    flat: &str,
+    displayed: &str,
+) {
+    if let Ok(tree) = made {
+        check_cloned_or_refused(rt, &tree);
+        check_print_or_refused(rt, &tree, flat);
+        check_text_or_refused(rt, alloc, &tree, flat);
+        check_displayed_or_refused(rt, &tree, displayed);
     }
 }
 
 #[test]
 fn a_value_is_printed_or_nothing_is(rt: HostRuntime) {
-    if let Ok(value) = nested(rt.alloc()) {
-        check_print_or_refused(&rt, &value, "[[], 1.5]");
+    let alloc = rt.alloc();
+    let displayed = "[\n  [],\n  1.5,\n]";
+    check_calls(&rt, alloc, nested(alloc), "[[], 1.5]", displayed);
+    if let Ok(value) = items(alloc) {
+        check_print_or_refused(&rt, &value, "[1, EXAMPLE, true, null]");
     }
 }
 
 #[test]
-fn no_memory_is_asked_without_lists(rt: HostRuntime) {
-    check_printed(&rt, &Value::Null, "null");
-    check_printed(&rt, &Value::Enum(name!(ON)), "ON");
-    check_printed(&rt, &Value::List(Vec::new(rt.alloc())), "[]");
-}
-
-#[test]
-fn a_directive_is_printed_or_nothing_is(rt: HostRuntime) {
-    if let Ok(directive) = directive(rt.alloc()) {
-        check_print_or_refused(&rt, &directive, "@a(x: true, y: false)");
+fn a_value_of_each_form_is_copied_or_refused(rt: HostRuntime) {
+    for form in FORMS {
+        if let Ok(value) = value_of(rt.alloc(), form) {
+            check_cloned_or_refused(&rt, &value);
+        }
     }
 }
 
 #[test]
-fn no_memory_is_asked_without_arguments(rt: HostRuntime) {
+fn no_memory_is_asked_without_lists_and_arguments(rt: HostRuntime) {
+    for (value, wanted) in [
+        (Value::Null, "null"),
+        (Value::Enum(name!(ON)), "ON"),
+        (Value::List(Vec::new(rt.alloc())), "[]"),
+    ] {
+        check_printed(&rt, &value, wanted);
+    }
     check_printed(&rt, &Directive::new(rt.alloc(), name!(a)), "@a");
 }
 
 #[test]
-fn directives_are_printed_or_none_is(rt: HostRuntime) {
-    if let Ok(directives) = directives(rt.alloc()) {
-        check_print_or_refused(&rt, &directives, " @a @b");
-    }
+fn directives_are_printed_or_nothing_is(rt: HostRuntime) {
+    let alloc = rt.alloc();
+    let one = "@a(x: true, y: false)";
+    check_calls(&rt, alloc, directive(alloc), one, one);
+    let two = " @a @b";
+    check_calls(&rt, alloc, directives(alloc), two, two);
 }
 
 #[test]
 fn an_input_value_definition_is_printed_or_nothing_is(rt: HostRuntime) {
-    if let Ok(input) = input(rt.alloc()) {
-        check_print_or_refused(&rt, &input, "a: [[I!]] = [[], 1.5]");
-    }
+    let alloc = rt.alloc();
+    let flat = "a: [[I!]] = [[], 1.5]";
+    let displayed = "a: [[I!]] = [\n  [],\n  1.5,\n]";
+    check_calls(&rt, alloc, input(alloc), flat, displayed);
 }
 
 #[test]
 fn a_definition_is_printed_or_nothing_is(rt: HostRuntime) {
-    if let Ok(definition) = definition(rt.alloc()) {
-        check_print_or_refused(&rt, &definition, DEFINITION);
-    }
+    let text = "directive @d(a: [[I!]] = [[], 1.5])";
+    check_calls(&rt, rt.alloc(), definition(rt.alloc()), text, text);
 }
 
 #[test]
-fn the_text_of_a_value_is_whole_or_refused(rt: HostRuntime) {
-    if let Ok(value) = nested(rt.alloc()) {
-        check_text_or_refused(&rt, rt.alloc(), &value, "[[], 1.5]");
+fn a_type_is_made_copied_and_displayed_or_refused(rt: HostRuntime) {
+    if let Ok(ty) = ty!(in rt.alloc(); [[I]!]!) {
+        assert!(rt; ty.is_list() && ty.is_non_null());
+        assert!(rt; ty.item_type().is_list() && ty.item_type().is_non_null());
+        assert!(rt; *ty.item_type().item_type() == ty!(I));
+        check_cloned_or_refused(&rt, &ty);
     }
-}
-
-#[test]
-fn the_text_of_a_directive_is_whole_or_refused(rt: HostRuntime) {
-    if let Ok(directive) = directive(rt.alloc()) {
-        check_text_or_refused(&rt, rt.alloc(), &directive, "@a(x: true, y: false)");
-    }
-}
-
-#[test]
-fn the_text_of_directives_is_whole_or_refused(rt: HostRuntime) {
-    if let Ok(directives) = directives(rt.alloc()) {
-        check_text_or_refused(&rt, rt.alloc(), &directives, " @a @b");
-    }
-}
-
-#[test]
-fn the_text_of_an_input_value_definition_is_whole_or_refused(rt: HostRuntime) {
-    if let Ok(input) = input(rt.alloc()) {
-        check_text_or_refused(&rt, rt.alloc(), &input, "a: [[I!]] = [[], 1.5]");
-    }
-}
-
-#[test]
-fn the_text_of_a_definition_is_whole_or_refused(rt: HostRuntime) {
-    if let Ok(definition) = definition(rt.alloc()) {
-        check_text_or_refused(&rt, rt.alloc(), &definition, DEFINITION);
+    if let Ok(ty) = ty!(in rt.alloc(); [[I!]]) {
+        check_displayed_or_refused(&rt, &ty, "[[I!]]");
     }
 }
 

@@ -28,19 +28,26 @@ fn check_refused(rt: &impl Abort, alloc: Global, text: &str, wanted: &str) {
     }
 }
 
+/// And refused memory.
 #[test]
-fn json_too_deep_is_named(rt: HostRuntime) {
+fn json_too_deep_and_memory_are_named(rt: HostRuntime) {
     let alloc = rt.alloc();
-    let read = nested_arrays(&rt, alloc, 127);
-    check_refused(
-        &rt,
-        alloc,
-        read.as_str(),
-        "at the root: found an array where an object was wanted",
-    );
-    let deeper = nested_arrays(&rt, alloc, 128);
-    let wanted = "arrays and objects stand in one another more than 127 deep";
-    check_refused(&rt, alloc, deeper.as_str(), wanted);
+    for (depth, wanted) in [
+        (
+            127,
+            "at the root: found an array where an object was wanted",
+        ),
+        (
+            128,
+            "arrays and objects stand in one another more than 127 deep",
+        ),
+    ] {
+        let text = nested_arrays(&rt, alloc, depth);
+        check_refused(&rt, alloc, text.as_str(), wanted);
+    }
+    let error = AstJsonError::Memory;
+    let said = format!(in alloc; "{error}").expect(&rt, "memory");
+    assert_eq!(rt; said.as_str(), "out of memory");
 }
 
 #[test]
@@ -52,11 +59,4 @@ fn a_text_that_is_no_json_is_named(rt: HostRuntime) {
     };
     let wanted = format!(in alloc; "{error}").expect(&rt, "memory");
     check_refused(&rt, alloc, text, wanted.as_str());
-}
-
-#[test]
-fn memory_has_its_text(rt: HostRuntime) {
-    let error = AstJsonError::Memory;
-    let said = format!(in rt.alloc(); "{error}").expect(&rt, "memory");
-    assert_eq!(rt; said.as_str(), "out of memory");
 }

@@ -14,14 +14,7 @@ fn from_a_file(alloc: Global) -> Result<Document, AllocError> {
     Ok(document)
 }
 
-#[test]
-fn a_new_document_is_empty(rt: HostRuntime) {
-    let alloc = rt.alloc();
-    let new = Document::new(alloc);
-    assert!(rt; new.sources.is_empty() && new.definitions.is_empty());
-    assert!(rt; new == document(alloc, Vec::new(alloc)));
-}
-
+/// Source files are, by both of their texts.
 #[test]
 fn sources_are_not_compared(rt: HostRuntime) {
     let alloc = rt.alloc();
@@ -33,6 +26,10 @@ fn sources_are_not_compared(rt: HostRuntime) {
     assert!(rt; seen.contains(&read));
     let shorter = vec![in alloc; type_a(alloc).expect(&rt, "memory")].expect(&rt, "memory");
     assert!(rt; !seen.contains(&document(alloc, shorter)));
+    let file = source_file(alloc, "a", "b").expect(&rt, "memory");
+    assert!(rt; file == file.clone().expect(&rt, "memory"));
+    assert!(rt; file != source_file(alloc, "a", "c").expect(&rt, "memory"));
+    assert!(rt; file != source_file(alloc, "c", "b").expect(&rt, "memory"));
 }
 
 #[test]
@@ -51,15 +48,6 @@ fn a_clone_keeps_sources_and_locations(rt: HostRuntime) {
     assert!(rt; location == Some(span));
 }
 
-#[test]
-fn source_files_compare_by_both_texts(rt: HostRuntime) {
-    let alloc = rt.alloc();
-    let file = source_file(alloc, "a", "b").expect(&rt, "memory");
-    assert!(rt; file == file.clone().expect(&rt, "memory"));
-    assert!(rt; file != source_file(alloc, "a", "c").expect(&rt, "memory"));
-    assert!(rt; file != source_file(alloc, "c", "b").expect(&rt, "memory"));
-}
-
 /// Two queries, the one pushed as a struct and the other as a node, and a definition.
 fn pushed(alloc: Global) -> Result<Document, AllocError> {
     let mut document = Document::new(alloc);
@@ -69,9 +57,13 @@ fn pushed(alloc: Global) -> Result<Document, AllocError> {
     Ok(document)
 }
 
+/// A new document is empty.
 #[test]
 fn definitions_are_pushed(rt: HostRuntime) {
     let alloc = rt.alloc();
+    let new = Document::new(alloc);
+    assert!(rt; new.sources.is_empty() && new.definitions.is_empty());
+    assert!(rt; new == document(alloc, Vec::new(alloc)));
     let pushed = pushed(alloc).expect(&rt, "memory");
     let text = pushed.serialize().no_indent().to_text(alloc);
     assert_eq!(rt;

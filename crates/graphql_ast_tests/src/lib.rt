@@ -19,5 +19,3 @@ mod queries;
 mod refusals;
 #[cfg(test)]
 mod samples;
-#[cfg(test)]
-mod values;

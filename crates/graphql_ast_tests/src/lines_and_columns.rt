@@ -39,18 +39,6 @@ fn position((line, column): (usize, usize)) -> LineColumn {
     LineColumn { line, column }
 }
 
-#[test]
-fn of_offsets(rt: HostRuntime) {
-    for (text, offset, wanted) in POSITIONS {
-        let file = source_file(rt.alloc(), "a", text).expect(&rt, "memory");
-        assert_eq!(rt;
-            file.line_column(offset),
-            wanted.map(position),
-            "{text:?} at {offset}"
-        );
-    }
-}
-
 /// A document of two files: number 3 has two lines, number 4 one.
 fn of_two_files(alloc: Global) -> Result<Document, AllocError> {
     let mut document = Document::new(alloc);
@@ -62,7 +50,15 @@ fn of_two_files(alloc: Global) -> Result<Document, AllocError> {
 }
 
 #[test]
-fn of_spans(rt: HostRuntime) {
+fn of_offsets(rt: HostRuntime) {
+    for (text, offset, wanted) in POSITIONS {
+        let file = source_file(rt.alloc(), "a", text).expect(&rt, "memory");
+        assert_eq!(rt;
+            file.line_column(offset),
+            wanted.map(position),
+            "{text:?} at {offset}"
+        );
+    }
     let document = of_two_files(rt.alloc()).expect(&rt, "memory");
     for (file, start, wanted) in [
         (3, 0, Some((1, 1))),

@@ -32,22 +32,6 @@ fn operations(alloc: Global) -> Result<Document, AllocError> {
     Ok(document)
 }
 
-#[test]
-fn of_operations(rt: HostRuntime) {
-    let document = operations(rt.alloc()).expect(&rt, "memory");
-    assert_eq!(rt; document.operations().count(), 4);
-    assert_eq!(rt; document.fragments().count(), 0);
-    for (name, wanted) in [
-        (Some("A"), Some(OperationType::Query)),
-        (None, Some(OperationType::Mutation)),
-        (Some("a"), None),
-        (Some(""), None),
-    ] {
-        let found = document.operation(name).map(|node| node.operation_type);
-        assert_eq!(rt; found, wanted);
-    }
-}
-
 /// `fragment A on T`, `directive @A repeatable`, `fragment A on U` and `directive @A`, which have neither selections nor
 /// locations.
 fn fragments_and_directives(alloc: Global) -> Result<Document, AllocError> {
@@ -61,8 +45,21 @@ fn fragments_and_directives(alloc: Global) -> Result<Document, AllocError> {
     Ok(document)
 }
 
+/// And of fragments and directives.
 #[test]
-fn of_fragments_and_directives(rt: HostRuntime) {
+fn of_operations(rt: HostRuntime) {
+    let document = operations(rt.alloc()).expect(&rt, "memory");
+    assert_eq!(rt; document.operations().count(), 4);
+    assert_eq!(rt; document.fragments().count(), 0);
+    for (name, wanted) in [
+        (Some("A"), Some(OperationType::Query)),
+        (None, Some(OperationType::Mutation)),
+        (Some("a"), None),
+        (Some(""), None),
+    ] {
+        let found = document.operation(name).map(|node| node.operation_type);
+        assert_eq!(rt; found, wanted, "{name:?}");
+    }
     let document = fragments_and_directives(rt.alloc()).expect(&rt, "memory");
     assert_eq!(rt; document.operations().count(), 0);
     assert_eq!(rt; document.fragments().count(), 2);
@@ -87,6 +84,7 @@ fn types(alloc: Global) -> Result<Document, AllocError> {
     Ok(document)
 }
 
+/// And of all, in an empty document.
 #[test]
 fn of_types(rt: HostRuntime) {
     let document = types(rt.alloc()).expect(&rt, "memory");
@@ -99,12 +97,8 @@ fn of_types(rt: HostRuntime) {
         assert_eq!(rt; found.map(|definition| definition.kind_name()), defined);
         let first = document.extensions_of(name).next();
         assert_eq!(rt; first.map(|definition| definition.kind_name()), extended);
-        assert_eq!(rt; document.extensions_of(name).count(), count);
+        assert_eq!(rt; document.extensions_of(name).count(), count, "{name}");
     }
-}
-
-#[test]
-fn of_an_empty_document(rt: HostRuntime) {
     let empty = Document::new(rt.alloc());
     assert!(rt; empty.operation(None).is_none() && empty.fragment("A").is_none());
     assert!(rt; empty.type_definition("A").is_none());

@@ -6,6 +6,7 @@ use crate::samples::{
 };
 use graphql_ast::ast::{Definition, Document};
 use graphql_ast::node::Node;
+use graphql_ast::value;
 use std::alloc::Global;
 use std::process::Abort;
 
@@ -15,13 +16,16 @@ fn only(rt: &impl Abort, alloc: Global, definition: Definition) -> Document {
 }
 
 #[test]
-fn of_each_variant(rt: HostRuntime) {
+fn of_each_variant_and_a_value(rt: HostRuntime) {
     let alloc = rt.alloc();
     let all = each_variant(alloc).expect(&rt, "memory");
     for definition in &all {
         assert!(&rt; definition.is_well_formed());
     }
     check_line(&rt, alloc, &document(alloc, all), EACH_VARIANT, true);
+    let value = value!(in alloc; {min: 0, max: $max, tags: ["new", NEW], other: null});
+    let wanted = "{min: 0, max: $max, tags: [\"new\", NEW], other: null}";
+    check_line(&rt, alloc, &value.expect(&rt, "memory"), wanted, true);
 }
 
 #[test]

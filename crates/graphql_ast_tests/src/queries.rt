@@ -48,34 +48,6 @@ fn told(definition: &Definition) -> (bool, bool, Option<&str>, Option<usize>) {
     )
 }
 
-#[test]
-fn of_each_variant(rt: HostRuntime) {
-    let all = each_variant(rt.alloc()).expect(&rt, "memory");
-    let wanted = [
-        (true, false, Some("N"), Some(1)),
-        (true, false, Some("N"), Some(1)),
-        (false, false, Some("N"), None),
-        (false, false, None, Some(1)),
-        (false, false, Some("N"), Some(1)),
-        (false, false, Some("N"), Some(1)),
-        (false, false, Some("N"), Some(1)),
-        (false, false, Some("N"), Some(1)),
-        (false, false, Some("N"), Some(1)),
-        (false, false, Some("N"), Some(1)),
-        (false, true, None, Some(1)),
-        (false, true, Some("N"), Some(1)),
-        (false, true, Some("N"), Some(1)),
-        (false, true, Some("N"), Some(1)),
-        (false, true, Some("N"), Some(1)),
-        (false, true, Some("N"), Some(1)),
-        (false, true, Some("N"), Some(1)),
-    ];
-    for (definition, wanted) in all.iter().zip(&wanted) {
-        assert_eq!(rt; told(definition), *wanted);
-        assert!(rt; definition.location().is_none());
-    }
-}
-
 /// The words that it begins with, whether it defines a type, whether it is described, and how many selections it has.
 fn said(definition: &Definition) -> (&'static str, bool, bool, Option<usize>) {
     (
@@ -87,29 +59,81 @@ fn said(definition: &Definition) -> (&'static str, bool, bool, Option<usize>) {
 }
 
 #[test]
-fn of_kinds(rt: HostRuntime) {
+fn of_each_variant(rt: HostRuntime) {
     let all = each_variant(rt.alloc()).expect(&rt, "memory");
     let wanted = [
-        ("query", false, false, Some(1)),
-        ("fragment", false, false, Some(1)),
-        ("directive", false, false, None),
-        ("schema", false, false, None),
-        ("scalar", true, false, None),
-        ("type", true, false, None),
-        ("interface", true, false, None),
-        ("union", true, false, None),
-        ("enum", true, false, None),
-        ("input", true, false, None),
-        ("extend schema", false, false, None),
-        ("extend scalar", false, false, None),
-        ("extend type", false, false, None),
-        ("extend interface", false, false, None),
-        ("extend union", false, false, None),
-        ("extend enum", false, false, None),
-        ("extend input", false, false, None),
+        (
+            (true, false, Some("N"), Some(1)),
+            ("query", false, false, Some(1)),
+        ),
+        (
+            (true, false, Some("N"), Some(1)),
+            ("fragment", false, false, Some(1)),
+        ),
+        (
+            (false, false, Some("N"), None),
+            ("directive", false, false, None),
+        ),
+        (
+            (false, false, None, Some(1)),
+            ("schema", false, false, None),
+        ),
+        (
+            (false, false, Some("N"), Some(1)),
+            ("scalar", true, false, None),
+        ),
+        (
+            (false, false, Some("N"), Some(1)),
+            ("type", true, false, None),
+        ),
+        (
+            (false, false, Some("N"), Some(1)),
+            ("interface", true, false, None),
+        ),
+        (
+            (false, false, Some("N"), Some(1)),
+            ("union", true, false, None),
+        ),
+        (
+            (false, false, Some("N"), Some(1)),
+            ("enum", true, false, None),
+        ),
+        (
+            (false, false, Some("N"), Some(1)),
+            ("input", true, false, None),
+        ),
+        (
+            (false, true, None, Some(1)),
+            ("extend schema", false, false, None),
+        ),
+        (
+            (false, true, Some("N"), Some(1)),
+            ("extend scalar", false, false, None),
+        ),
+        (
+            (false, true, Some("N"), Some(1)),
+            ("extend type", false, false, None),
+        ),
+        (
+            (false, true, Some("N"), Some(1)),
+            ("extend interface", false, false, None),
+        ),
+        (
+            (false, true, Some("N"), Some(1)),
+            ("extend union", false, false, None),
+        ),
+        (
+            (false, true, Some("N"), Some(1)),
+            ("extend enum", false, false, None),
+        ),
+        (
+            (false, true, Some("N"), Some(1)),
+            ("extend input", false, false, None),
+        ),
     ];
     for (definition, wanted) in all.iter().zip(&wanted) {
-        assert_eq!(rt; said(definition), *wanted);
+        assert_eq!(rt; (told(definition), said(definition)), *wanted);
+        assert!(rt; definition.location().is_none());
     }
     let described = described_query(rt.alloc()).expect(&rt, "memory");
     assert_eq!(rt; said(&described), ("query", false, true, Some(1)));

@@ -32,7 +32,7 @@ fn sinks_that_fault_after_each_byte(rt: HostRuntime) {
     }
 }
 
-/// 1,000 sets: on one line 5,999 bytes; the level may be as great as leaves room for them.
+/// 1,000 sets: on one line 5,999 bytes; the level may be as great as leaves room for them. And 10,000 fields.
 #[test]
 fn nested_sets(rt: HostRuntime) {
     let alloc = rt.alloc();
@@ -65,11 +65,6 @@ fn nested_sets(rt: HostRuntime) {
             .to_text(alloc)
             .is_err_and(|error| error == PrintError::LevelOverflow)
     );
-}
-
-#[test]
-fn many_fields(rt: HostRuntime) {
-    let alloc = rt.alloc();
     let wide = query(alloc, fields(alloc, 10000).expect(&rt, "memory"));
     let text = wide
         .serialize()

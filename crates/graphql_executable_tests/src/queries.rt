@@ -24,40 +24,6 @@ use graphql_values::value::Value;
 use std::alloc::{AllocError, Global};
 use std::process::Abort;
 
-#[test]
-fn of_selections(rt: HostRuntime) {
-    let alloc = rt.alloc();
-    let span = SourceSpan::new(FileId::new(5), 10, 13).expect(&rt, "a span");
-    let node = Node::new_parsed(alloc, FragmentSpread::new(alloc, name!(F)), span).expect(
-        &rt, "memory",
-    );
-    let fragment = Selection::FragmentSpread(node);
-    assert!(&rt; fragment.location() == Some(span));
-    assert!(&rt; fragment.as_fragment_spread().is_some());
-    assert!(&rt; fragment.as_field().is_none() && fragment.as_inline_fragment().is_none());
-    let field = a(alloc).expect(&rt, "memory");
-    assert!(&rt; field.location().is_none() && field.as_field().is_some());
-    let inline = inline_fragment(alloc).expect(&rt, "memory");
-    let selection = Selection::InlineFragment(Node::new(alloc, inline).expect(&rt, "memory"));
-    assert!(&rt; selection.as_inline_fragment().is_some() && selection.location().is_none());
-}
-
-#[test]
-fn made_of_parts(rt: HostRuntime) {
-    let alloc = rt.alloc();
-    let made = Selection::field(alloc, Field::new(alloc, name!(a))).expect(&rt, "memory");
-    check_line(&rt, alloc, &made, "a", true);
-    assert!(&rt; made.as_field().is_some() && made.location().is_none());
-    let spread = FragmentSpread::new(alloc, name!(F));
-    let made = Selection::fragment_spread(alloc, spread).expect(&rt, "memory");
-    check_line(&rt, alloc, &made, "...F", true);
-    assert!(&rt; made.as_fragment_spread().is_some() && made.location().is_none());
-    let inline = inline_fragment(alloc).expect(&rt, "memory");
-    let made = Selection::inline_fragment(alloc, inline).expect(&rt, "memory");
-    check_line(&rt, alloc, &made, "... on T { id }", true);
-    assert!(&rt; made.as_inline_fragment().is_some() && made.location().is_none());
-}
-
 /// The name of the first directive, and how many selections there are.
 fn check_contents(
     rt: &impl Abort,
@@ -104,8 +70,51 @@ fn inline(alloc: Global) -> Result<Selection, AllocError> {
     Selection::inline_fragment(alloc, inline_fragment(alloc)?)
 }
 
+/// `... on T { id }`, as a node of an inline fragment.
+fn inline_node(alloc: Global) -> Result<Selection, AllocError> {
+    Ok(Selection::InlineFragment(Node::new(alloc, inline_fragment(alloc)?)?))
+}
+
+/// Which of the three it is.
+fn form(selection: &Selection) -> [bool; 3] {
+    [
+        selection.as_field().is_some(),
+        selection.as_fragment_spread().is_some(),
+        selection.as_inline_fragment().is_some(),
+    ]
+}
+
 #[test]
-fn of_what_stands_in_selections(rt: HostRuntime) {
+fn of_selections(rt: HostRuntime) {
+    let alloc = rt.alloc();
+    let inline_text = "... on T { id }";
+    for (made, wanted, wanted_form) in [
+        (
+            Selection::field(alloc, Field::new(alloc, name!(a))),
+            "a",
+            [true, false, false],
+        ),
+        (spread(alloc), "...F", [false, true, false]),
+        (inline(alloc), inline_text, [false, false, true]),
+        (inline_node(alloc), inline_text, [false, false, true]),
+    ] {
+        let selection = made.expect(&rt, "memory");
+        check_line(&rt, alloc, &selection, wanted, true);
+        assert!(&rt; form(&selection) == wanted_form, "{wanted}");
+        assert!(&rt; selection.location().is_none(), "{wanted}");
+    }
+    let span = SourceSpan::new(FileId::new(5), 10, 13).expect(&rt, "a span");
+    let node = Node::new_parsed(alloc, FragmentSpread::new(alloc, name!(F)), span).expect(
+        &rt, "memory",
+    );
+    let placed = Selection::FragmentSpread(node);
+    assert!(&rt; placed.location() == Some(span));
+    assert!(&rt; form(&placed) == [false, true, false]);
+}
+
+/// What stands in them, and directives that are written.
+#[test]
+fn of_parts_of_selections(rt: HostRuntime) {
     let alloc = rt.alloc();
     let full = Selection::field(alloc, field(alloc).expect(&rt, "memory"));
     for (made, directive, count) in [
@@ -116,11 +125,6 @@ fn of_what_stands_in_selections(rt: HostRuntime) {
     ] {
         check_contents(&rt, made.expect(&rt, "memory"), directive, count);
     }
-}
-
-#[test]
-fn of_directives_that_are_written(rt: HostRuntime) {
-    let alloc = rt.alloc();
     for (made, wanted) in [
         (a(alloc), "a @d"),
         (spread(alloc), "...F @d"),

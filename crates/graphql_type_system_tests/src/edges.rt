@@ -25,7 +25,7 @@ fn enum_of(alloc: Global, value: Name) -> Result<EnumTypeDefinition, AllocError>
 }
 
 #[test]
-fn enum_values_that_are_none(rt: HostRuntime) {
+fn trees_that_are_not_well_formed(rt: HostRuntime) {
     let alloc = rt.alloc();
     for (value, wanted) in [
         (name!("null"), "enum E { null }"),
@@ -34,11 +34,6 @@ fn enum_values_that_are_none(rt: HostRuntime) {
         let tree = enum_of(alloc, value).expect(&rt, "memory");
         check_line(&rt, alloc, &tree, false, wanted);
     }
-}
-
-#[test]
-fn variables_in_a_type(rt: HostRuntime) {
-    let alloc = rt.alloc();
     let mut at_the_type = object(alloc).expect(&rt, "memory");
     at_the_type.directives = directives_with_variable(alloc).expect(&rt, "memory");
     assert!(rt; !at_the_type.is_well_formed());

@@ -169,19 +169,15 @@ fn check_printed(rt: &impl Abort, alloc: Global, vectors: &[(&str, &str)]) -> Re
     Ok(())
 }
 
+/// A level that doesn't fit is found before the first byte.
+const OVERFLOW: (u8, &str, &str) = (1, "", "indentation level overflow\n");
+
 #[test]
 fn known_vectors_are_printed(rt: HostRuntime) -> Result<(), Fail> {
     check_printed(&rt, rt.alloc(), &VALUES)?;
     check_printed(&rt, rt.alloc(), &DEFINITIONS)?;
     check_printed(&rt, rt.alloc(), &OPERATIONS)?;
-    check_printed(&rt, rt.alloc(), &DOCUMENTS)
-}
-
-/// A level that doesn't fit is found before the first byte.
-const OVERFLOW: (u8, &str, &str) = (1, "", "indentation level overflow\n");
-
-#[test]
-fn a_level_that_does_not_fit_is_reported(rt: HostRuntime) -> Result<(), Fail> {
+    check_printed(&rt, rt.alloc(), &DOCUMENTS)?;
     check_run(&rt, rt.alloc(), &["16"], OVERFLOW)
 }
 
@@ -194,17 +190,8 @@ fn other_words_are_unknown(rt: HostRuntime) -> Result<(), Fail> {
     ] {
         check_run(&rt, rt.alloc(), &[word], UNKNOWN)?;
     }
-    Ok(())
-}
-
-#[test]
-fn a_long_word_is_unknown(rt: HostRuntime) -> Result<(), Fail> {
     let digits = "1".repeat(rt.alloc(), 10_000)?;
-    check_run(&rt, rt.alloc(), &[digits.as_str()], UNKNOWN)
-}
-
-#[test]
-fn no_word_and_two_words_are_unknown(rt: HostRuntime) -> Result<(), Fail> {
+    check_run(&rt, rt.alloc(), &[digits.as_str()], UNKNOWN)?;
     check_run(&rt, rt.alloc(), &[], UNKNOWN)?;
     check_run(&rt, rt.alloc(), &["1", "1"], UNKNOWN)
 }
@@ -234,22 +221,14 @@ fn nothing_follows_a_refused_write(rt: HostRuntime) -> Result<(), Fail> {
             check_refusal(&rt, rt.alloc(), ("1", FOUR_VALUES), (refusal, place))?;
         }
     }
-    Ok(())
-}
-
-#[test]
-fn nothing_follows_a_refused_write_of_a_document(rt: HostRuntime) -> Result<(), Fail> {
     for place in 0..TYPE_AND_QUERY.len() {
-        check_refusal(
-            &rt,
-            rt.alloc(),
-            ("9", TYPE_AND_QUERY),
-            (Refusal::Fails, place),
-        )?;
+        let refused = (Refusal::Fails, place);
+        check_refusal(&rt, rt.alloc(), ("9", TYPE_AND_QUERY), refused)?;
     }
     Ok(())
 }
 
+/// Nor where both writers refuse.
 #[test]
 fn a_refused_report_changes_no_status(rt: HostRuntime) -> Result<(), Fail> {
     let alloc = rt.alloc();
@@ -261,12 +240,6 @@ fn a_refused_report_changes_no_status(rt: HostRuntime) -> Result<(), Fail> {
         assert_eq!(rt; out.len, 0);
         assert_eq!(rt; err.len, place);
     }
-    Ok(())
-}
-
-#[test]
-fn both_writers_refuse(rt: HostRuntime) -> Result<(), Fail> {
-    let alloc = rt.alloc();
     let words = words_of(alloc, &["1"])?;
     let out = Page::refusing_at(1, Refusal::Fails);
     let err = Page::refusing_at(0, Refusal::Fails);

@@ -47,42 +47,21 @@ const NAME: &[u8] = b"ast_vectors";
 /// Bytes that are no text: a byte that stands nowhere in UTF-8.
 const NO_TEXT: &[u8] = &[b'1', 0xFF];
 
+/// What is no text is an empty word, and so is what is longer than 64 bytes.
 #[test]
 fn words_are_read_in_their_order(rt: HostRuntime) -> Result<(), Fail> {
-    check_words(&rt, rt.alloc(), &[], &[])?;
-    check_words(&rt, rt.alloc(), &[NAME], &[])?;
-    check_words(&rt, rt.alloc(), &[NAME, b"1"], &["1"])?;
-    check_words(
-        &rt,
-        rt.alloc(),
-        &[NAME, b"", b"14", b"\xC3\xA9"],
-        &["", "14", "é"],
-    )
-}
-
-#[test]
-fn what_is_no_text_is_an_empty_word(rt: HostRuntime) -> Result<(), Fail> {
-    check_words(&rt, rt.alloc(), &[NAME, NO_TEXT], &[""])?;
-    check_words(
-        &rt,
-        rt.alloc(),
-        &[NAME, b"1", NO_TEXT, b"2"],
-        &["1", "", "2"],
-    )
-}
-
-#[test]
-fn a_long_word_is_an_empty_one(rt: HostRuntime) -> Result<(), Fail> {
-    let longest = [b'1'; 64];
-    let longer = [b'1'; 65];
-    let text = "1".repeat(rt.alloc(), 64)?;
-    check_words(&rt, rt.alloc(), &[NAME, &longest], &[text.as_str()])?;
-    check_words(
-        &rt,
-        rt.alloc(),
-        &[NAME, b"1", &longer, b"2"],
-        &["1", "", "2"],
-    )
+    let alloc = rt.alloc();
+    check_words(&rt, alloc, &[], &[])?;
+    check_words(&rt, alloc, &[NAME], &[])?;
+    check_words(&rt, alloc, &[NAME, b"1"], &["1"])?;
+    let three: [&[u8]; 4] = [NAME, b"", b"14", b"\xC3\xA9"];
+    check_words(&rt, alloc, &three, &["", "14", "é"])?;
+    check_words(&rt, alloc, &[NAME, NO_TEXT], &[""])?;
+    check_words(&rt, alloc, &[NAME, b"1", NO_TEXT, b"2"], &["1", "", "2"])?;
+    let text = "1".repeat(alloc, 64)?;
+    check_words(&rt, alloc, &[NAME, &[b'1'; 64]], &[text.as_str()])?;
+    let longer: [&[u8]; 4] = [NAME, b"1", &[b'1'; 65], b"2"];
+    check_words(&rt, alloc, &longer, &["1", "", "2"])
 }
 
 /// Where memory is refused no words are answered; else all are. `rt try --test --fail-alloc N` refuses the Nth growth.

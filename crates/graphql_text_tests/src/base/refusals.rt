@@ -34,6 +34,7 @@ fn empty(node: &mut Node<String>, alloc: Global) -> &'static str {
     }
 }
 
+/// Of one owner no memory is asked.
 #[test]
 fn make_mut_changes_one_node_or_none(rt: HostRuntime) {
     let Ok(first) = placed(rt.alloc()) else {
@@ -45,18 +46,11 @@ fn make_mut_changes_one_node_or_none(rt: HostRuntime) {
     let text = empty(&mut second, rt.alloc());
     check_placed(&rt, &second, text);
     check_placed(&rt, &first, "old");
-}
-
-#[test]
-fn make_mut_takes_no_memory_of_one_owner(rt: HostRuntime) {
-    let Ok(mut node) = placed(rt.alloc()) else {
+    let Ok(mut alone) = placed(rt.alloc()) else {
         return;
     };
-    match node.make_mut() {
-        Ok(text) => *text = String::new(rt.alloc()),
-        Err(AllocError) => assert!(rt; false, "one owner"),
-    }
-    check_placed(&rt, &node, "");
+    assert_eq!(rt; empty(&mut alone, rt.alloc()), "", "one owner");
+    check_placed(&rt, &alone, "");
 }
 
 #[test]

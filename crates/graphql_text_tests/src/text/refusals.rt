@@ -5,7 +5,7 @@ use graphql_text::sink::{TextSink, VecSink};
 use graphql_text::writers::Stack;
 
 #[test]
-fn a_vector_takes_all_or_counts_a_fault(rt: HostRuntime) {
+fn vectors_and_stacks_have_room_or_are_refused(rt: HostRuntime) {
     let mut sink = VecSink::new(rt.alloc());
     let wanted = match sink.put(b"[1, 2]") {
         Ok(count) => count,
@@ -15,10 +15,6 @@ fn a_vector_takes_all_or_counts_a_fault(rt: HostRuntime) {
     assert_eq!(rt; faults, u64::from(wanted == 0));
     assert_eq!(rt; sink.bytes(), &b"[1, 2]"[..wanted.min(6)]);
     assert!(rt; wanted == 0 || wanted == 6);
-}
-
-#[test]
-fn a_stack_is_made_or_refused(rt: HostRuntime) {
     if let Ok(mut stack) = Stack::reserve(Some(rt.alloc()), 2) {
         stack.push('a');
         stack.push('b');

@@ -55,7 +55,7 @@ fn check_description(rt: &impl Abort, alloc: Global, place: &Place<'_>, value: &
 
 /// No piece is empty, wherever escapes, quotes and line feeds stand.
 #[test]
-fn values(rt: HostRuntime) {
+fn values_and_descriptions(rt: HostRuntime) {
     for (prefix, level, value, wanted) in [
         (None, 0, "", r#""""#),
         (None, 3, "a\nb", r#""a\nb""#),
@@ -72,10 +72,6 @@ fn values(rt: HostRuntime) {
     ] {
         check_value(&rt, rt.alloc(), &Place::new(prefix, level), value, wanted);
     }
-}
-
-#[test]
-fn descriptions(rt: HostRuntime) {
     for (prefix, level, value, wanted) in [
         (None, 0, r#"say "hi""#, r#""say \"hi\"""#),
         (Some("  "), 0, "", r#""""#),

@@ -7,23 +7,22 @@ use crate::padded::Padded;
 /// How many bytes a buffer holds.
 const SIZE: usize = 1024;
 
-/// Copies the first bytes and the last ones, which together are all. All are read before any is written, so each end
-/// is one move.
+/// Copies the first `END` bytes and as many last ones, which together are all. All are read before any is written, so
+/// each end is one move.
 #[inline(always)]
-fn copy_ends(to: &mut [u8], from: &[u8], size: usize)
+fn copy_ends<const END: usize>(to: &mut [u8], from: &[u8])
     requires len { length to.old ≡ length from.now }
-    requires small { size ≤ 8 }
-    requires within { size ≤ length from.now }
-    requires all { length from.now ≤ 2 * size }
+    requires within { END ≤ length from.now }
+    requires all { length from.now ≤ 2 * END }
     ensures { to.new ≡ from.now }
 {
-    let last = from.len() - size;
-    let mut first_bytes = [0u8; 8];
-    let mut last_bytes = [0u8; 8];
-    first_bytes[..size].copy_from_slice(&from[..size]);
-    last_bytes[..size].copy_from_slice(&from[last..]);
-    to[..size].copy_from_slice(&first_bytes[..size]);
-    to[last..].copy_from_slice(&last_bytes[..size]);
+    let last = from.len() - END;
+    let mut first_bytes = [0u8; END];
+    let mut last_bytes = [0u8; END];
+    first_bytes.copy_from_slice(&from[..END]);
+    last_bytes.copy_from_slice(&from[last..]);
+    to[..END].copy_from_slice(&first_bytes);
+    to[last..].copy_from_slice(&last_bytes);
 }
 
 /// Copies up to eight bytes.
@@ -34,11 +33,11 @@ fn copy_few(to: &mut [u8], from: &[u8])
     ensures { to.new ≡ from.now }
 {
     if from.len() > 4 {
-        copy_ends(to, from, 4);
+        copy_ends::<4>(to, from);
     } else if from.len() > 2 {
-        copy_ends(to, from, 2);
+        copy_ends::<2>(to, from);
     } else if !from.is_empty() {
-        copy_ends(to, from, 1);
+        copy_ends::<1>(to, from);
     }
 }
 
@@ -50,7 +49,7 @@ fn copy_piece(to: &mut [u8], from: &[u8])
 {
     match from.len() {
         0..=8 => copy_few(to, from),
-        9..=16 => copy_ends(to, from, 8),
+        9..=16 => copy_ends::<8>(to, from),
         _ => to.copy_from_slice(from),
     }
 }

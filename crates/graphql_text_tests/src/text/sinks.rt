@@ -6,7 +6,9 @@ const TEXT: &[u8] = b"[1, 2]";
 
 /// It takes the text, and then nothing.
 fn check_puts<S: TextSink>(rt: &impl Abort, sink: &mut S) {
+    assert_eq!(rt; sink.faults(), 0);
     assert_eq!(rt; sink.put(TEXT), Ok(6));
+    assert_eq!(rt; sink.faults(), 0);
     assert_eq!(rt; sink.put(&[]), Ok(0));
     assert_eq!(rt; sink.faults(), 0);
 }

@@ -29,7 +29,7 @@ ALIAS = re.compile(r"^pub type \w+ = (graphql_\w+)::(\w+)::\w+;", re.M)
 MODULE = re.compile(r"^pub mod (\w+);", re.M)
 ITEM = re.compile(r"pub (struct|enum|trait|fn) (\w+)|(macro_rules)! (\w+)")
 IMPL = re.compile(r"impl(?:<[^{]*?>)? (\w+)(?:<[^{]*>)? \{$")
-METHOD = re.compile(r"    (pub )?fn (\w+)")
+METHOD = re.compile(r"    (pub )?(?:final )?fn (\w+)")
 CONSTANT = re.compile(r"    pub const (\w+: [^=]+) =")
 # where a signature ends: at a clause, a body, or a semicolon
 SIGNATURE_END = re.compile(r"\n\s*(?:requires|ensures)\b|\s*\{(?:\n|.*\}\n)|;\n")
@@ -70,7 +70,7 @@ def above(lines, number):
 
 def signature(lines, number):
     text = "\n".join(lines[number:]) + "\n"
-    return joined(text[: SIGNATURE_END.search(text).start()].strip().removeprefix("pub ").removeprefix("fn "))
+    return joined(text[: SIGNATURE_END.search(text).start()].strip().removeprefix("pub ").removeprefix("final ").removeprefix("fn "))
 
 
 def declared(kind, lines, number):

@@ -5,7 +5,7 @@ use crate::difference::Difference;
 use anyhow::{Context, Result, bail};
 use graphql_ast::serialize::Syntax;
 use graphql_ast::span::FileId;
-use graphql_ast_json::AstJson;
+use graphql_ast_json::{AstJson, NodeReader, Unknown};
 use serde_json::Value as Json;
 use std::alloc::Global;
 use std::fmt::Display;
@@ -76,10 +76,21 @@ fn printed<T: AstJson + Syntax + Display + PartialEq + Drop>(
 
 /// Where JSON isn't read, and written again, as the case wants.
 fn read<T: AstJson + Drop>(alloc: Global, case: &JsonCase) -> Result<Option<Difference>> {
-    let (found, is_wanted) = match T::from_ast_json(alloc, &case.json, FileId::new(1)) {
+    let node = NodeReader {
+        alloc,
+        json: &case.json,
+        source: FileId::new(1),
+        unknown: if case.pass_over {
+            Unknown::PassOver
+        } else {
+            Unknown::Refuse
+        },
+    };
+    let written = case.written.as_ref().unwrap_or(&case.json);
+    let (found, is_wanted) = match T::read_ast_json(node) {
         Ok(tree) => {
             let json = tree.to_ast_json(alloc)?;
-            let is_wanted = case.error.is_none() && json == case.json;
+            let is_wanted = case.error.is_none() && json == *written;
             (json.to_string(alloc)?, is_wanted)
         }
         Err(error) => {
@@ -91,7 +102,7 @@ fn read<T: AstJson + Drop>(alloc: Global, case: &JsonCase) -> Result<Option<Diff
     if is_wanted {
         return Ok(None);
     }
-    let json = case.json.to_string(alloc)?;
+    let json = written.to_string(alloc)?;
     let wanted = case.error.as_ref().unwrap_or(&json);
     Ok(Some(Difference::new(alloc, Check::AstJson, wanted.as_str(), found.as_str())?))
 }

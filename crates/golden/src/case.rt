@@ -38,7 +38,13 @@ pub struct PrintCase {
 #[serde(deny_unknown_fields)]
 pub struct JsonCase {
     pub json: Json,
-    /// The text of the error, or none where the tree that is read is written as this JSON again.
+    /// Whether the reading passes over what is unknown.
+    #[serde(default)]
+    pub pass_over: bool,
+    /// The JSON that the tree is written as, where that isn't the one that is read.
+    #[serde(default)]
+    pub written: Option<Json>,
+    /// The text of the error, or none where a tree is read.
     pub error: Option<String>,
 }
 

@@ -12,3 +12,5 @@ pub mod NamesAmong
 pub mod NodeLists
 -- what stands inside of JSON nests less deep than the JSON
 pub mod JsonDepths
+-- of Nodes and NodeReading: where a name stands
+pub mod NamePlaces

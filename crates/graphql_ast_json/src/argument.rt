@@ -2,50 +2,35 @@
 ghost use Rattle.graphql_values.specs.kinds.Arguments.{ArgumentTree};
 ghost use Rattle.graphql_values.specs.trees.DirectiveTrees.{argument_tree};
 ghost use Rattle.graphql_ast_json.specs.kinds.DirectiveJson.{IsArgument};
-ghost use Rattle.graphql_ast_json.specs.lemmas.DirectiveNodes.{argument_located, argument_never_null, same_argument};
+ghost use Rattle.graphql_ast_json.specs.lemmas.DirectiveNodes.{argument_laws};
 
-use crate::ast_json::{AstJson, AstNode};
+use crate::ast_json::AstNode;
 use crate::error::AstJsonError;
+use crate::read::NodeReader;
 use crate::value::read::named_value;
-use crate::write::node::NodeWriter;
-use graphql_base::name::Name;
+use crate::write::NodeWriter;
+use graphql_ast::ast::{Argument, Value};
+use graphql_ast::name::Name;
 use graphql_base::node::Node;
-use graphql_base::span::{FileId, SourceSpan};
-use graphql_values::argument::Argument;
-use graphql_values::value::Value;
 use serde_json::Value as Json;
-use std::alloc::{AllocError, Global};
+use std::alloc::AllocError;
 
-impl AstJson for Argument {
+impl AstNode for Argument {
     ghost Tree = { ArgumentTree };
 
     ghost tree = { argument_tree };
 
-    ghost is_json_of = { IsArgument };
+    ghost is_node = { IsArgument };
 
-    ghost one_tree = { same_argument };
+    ghost laws = { argument_laws };
 
-    ghost never_null = { argument_never_null };
-
-    fn from_ast_json(alloc: Global, json: &Json, source: FileId) -> Result<Argument, AstJsonError> {
-        let (name, value) = named_value(alloc, json, "Argument", source)?;
+    fn read_node(node: NodeReader<'_>) -> Result<Argument, AstJsonError> {
+        let (name, value) = named_value(node, "Argument")?;
         Ok(Argument { name, value })
     }
 
-    fn to_ast_json(&self, alloc: Global) -> Result<Json, AllocError> {
-        self.to_ast_json_at(alloc, None)
-    }
-}
-
-impl AstNode for Argument {
-    ghost located = { argument_located };
-
-    fn to_ast_json_at(
-        &self,
-        alloc: Global,
-        location: Option<SourceSpan>,
-    ) -> Result<Json, AllocError> {
-        let mut node = NodeWriter::new(alloc, "Argument", location)?;
+    fn write_node(&self, mut node: NodeWriter) -> Result<Json, AllocError> {
+        node.begin("Argument")?;
         node.put::<Name>("name", &self.name)?;
         node.put::<Node<Value>>("value", &self.value)?;
         Ok(node.into_json())

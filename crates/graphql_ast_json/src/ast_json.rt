@@ -1,16 +1,23 @@
 //! What can be read from AST JSON, and written as it.
-ghost use Rattle.std.specs.Prelude.{◌≡◌, IfOk, IfErr, Some};
+ghost use Rattle.std.specs.Prelude.{◌≡◌, Option, IfOk, IfErr, Some, None, ⊤};
 ghost use Rattle.serde_json.specs.Data.{Data};
 ghost use Rattle.serde_json.specs.Read.{read};
 ghost use Rattle.serde_json.specs.View.{view};
-ghost use Rattle.graphql_base.specs.Node.{node_value};
+ghost use Rattle.graphql_base.specs.Node.{node_location, node_value};
+ghost use Rattle.graphql_base.specs.declared.span.SourceSpan.{SourceSpan};
+ghost use Rattle.graphql_ast_json.specs.code.Drafts.{place_of};
 ghost use Rattle.graphql_ast_json.specs.code.Errors.{IsMemory};
-ghost use Rattle.graphql_ast_json.specs.nodes.Nodes.{Anywhere, IsLocated};
-ghost use Rattle.graphql_ast_json.specs.nodes.OneTree.{IsNeverNull, IsOfOneTree};
+ghost use Rattle.graphql_ast_json.specs.code.NodeReading.{IsInFile, IsOfNone, IsReadAs, StandsAt, node_json};
+ghost use Rattle.graphql_ast_json.specs.declared.read.Unknown.{Unknown};
+ghost use Rattle.graphql_ast_json.specs.declared.read.Unknown.TheVariants.{Refuse};
+ghost use Rattle.graphql_ast_json.specs.lemmas.Leaves.{json_laws};
+ghost use Rattle.graphql_ast_json.specs.nodes.Nodes.{IsLocated};
+ghost use Rattle.graphql_ast_json.specs.nodes.OneTree.{JsonLaws, NodeLaws};
 
 use crate::error::AstJsonError;
-use crate::read::node::{location, node_of};
 use crate::read::text::read_json;
+use crate::read::{NodeReader, Unknown};
+use crate::write::NodeWriter;
 use graphql_base::node::Node;
 use graphql_base::span::{FileId, SourceSpan};
 use serde_json::Value as Json;
@@ -19,8 +26,8 @@ use std::alloc::{AllocError, Global};
 /// A kind of syntax tree that has a form in AST JSON: each node is an object with its `kind`, its members, and perhaps
 /// a location `loc`.
 ///
-/// A member that is null is the same as none. An optional list may be left out where it is empty. What no node of the
-/// kind has is refused, and so is what is missing: nothing is guessed.
+/// A member that is null is the same as none. An optional list may be left out where it is empty. What is missing is
+/// refused: nothing is guessed. So is what no node of the kind has, unless the reading passes over it.
 ///
 /// ```
 /// let json = serde_json::Value::from_str(alloc, "{\"kind\":\"IntValue\",\"value\":\"4\"}")?;
@@ -32,42 +39,111 @@ pub trait AstJson: Sized {
 
     ghost tree: { Self → Tree };
 
-    /// Whether the JSON is of the tree.
-    ghost is_json_of: { Tree → Data → Type 0 };
+    /// Whether the JSON is of the tree, for a reading that refuses or passes over what is unknown.
+    ghost is_json_of: { Unknown → Tree → Data → Type 0 };
+
+    /// Where this stands, if it has a location of its own, as nodes, names and descriptions do.
+    ghost location: { Self → Option SourceSpan };
+
+    /// Whether it stands where the JSON tells.
+    ghost stands: { Self → Data → Type 0 };
 
     /// The tree that the JSON is of. Where the JSON tells where its nodes stand, that is a stretch of the source file.
     ///
     /// `AstJsonError::Invalid` exactly where the JSON is of no such tree, and `AstJsonError::Memory` where memory is
     /// refused.
-    fn from_ast_json(alloc: Global, json: &Json, source: FileId) -> Result<Self, AstJsonError>
-        ensures ok { IfOk result (λ value. is_json_of (tree value) (view json.now)) }
-        ensures err { IfErr result (λ error. ¬ IsMemory error
-            → (tree : Tree) → ¬ is_json_of tree (view json.now)) };
+    fn read_ast_json(node: NodeReader<'_>) -> Result<Self, AstJsonError>
+        ensures ok { IfOk result (λ value. IsReadAs is_json_of node.entry (tree value)) }
+        ensures stands { IfOk result (λ value. stands value (node_json node.entry)) }
+        ensures file { IfOk result (λ value. IsInFile node.entry.source (location value)) }
+        ensures err { IfErr result (λ error. ¬ IsMemory error → IsOfNone is_json_of node.entry) };
 
     /// The tree as JSON. `AllocError` where memory is refused.
     fn to_ast_json(&self, alloc: Global) -> Result<Json, AllocError>
-        ensures { IfOk result (λ json. is_json_of (tree self.now) (view json)) };
+        ensures ok { IfOk result (λ json. (unknown : Unknown)
+            → is_json_of unknown (tree self.now) (view json)) }
+        ensures stands { IfOk result (λ json. stands self.now (view json)) };
 
-    /// No two trees are written alike.
-    ghost one_tree: { IsOfOneTree is_json_of };
+    /// The tree that the JSON is of: `read_ast_json` with what is unknown refused.
+    final fn from_ast_json(alloc: Global, json: &Json, source: FileId) -> Result<Self, AstJsonError>
+        ensures ok { IfOk result (λ value. is_json_of Refuse (tree value) (view json.now)) }
+        ensures stands { IfOk result (λ value. stands value (view json.now)) }
+        ensures file { IfOk result (λ value. IsInFile source (location value)) }
+        ensures err { IfErr result (λ error. ¬ IsMemory error
+            → (tree : Tree) → ¬ is_json_of Refuse tree (view json.now)) }
+    {
+        Self::read_ast_json(NodeReader {
+            alloc,
+            json,
+            source,
+            unknown: Unknown::Refuse,
+        })
+    }
 
-    /// Null is of no tree.
-    ghost never_null: { IsNeverNull is_json_of };
+    /// No two trees are written alike, and null is of none.
+    ghost laws: { JsonLaws is_json_of };
 }
 
 /// A kind of which each tree is one node, so that it may stand at a location.
-pub trait AstNode: AstJson {
+pub trait AstNode: Sized {
+    ghost Tree: { Type 0 };
+
+    ghost tree: { Self → Tree };
+
+    ghost is_node: { Unknown → Tree → Data → Type 0 };
+
+    /// The tree that a node is of, whose location was read.
+    #[doc(hidden)]
+    fn read_node(node: NodeReader<'_>) -> Result<Self, AstJsonError>
+        requires { IsLocated node.unknown (node_json node) }
+        ensures ok { IfOk result (λ value. IsReadAs is_node node.entry (tree value)) }
+        ensures err { IfErr result (λ error. ¬ IsMemory error → IsOfNone is_node node.entry) };
+
+    /// The tree as a node, at the location of the writer.
+    #[doc(hidden)]
+    fn write_node(&self, node: NodeWriter) -> Result<Json, AllocError>
+        ensures ok { IfOk result (λ json. (unknown : Unknown)
+            → is_node unknown (tree self.now) (view json)) }
+        ensures stands { IfOk result (λ json. StandsAt (place_of node) (view json)) };
+
     /// The tree as JSON, at a location if there is one. `AllocError` where memory is refused.
-    fn to_ast_json_at(
+    final fn to_ast_json_at(
         &self,
         alloc: Global,
         location: Option<SourceSpan>,
     ) -> Result<Json, AllocError>
-        ensures { IfOk result (λ json. Self.is_json_of (Self.tree self.now) (view json)) };
+        ensures ok { IfOk result (λ json. (unknown : Unknown)
+            → is_node unknown (tree self.now) (view json)) }
+        ensures stands { IfOk result (λ json. StandsAt location (view json)) }
+    {
+        self.write_node(NodeWriter::new(alloc, location))
+    }
 
-    /// The JSON tells where the node stands, or doesn't tell.
-    ghost located: { (tree : Self.Tree) (json : Data) → Self.is_json_of tree json →
-        IsLocated Anywhere json };
+    /// No two trees are written alike, and each is a node.
+    ghost laws: { NodeLaws is_node };
+}
+
+impl<T: AstNode> AstJson for T {
+    ghost Tree = { T.Tree };
+
+    ghost tree = { T.tree };
+
+    ghost is_json_of = { T.is_node };
+
+    ghost location = { λ _. None };
+
+    ghost stands = { λ _ _. ⊤ };
+
+    ghost laws = { json_laws T.laws };
+
+    fn read_ast_json(node: NodeReader<'_>) -> Result<T, AstJsonError> {
+        node.location()?;
+        T::read_node(node)
+    }
+
+    fn to_ast_json(&self, alloc: Global) -> Result<Json, AllocError> {
+        self.to_ast_json_at(alloc, None)
+    }
 }
 
 impl<T: AstNode + Drop> AstJson for Node<T> {
@@ -75,22 +151,39 @@ impl<T: AstNode + Drop> AstJson for Node<T> {
 
     ghost tree = { λ node. T.tree (node_value node) };
 
-    ghost is_json_of = { T.is_json_of };
+    ghost is_json_of = { T.is_node };
 
-    ghost one_tree = { T.one_tree };
+    ghost location = { node_location };
 
-    ghost never_null = { T.never_null };
+    ghost stands = { λ node. StandsAt (node_location node) };
+
+    ghost laws = { json_laws T.laws };
 
     /// The node, at its location if the JSON tells one.
-    fn from_ast_json(alloc: Global, json: &Json, source: FileId) -> Result<Node<T>, AstJsonError> {
-        let value = T::from_ast_json(alloc, json, source)?;
-        let location = location(alloc, json, source)?;
-        Ok(node_of(alloc, location, value)?)
+    fn read_ast_json(node: NodeReader<'_>) -> Result<Node<T>, AstJsonError> {
+        let location = node.location()?;
+        let value = T::read_node(node)?;
+        Ok(node_at(node.alloc, location, value)?)
     }
 
     /// The node, at its location if it has one.
     fn to_ast_json(&self, alloc: Global) -> Result<Json, AllocError> {
         self.as_ref().to_ast_json_at(alloc, self.location())
+    }
+}
+
+/// A node of this value, at its location if it has one.
+pub(crate) fn node_at<T: Drop>(
+    alloc: Global,
+    location: Option<SourceSpan>,
+    value: T,
+) -> Result<Node<T>, AllocError>
+    ensures value { IfOk result (λ node. node_value node ≡ value) }
+    ensures location { IfOk result (λ node. node_location node ≡ location) }
+{
+    match location {
+        Some(span) => Node::new_parsed(alloc, value, span),
+        None => Node::new(alloc, value),
     }
 }
 
@@ -104,9 +197,10 @@ pub fn from_ast_json_str<T: AstJson>(
     source: FileId,
 ) -> Result<T, AstJsonError>
     ensures ok { IfOk result (λ value.
-        (json : Data) × (read text.now ≡ Some json) × T.is_json_of (T.tree value) json) }
+        (json : Data) × (read text.now ≡ Some json) × T.is_json_of Refuse (T.tree value) json) }
     ensures err { IfErr result (λ error. ¬ IsMemory error
-        → (json : Data) → read text.now ≡ Some json → (tree : T.Tree) → ¬ T.is_json_of tree json) }
+        → (json : Data) → read text.now ≡ Some json
+        → (tree : T.Tree) → ¬ T.is_json_of Refuse tree json) }
 {
     let json = read_json(alloc, text)?;
     T::from_ast_json(alloc, &json, source)

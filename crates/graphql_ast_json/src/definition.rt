@@ -1,15 +1,16 @@
 //! Definitions in AST JSON: each is the node that it is by itself.
 ghost use Rattle.graphql_ast.specs.AstTrees.{definition_tree};
+ghost use Rattle.graphql_ast.specs.DefinitionQueries.{definition_location};
 ghost use Rattle.graphql_ast.specs.Definitions.{DefinitionTree};
+ghost use Rattle.graphql_ast_json.specs.code.NodeReading.{StandsAt};
 ghost use Rattle.graphql_ast_json.specs.kinds.DocumentJson.{IsAnyDefinition};
-ghost use Rattle.graphql_ast_json.specs.lemmas.DocumentNodes.{any_definition_never_null, same_any_definition};
+ghost use Rattle.graphql_ast_json.specs.lemmas.DocumentNodes.{any_definition_laws};
 
 use crate::ast_json::AstJson;
 use crate::error::AstJsonError;
-use crate::read::members::text_member;
-use graphql_ast::definition::Definition;
+use crate::read::NodeReader;
+use graphql_ast::ast::Definition;
 use graphql_base::node::Node;
-use graphql_base::span::FileId;
 use serde_json::Value as Json;
 use std::alloc::{AllocError, Global};
 
@@ -20,91 +21,63 @@ impl AstJson for Definition {
 
     ghost is_json_of = { IsAnyDefinition };
 
-    ghost one_tree = { same_any_definition };
+    ghost location = { definition_location };
 
-    ghost never_null = { any_definition_never_null };
+    ghost stands = { λ definition. StandsAt (definition_location definition) };
 
-    fn from_ast_json(
-        alloc: Global,
-        json: &Json,
-        source: FileId,
-    ) -> Result<Definition, AstJsonError> {
-        let kind = text_member(alloc, json, "kind")?;
+    ghost laws = { any_definition_laws };
+
+    fn read_ast_json(node: NodeReader<'_>) -> Result<Definition, AstJsonError> {
+        let kind = node.text("kind")?;
         match kind {
-            "OperationDefinition" => Ok(Definition::OperationDefinition(Node::from_ast_json(
-                alloc, json, source,
+            "OperationDefinition" => Ok(Self::OperationDefinition(Node::read_ast_json(node)?)),
+            "FragmentDefinition" => Ok(Self::FragmentDefinition(Node::read_ast_json(node)?)),
+            "DirectiveDefinition" => Ok(Self::DirectiveDefinition(Node::read_ast_json(node)?)),
+            "SchemaDefinition" => Ok(Self::SchemaDefinition(Node::read_ast_json(node)?)),
+            "ScalarTypeDefinition" => Ok(Self::ScalarTypeDefinition(Node::read_ast_json(node)?)),
+            "ObjectTypeDefinition" => Ok(Self::ObjectTypeDefinition(Node::read_ast_json(node)?)),
+            "InterfaceTypeDefinition" => Ok(Self::InterfaceTypeDefinition(Node::read_ast_json(
+                node,
             )?)),
-            "FragmentDefinition" => Ok(Definition::FragmentDefinition(Node::from_ast_json(
-                alloc, json, source,
+            "UnionTypeDefinition" => Ok(Self::UnionTypeDefinition(Node::read_ast_json(node)?)),
+            "EnumTypeDefinition" => Ok(Self::EnumTypeDefinition(Node::read_ast_json(node)?)),
+            "InputObjectTypeDefinition" => Ok(Self::InputObjectTypeDefinition(Node::read_ast_json(
+                node,
             )?)),
-            "DirectiveDefinition" => Ok(Definition::DirectiveDefinition(Node::from_ast_json(
-                alloc, json, source,
+            "SchemaExtension" => Ok(Self::SchemaExtension(Node::read_ast_json(node)?)),
+            "ScalarTypeExtension" => Ok(Self::ScalarTypeExtension(Node::read_ast_json(node)?)),
+            "ObjectTypeExtension" => Ok(Self::ObjectTypeExtension(Node::read_ast_json(node)?)),
+            "InterfaceTypeExtension" => Ok(Self::InterfaceTypeExtension(Node::read_ast_json(
+                node,
             )?)),
-            "SchemaDefinition" => Ok(Definition::SchemaDefinition(Node::from_ast_json(
-                alloc, json, source,
+            "UnionTypeExtension" => Ok(Self::UnionTypeExtension(Node::read_ast_json(node)?)),
+            "EnumTypeExtension" => Ok(Self::EnumTypeExtension(Node::read_ast_json(node)?)),
+            "InputObjectTypeExtension" => Ok(Self::InputObjectTypeExtension(Node::read_ast_json(
+                node,
             )?)),
-            "ScalarTypeDefinition" => Ok(Definition::ScalarTypeDefinition(Node::from_ast_json(
-                alloc, json, source,
-            )?)),
-            "ObjectTypeDefinition" => Ok(Definition::ObjectTypeDefinition(Node::from_ast_json(
-                alloc, json, source,
-            )?)),
-            "InterfaceTypeDefinition" => Ok(Definition::InterfaceTypeDefinition(Node::from_ast_json(
-                alloc, json, source,
-            )?)),
-            "UnionTypeDefinition" => Ok(Definition::UnionTypeDefinition(Node::from_ast_json(
-                alloc, json, source,
-            )?)),
-            "EnumTypeDefinition" => Ok(Definition::EnumTypeDefinition(Node::from_ast_json(
-                alloc, json, source,
-            )?)),
-            "InputObjectTypeDefinition" => Ok(Definition::InputObjectTypeDefinition(
-                Node::from_ast_json(alloc, json, source)?,
-            )),
-            "SchemaExtension" => Ok(Definition::SchemaExtension(Node::from_ast_json(
-                alloc, json, source,
-            )?)),
-            "ScalarTypeExtension" => Ok(Definition::ScalarTypeExtension(Node::from_ast_json(
-                alloc, json, source,
-            )?)),
-            "ObjectTypeExtension" => Ok(Definition::ObjectTypeExtension(Node::from_ast_json(
-                alloc, json, source,
-            )?)),
-            "InterfaceTypeExtension" => Ok(Definition::InterfaceTypeExtension(Node::from_ast_json(
-                alloc, json, source,
-            )?)),
-            "UnionTypeExtension" => Ok(Definition::UnionTypeExtension(Node::from_ast_json(
-                alloc, json, source,
-            )?)),
-            "EnumTypeExtension" => Ok(Definition::EnumTypeExtension(Node::from_ast_json(
-                alloc, json, source,
-            )?)),
-            "InputObjectTypeExtension" => Ok(Definition::InputObjectTypeExtension(
-                Node::from_ast_json(alloc, json, source)?,
-            )),
-            _ => Err(AstJsonError::kind(alloc, kind, "a definition").in_member(alloc, "kind")),
+            _ => Err(node.wrong_kind(kind, "a definition")),
         }
     }
 
     fn to_ast_json(&self, alloc: Global) -> Result<Json, AllocError> {
         match self {
-            Definition::OperationDefinition(node) => node.to_ast_json(alloc),
-            Definition::FragmentDefinition(node) => node.to_ast_json(alloc),
-            Definition::DirectiveDefinition(node) => node.to_ast_json(alloc),
-            Definition::SchemaDefinition(node) => node.to_ast_json(alloc),
-            Definition::ScalarTypeDefinition(node) => node.to_ast_json(alloc),
-            Definition::ObjectTypeDefinition(node) => node.to_ast_json(alloc),
-            Definition::InterfaceTypeDefinition(node) => node.to_ast_json(alloc),
-            Definition::UnionTypeDefinition(node) => node.to_ast_json(alloc),
-            Definition::EnumTypeDefinition(node) => node.to_ast_json(alloc),
-            Definition::InputObjectTypeDefinition(node) => node.to_ast_json(alloc),
-            Definition::SchemaExtension(node) => node.to_ast_json(alloc),
-            Definition::ScalarTypeExtension(node) => node.to_ast_json(alloc),
-            Definition::ObjectTypeExtension(node) => node.to_ast_json(alloc),
-            Definition::InterfaceTypeExtension(node) => node.to_ast_json(alloc),
-            Definition::UnionTypeExtension(node) => node.to_ast_json(alloc),
-            Definition::EnumTypeExtension(node) => node.to_ast_json(alloc),
-            Definition::InputObjectTypeExtension(node) => node.to_ast_json(alloc),
+            Self::OperationDefinition(node) => node.to_ast_json(alloc),
+            Self::FragmentDefinition(node) => node.to_ast_json(alloc),
+            Self::DirectiveDefinition(node) => node.to_ast_json(alloc),
+            Self::SchemaDefinition(node) => node.to_ast_json(alloc),
+            Self::ScalarTypeDefinition(node) => node.to_ast_json(alloc),
+            Self::ObjectTypeDefinition(node) => node.to_ast_json(alloc),
+            Self::InterfaceTypeDefinition(node) => node.to_ast_json(alloc),
+            Self::UnionTypeDefinition(node) => node.to_ast_json(alloc),
+            Self::EnumTypeDefinition(node) => node.to_ast_json(alloc),
+            Self::InputObjectTypeDefinition(node) => node.to_ast_json(alloc),
+            Self::SchemaExtension(node) => node.to_ast_json(alloc),
+            Self::ScalarTypeExtension(node) => node.to_ast_json(alloc),
+            Self::ObjectTypeExtension(node) => node.to_ast_json(alloc),
+            Self::InterfaceTypeExtension(node) => node.to_ast_json(alloc),
+            Self::UnionTypeExtension(node) => node.to_ast_json(alloc),
+            Self::EnumTypeExtension(node) => node.to_ast_json(alloc),
+            Self::InputObjectTypeExtension(node) => node.to_ast_json(alloc),
         }
     }
 }

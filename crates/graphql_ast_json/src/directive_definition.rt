@@ -1,84 +1,55 @@
 //! Definitions of directives in AST JSON.
-ghost use Rattle.graphql_values.specs.trees.DefinitionTrees.{directive_definition_tree};
 ghost use Rattle.graphql_values.specs.kinds.DirectiveDefinitions.{directive_definition_kind};
+ghost use Rattle.graphql_values.specs.trees.DefinitionTrees.{directive_definition_tree};
 ghost use Rattle.graphql_ast_json.specs.kinds.DefinitionJson.{IsDirectiveDefinition};
-ghost use Rattle.graphql_ast_json.specs.lemmas.DefinitionNodes.{directive_definition_located, directive_definition_never_null, same_directive_definition};
+ghost use Rattle.graphql_ast_json.specs.lemmas.DefinitionNodes.{directive_definition_laws};
 
-use crate::ast_json::{AstJson, AstNode};
+use crate::ast_json::AstNode;
 use crate::error::AstJsonError;
-use crate::read::members::boolean_member;
-use crate::read::node::check_node;
-use crate::read::trees::{member_tree, member_trees, optional_member_tree, optional_member_trees};
-use crate::write::node::NodeWriter;
-use graphql_base::name::Name;
+use crate::read::NodeReader;
+use crate::write::NodeWriter;
+use graphql_ast::ast::{DirectiveDefinition, DirectiveLocation, InputValueDefinition};
+use graphql_ast::name::Name;
 use graphql_base::node::{Node, NodeStr};
-use graphql_base::span::{FileId, SourceSpan};
-use graphql_values::directive_definition::DirectiveDefinition;
-use graphql_values::directive_location::DirectiveLocation;
-use graphql_values::input_value_definition::InputValueDefinition;
 use serde_json::Value as Json;
-use std::alloc::{AllocError, Global};
+use std::alloc::AllocError;
 
-const MEMBERS: [&str; 7] = [
-    "kind",
-    "loc",
-    "description",
-    "name",
-    "arguments",
-    "repeatable",
-    "locations",
-];
-
-impl AstJson for DirectiveDefinition {
+impl AstNode for DirectiveDefinition {
     ghost Tree = { directive_definition_kind.Tree };
 
     ghost tree = { directive_definition_tree };
 
-    ghost is_json_of = { IsDirectiveDefinition };
+    ghost is_node = { IsDirectiveDefinition };
 
-    ghost one_tree = { same_directive_definition };
+    ghost laws = { directive_definition_laws };
 
-    ghost never_null = { directive_definition_never_null };
-
-    fn from_ast_json(
-        alloc: Global,
-        json: &Json,
-        source: FileId,
-    ) -> Result<DirectiveDefinition, AstJsonError> {
-        check_node(alloc, json, "DirectiveDefinition", &MEMBERS, source)?;
-        Ok(DirectiveDefinition {
-            description: optional_member_tree::<NodeStr>(alloc, json, "description", source)?,
-            name: member_tree::<Name>(alloc, json, "name", source)?,
-            arguments: optional_member_trees::<Node<InputValueDefinition>>(
-                alloc,
-                json,
+    fn read_node(node: NodeReader<'_>) -> Result<DirectiveDefinition, AstJsonError> {
+        node.check(
+            "DirectiveDefinition",
+            &[
+                "description",
+                "name",
                 "arguments",
-                source,
-            )?,
-            repeatable: boolean_member(alloc, json, "repeatable")?,
-            locations: member_trees::<DirectiveLocation>(alloc, json, "locations", source)?,
+                "repeatable",
+                "locations",
+            ],
+        )?;
+        Ok(DirectiveDefinition {
+            description: node.optional::<NodeStr>("description")?,
+            name: node.member::<Name>("name")?,
+            arguments: node.list::<Node<InputValueDefinition>>("arguments")?,
+            repeatable: node.flag("repeatable")?,
+            locations: node.required_list::<DirectiveLocation>("locations")?,
         })
     }
 
-    fn to_ast_json(&self, alloc: Global) -> Result<Json, AllocError> {
-        self.to_ast_json_at(alloc, None)
-    }
-}
-
-impl AstNode for DirectiveDefinition {
-    ghost located = { directive_definition_located };
-
-    fn to_ast_json_at(
-        &self,
-        alloc: Global,
-        location: Option<SourceSpan>,
-    ) -> Result<Json, AllocError> {
-        let mut node = NodeWriter::new(alloc, "DirectiveDefinition", location)?;
+    fn write_node(&self, mut node: NodeWriter) -> Result<Json, AllocError> {
+        node.begin("DirectiveDefinition")?;
         node.put_optional::<NodeStr>("description", &self.description)?;
         node.put::<Name>("name", &self.name)?;
-        node.put_list::<Node<InputValueDefinition>>("arguments", self.arguments.as_slice())?;
+        node.put_list::<Node<InputValueDefinition>>("arguments", &self.arguments)?;
         node.put_boolean("repeatable", self.repeatable)?;
-        node.put_list::<DirectiveLocation>("locations", self.locations.as_slice())?;
+        node.put_list::<DirectiveLocation>("locations", &self.locations)?;
         Ok(node.into_json())
     }
 }

@@ -3,17 +3,15 @@ ghost use Rattle.std.specs.Prelude.{◌≡◌, IfSome, IsNone};
 ghost use Rattle.graphql_values.specs.kinds.DirectiveLocations.{DirectiveLocationTree, location_name};
 ghost use Rattle.graphql_values.specs.trees.LocationTrees.{location_tree};
 ghost use Rattle.graphql_ast_json.specs.kinds.DefinitionJson.{IsDirectiveLocation};
-ghost use Rattle.graphql_ast_json.specs.lemmas.DefinitionNodes.{location_never_null, same_location};
+ghost use Rattle.graphql_ast_json.specs.lemmas.DefinitionNodes.{location_laws};
 
-use crate::ast_json::AstJson;
+use crate::ast_json::AstNode;
 use crate::error::AstJsonError;
-use crate::read::members::text_member;
-use crate::read::node::check_node;
-use crate::write::node::write_text_node;
-use graphql_base::span::FileId;
-use graphql_values::directive_location::DirectiveLocation;
+use crate::read::NodeReader;
+use crate::write::NodeWriter;
+use graphql_ast::ast::DirectiveLocation;
 use serde_json::Value as Json;
-use std::alloc::{AllocError, Global};
+use std::alloc::AllocError;
 
 /// The directive location whose word in the grammar the text is.
 fn location_named(text: &str) -> Option<DirectiveLocation>
@@ -45,34 +43,25 @@ fn location_named(text: &str) -> Option<DirectiveLocation>
     }
 }
 
-impl AstJson for DirectiveLocation {
+/// Where a directive location stands is tested and left out.
+impl AstNode for DirectiveLocation {
     ghost Tree = { DirectiveLocationTree };
 
     ghost tree = { location_tree };
 
-    ghost is_json_of = { IsDirectiveLocation };
+    ghost is_node = { IsDirectiveLocation };
 
-    ghost one_tree = { same_location };
+    ghost laws = { location_laws };
 
-    ghost never_null = { location_never_null };
-
-    fn from_ast_json(
-        alloc: Global,
-        json: &Json,
-        source: FileId,
-    ) -> Result<DirectiveLocation, AstJsonError> {
-        check_node(alloc, json, "Name", &["kind", "loc", "value"], source)?;
-        let text = text_member(alloc, json, "value")?;
+    fn read_node(node: NodeReader<'_>) -> Result<DirectiveLocation, AstJsonError> {
+        let text = node.text_of_kind("Name")?;
         match location_named(text) {
             Some(location) => Ok(location),
-            None => {
-                let error = AstJsonError::text(alloc, text, "a directive location");
-                Err(error.in_member(alloc, "value"))
-            }
+            None => Err(node.wrong_text("value", text, "a directive location")),
         }
     }
 
-    fn to_ast_json(&self, alloc: Global) -> Result<Json, AllocError> {
-        write_text_node(alloc, "Name", None, self.name())
+    fn write_node(&self, node: NodeWriter) -> Result<Json, AllocError> {
+        node.with_text("Name", self.name())
     }
 }

@@ -1,6 +1,7 @@
 //! Why JSON is of no syntax tree, and where in it.
 ghost use Rattle.std.specs.Prelude.{◌≡◌, ◌↔◌, IsTrue};
 
+use graphql_base::span::SourceSpan;
 use std::alloc::{AllocError, AllocFailed, Global};
 use std::fmt::{self, Display, Formatter, Write};
 use thiserror::Error;
@@ -29,6 +30,45 @@ impl Display for JsonType {
     }
 }
 
+/// How many characters of a text that was found an error tells.
+const EXCERPT: usize = 60;
+
+/// A text that was found: its first characters, which are escaped where it is displayed.
+#[derive(Debug, Drop)]
+pub struct Excerpt {
+    text: String,
+    is_cut: bool,
+}
+
+impl Excerpt {
+    fn new(alloc: Global, found: &str) -> Result<Excerpt, AllocError> {
+        let mut text = String::new(alloc);
+        for (count, character) in found.chars().enumerate() {
+            if count == EXCERPT {
+                return Ok(Excerpt { text, is_cut: true });
+            }
+            text.push(character)?;
+        }
+        Ok(Excerpt {
+            text,
+            is_cut: false,
+        })
+    }
+}
+
+impl Display for Excerpt {
+    fn fmt<W: Write>(&self, f: &mut Formatter<W>) -> fmt::Result {
+        if self.text.is_empty() {
+            return f.write_str("an empty text");
+        }
+        f.write_str("`")?;
+        for character in self.text.chars() {
+            write!(f, "{}", character.escape_debug())?;
+        }
+        f.write_str(if self.is_cut { "..`" } else { "`" })
+    }
+}
+
 /// What is wrong with a part of the JSON.
 #[derive(Debug, Drop, Error)]
 pub enum AstJsonProblem {
@@ -36,26 +76,23 @@ pub enum AstJsonProblem {
     #[error("found {found} where {wanted} was wanted")]
     WrongType { found: JsonType, wanted: JsonType },
     /// A member that each node of this kind has. One that is null counts as missing.
-    #[error("found no member `{name}`")]
-    MissingMember { name: String },
+    #[error("found no member `{name}`, which each {of} has")]
+    MissingMember { name: String, of: String },
     /// A member that no node of this kind has.
-    #[error("found a member `{name}`, which no such node has")]
-    UnknownMember { name: String },
+    #[error("found a member {name}, which no {of} has")]
+    UnknownMember { name: Excerpt, of: String },
     /// A kind other than the one that is wanted here, or than each of those.
-    #[error("found the kind `{found}` where {wanted} was wanted")]
-    UnknownKind { found: String, wanted: String },
+    #[error("found the kind {found} where {wanted} was wanted")]
+    UnknownKind { found: Excerpt, wanted: String },
     /// A text outside the syntax of what is wanted, as a name.
-    #[error("found `{found}` where {wanted} was wanted")]
-    WrongText { found: String, wanted: String },
+    #[error("found {found} where {wanted} was wanted")]
+    WrongText { found: Excerpt, wanted: String },
     /// A number of a location that is no integer below 2^32.
     #[error("found a number that is no integer from 0 to 4294967295")]
     WrongOffset,
     /// A location that starts after its end.
     #[error("found a location from {start} to {end}, which starts after its end")]
     WrongOrder { start: u32, end: u32 },
-    /// A location of a name that is not as long as the name.
-    #[error("found a location of length {found} at a name of length {wanted}")]
-    WrongLength { found: u32, wanted: usize },
 }
 
 /// A position within JSON, as `fields[0].value`. The root is the empty path.
@@ -133,17 +170,31 @@ pub enum AstJsonError {
     #[error("out of memory")]
     Memory,
     /// The text is no JSON.
-    #[error(transparent)]
+    #[error("not JSON: {0}")]
     NotJson(serde_json::Error),
     /// Arrays and objects of the text stand in one another deeper than JSON is read.
     #[error("arrays and objects stand in one another more than 127 deep")]
     TooDeep,
-    /// The JSON is of no such tree, because of this problem at this position.
-    #[error("at {path}: {problem}")]
+    /// The JSON is of no such tree, because of this problem at this position, in a node that tells this place.
+    #[error("at {path}{place}: {problem}")]
     Invalid {
         path: JsonPath,
+        place: NodePlace,
         problem: AstJsonProblem,
     },
+}
+
+/// Where the innermost node stands that has the problem and tells its place, if there is one.
+#[derive(Clone, Copy, Debug, PartialEq, Eq)]
+pub struct NodePlace(pub Option<SourceSpan>);
+
+impl Display for NodePlace {
+    fn fmt<W: Write>(&self, f: &mut Formatter<W>) -> fmt::Result {
+        match self.0 {
+            Some(span) => write!(f, ", in a node from {} to {}", span.start(), span.end()),
+            None => Ok(()),
+        }
+    }
 }
 
 impl AstJsonError {
@@ -154,6 +205,116 @@ impl AstJsonError {
         ensures { IsTrue result ↔ IsMemory self.now }
     {
         matches!(self, Self::Memory)
+    }
+
+    /// A problem of the JSON itself that is read.
+    pub(crate) fn here(
+        alloc: Global,
+        place: Option<SourceSpan>,
+        problem: AstJsonProblem,
+    ) -> AstJsonError {
+        AstJsonError::Invalid {
+            path: JsonPath::root(alloc),
+            place: NodePlace(place),
+            problem,
+        }
+    }
+
+    /// The error, told from the object that has the position in this member and perhaps tells its own place.
+    pub(crate) fn in_member(
+        self,
+        alloc: Global,
+        name: &str,
+        outer: Option<SourceSpan>,
+    ) -> AstJsonError
+        ensures { IsMemory self → IsMemory result }
+    {
+        match self {
+            AstJsonError::Invalid {
+                path,
+                place,
+                problem,
+            } => match path.in_member(alloc, name) {
+                Ok(path) => AstJsonError::Invalid {
+                    path,
+                    place: NodePlace(place.0.or(outer)),
+                    problem,
+                },
+                Err(_) => AstJsonError::Memory,
+            },
+            other => other,
+        }
+    }
+
+    /// The error, told from the array that has the position in this item.
+    pub(crate) fn in_item(self, alloc: Global, index: usize) -> AstJsonError
+        ensures { IsMemory self → IsMemory result }
+    {
+        match self {
+            AstJsonError::Invalid {
+                path,
+                place,
+                problem,
+            } => match path.in_item(alloc, index) {
+                Ok(path) => AstJsonError::Invalid {
+                    path,
+                    place,
+                    problem,
+                },
+                Err(_) => AstJsonError::Memory,
+            },
+            other => other,
+        }
+    }
+}
+
+impl AstJsonProblem {
+    /// A member that is missing in each of these.
+    pub(crate) fn missing(
+        alloc: Global,
+        name: &str,
+        of: &str,
+    ) -> Result<AstJsonProblem, AllocError> {
+        Ok(AstJsonProblem::MissingMember {
+            name: String::from_str(alloc, name)?,
+            of: String::from_str(alloc, of)?,
+        })
+    }
+
+    /// A member that none of these has.
+    pub(crate) fn unknown(
+        alloc: Global,
+        name: &str,
+        of: &str,
+    ) -> Result<AstJsonProblem, AllocError> {
+        Ok(AstJsonProblem::UnknownMember {
+            name: Excerpt::new(alloc, name)?,
+            of: String::from_str(alloc, of)?,
+        })
+    }
+
+    /// A kind that is not wanted here.
+    pub(crate) fn kind(
+        alloc: Global,
+        found: &str,
+        wanted: &str,
+    ) -> Result<AstJsonProblem, AllocError> {
+        Ok(AstJsonProblem::UnknownKind {
+            found: Excerpt::new(alloc, found)?,
+            wanted: String::from_str(alloc, wanted)?,
+        })
+    }
+
+    /// A text outside the syntax of what is wanted.
+    pub(crate) fn text(
+        alloc: Global,
+        found: &str,
+        wanted: &str,
+    ) -> Result<AstJsonProblem, AllocError> {
+        Ok(AstJsonProblem::WrongText {
+            found: Excerpt::new(alloc, found)?,
+            wanted: String::from_str(alloc, wanted)?,
+        })
     }
 }
 
@@ -174,85 +335,5 @@ impl<T: Drop> From<AllocFailed<T>> for AstJsonError {
 
     fn from(_error: AllocFailed<T>) -> AstJsonError {
         AstJsonError::Memory
-    }
-}
-
-impl AstJsonError {
-    ghost use Rattle.graphql_ast_json.specs.code.Errors.{IsMemory};
-
-    /// A problem of the JSON itself that is read.
-    pub(crate) fn here(alloc: Global, problem: AstJsonProblem) -> AstJsonError {
-        AstJsonError::Invalid {
-            path: JsonPath::root(alloc),
-            problem,
-        }
-    }
-
-    /// The error, told from the object that has the position in this member.
-    pub(crate) fn in_member(self, alloc: Global, name: &str) -> AstJsonError
-        ensures { IsMemory self → IsMemory result }
-    {
-        match self {
-            AstJsonError::Invalid { path, problem } => match path.in_member(alloc, name) {
-                Ok(path) => AstJsonError::Invalid { path, problem },
-                Err(_) => AstJsonError::Memory,
-            },
-            other => other,
-        }
-    }
-
-    /// The error, told from the array that has the position in this item.
-    pub(crate) fn in_item(self, alloc: Global, index: usize) -> AstJsonError
-        ensures { IsMemory self → IsMemory result }
-    {
-        match self {
-            AstJsonError::Invalid { path, problem } => match path.in_item(alloc, index) {
-                Ok(path) => AstJsonError::Invalid { path, problem },
-                Err(_) => AstJsonError::Memory,
-            },
-            other => other,
-        }
-    }
-
-    /// A missing member, or out of memory.
-    pub(crate) fn missing(alloc: Global, name: &str) -> AstJsonError {
-        match String::from_str(alloc, name) {
-            Ok(name) => AstJsonError::here(alloc, AstJsonProblem::MissingMember { name }),
-            Err(_) => AstJsonError::Memory,
-        }
-    }
-
-    /// A member that no such node has, or out of memory.
-    pub(crate) fn unknown(alloc: Global, name: &str) -> AstJsonError {
-        match String::from_str(alloc, name) {
-            Ok(name) => AstJsonError::here(alloc, AstJsonProblem::UnknownMember { name }),
-            Err(_) => AstJsonError::Memory,
-        }
-    }
-
-    /// A kind that is not wanted here, or out of memory.
-    pub(crate) fn kind(alloc: Global, found: &str, wanted: &str) -> AstJsonError {
-        match (
-            String::from_str(alloc, found),
-            String::from_str(alloc, wanted),
-        ) {
-            (Ok(found), Ok(wanted)) => {
-                AstJsonError::here(alloc, AstJsonProblem::UnknownKind { found, wanted })
-            }
-            _ => AstJsonError::Memory,
-        }
-    }
-
-    /// A text outside the syntax of what is wanted, or out of memory.
-    pub(crate) fn text(alloc: Global, found: &str, wanted: &str) -> AstJsonError {
-        match (
-            String::from_str(alloc, found),
-            String::from_str(alloc, wanted),
-        ) {
-            (Ok(found), Ok(wanted)) => {
-                AstJsonError::here(alloc, AstJsonProblem::WrongText { found, wanted })
-            }
-            _ => AstJsonError::Memory,
-        }
     }
 }

@@ -7,22 +7,27 @@ ghost use Rattle.graphql_text.specs.lexical.Literals.{NameText};
 ghost use Rattle.graphql_executable.specs.trees.ExecutableTrees.{selection_trees};
 ghost use Rattle.graphql_executable.specs.kinds.Selections.{SelectionTrees};
 ghost use Rattle.graphql_ast_json.specs.code.Errors.{IsMemory};
+ghost use Rattle.graphql_ast_json.specs.code.NodeReading.{IsOfNone, IsReadAs};
+ghost use Rattle.graphql_ast_json.specs.declared.read.Unknown.{Unknown};
 ghost use Rattle.graphql_ast_json.specs.kinds.ExecutableJson.{IsSelectionSet, IsVariable};
-ghost use Rattle.graphql_ast_json.specs.nodes.OneTree.{IsNeverNull};
 ghost use Rattle.graphql_ast_json.specs.kinds.TypeJson.{IsNamedType};
-ghost use Rattle.graphql_ast_json.specs.lemmas.ExecutableNodes.{selection_set_never_null, variable_never_null};
-ghost use Rattle.graphql_ast_json.specs.lemmas.TypeNodes.{named_type_never_null};
+ghost use Rattle.graphql_ast_json.specs.lemmas.ExecutableNodes.{selection_set_laws, variable_laws};
+ghost use Rattle.graphql_ast_json.specs.lemmas.Leaves.{json_laws};
+ghost use Rattle.graphql_ast_json.specs.lemmas.TypeNodes.{named_type_laws};
+ghost use Rattle.graphql_ast_json.specs.nodes.OneTree.{JsonLaws};
 
 use crate::ast_json::AstJson;
 use crate::error::AstJsonError;
+use crate::read::NodeReader;
 use crate::selection::read::read_selection_set;
 use crate::selection::write::write_selection_set;
-use crate::types::{read_named_type, write_named_type};
+use crate::types::read::read_named_type;
+use crate::types::write::write_named_type;
 use crate::value::read::variable_name;
 use crate::value::write::write_variable;
-use graphql_base::name::{Name, NamedType};
-use graphql_base::span::FileId;
-use graphql_executable::selection::Selection;
+use crate::write::NodeWriter;
+use graphql_ast::ast::{NamedType, Selection};
+use graphql_ast::name::Name;
 use serde_json::Value as Json;
 use std::alloc::{AllocError, Global};
 
@@ -35,17 +40,17 @@ pub trait Form {
 
     ghost tree: { Self.Value → Tree };
 
-    ghost is_json_of: { Tree → Data → Type 0 };
+    ghost is_json_of: { Unknown → Tree → Data → Type 0 };
 
-    fn read(alloc: Global, json: &Json, source: FileId) -> Result<Self::Value, AstJsonError>
-        ensures ok { IfOk result (λ value. is_json_of (tree value) (view json.now)) }
-        ensures err { IfErr result (λ error. ¬ IsMemory error
-            → (tree : Tree) → ¬ is_json_of tree (view json.now)) };
+    fn read(node: NodeReader<'_>) -> Result<Self::Value, AstJsonError>
+        ensures ok { IfOk result (λ value. IsReadAs is_json_of node.entry (tree value)) }
+        ensures err { IfErr result (λ error. ¬ IsMemory error → IsOfNone is_json_of node.entry) };
 
     fn write(alloc: Global, value: &Self::Value) -> Result<Json, AllocError>
-        ensures { IfOk result (λ json. is_json_of (tree value.now) (view json)) };
+        ensures { IfOk result (λ json. (unknown : Unknown)
+            → is_json_of unknown (tree value.now) (view json)) };
 
-    ghost never_null: { IsNeverNull is_json_of };
+    ghost laws: { JsonLaws is_json_of };
 }
 
 impl<T: AstJson + Drop> Form for T {
@@ -57,10 +62,10 @@ impl<T: AstJson + Drop> Form for T {
 
     ghost is_json_of = { T.is_json_of };
 
-    ghost never_null = { T.never_null };
+    ghost laws = { T.laws };
 
-    fn read(alloc: Global, json: &Json, source: FileId) -> Result<T, AstJsonError> {
-        T::from_ast_json(alloc, json, source)
+    fn read(node: NodeReader<'_>) -> Result<T, AstJsonError> {
+        T::read_ast_json(node)
     }
 
     fn write(alloc: Global, value: &T) -> Result<Json, AllocError> {
@@ -80,14 +85,15 @@ impl Form for NamedTypeForm {
 
     ghost is_json_of = { IsNamedType };
 
-    ghost never_null = { named_type_never_null };
+    ghost laws = { json_laws named_type_laws };
 
-    fn read(alloc: Global, json: &Json, source: FileId) -> Result<NamedType, AstJsonError> {
-        read_named_type(alloc, json, source)
+    fn read(node: NodeReader<'_>) -> Result<NamedType, AstJsonError> {
+        node.location()?;
+        read_named_type(node)
     }
 
     fn write(alloc: Global, value: &NamedType) -> Result<Json, AllocError> {
-        write_named_type(alloc, None, value)
+        write_named_type(NodeWriter::new(alloc, None), value)
     }
 }
 
@@ -103,14 +109,15 @@ impl Form for VariableForm {
 
     ghost is_json_of = { IsVariable };
 
-    ghost never_null = { variable_never_null };
+    ghost laws = { json_laws variable_laws };
 
-    fn read(alloc: Global, json: &Json, source: FileId) -> Result<Name, AstJsonError> {
-        variable_name(alloc, json, source)
+    fn read(node: NodeReader<'_>) -> Result<Name, AstJsonError> {
+        node.location()?;
+        variable_name(node)
     }
 
     fn write(alloc: Global, value: &Name) -> Result<Json, AllocError> {
-        write_variable(alloc, None, value)
+        write_variable(NodeWriter::new(alloc, None), value)
     }
 }
 
@@ -126,10 +133,10 @@ impl Form for SelectionSetForm {
 
     ghost is_json_of = { IsSelectionSet };
 
-    ghost never_null = { selection_set_never_null };
+    ghost laws = { json_laws selection_set_laws };
 
-    fn read(alloc: Global, json: &Json, source: FileId) -> Result<Vec<Selection>, AstJsonError> {
-        read_selection_set(alloc, json, source)
+    fn read(node: NodeReader<'_>) -> Result<Vec<Selection>, AstJsonError> {
+        read_selection_set(node)
     }
 
     fn write(alloc: Global, value: &Vec<Selection>) -> Result<Json, AllocError> {

@@ -1,147 +1,77 @@
 //! Input object types in AST JSON: definitions and extensions.
-ghost use Rattle.std.specs.Prelude.{codes};
 ghost use Rattle.graphql_type_system.specs.kinds.InputObjectTypes.{input_object_type_definition_kind, input_object_type_extension_kind};
 ghost use Rattle.graphql_type_system.specs.trees.TypeSystemTrees.{input_object_type_definition_tree, input_object_type_extension_tree};
-ghost use Rattle.graphql_ast_json.specs.kinds.TypeSystemJson.{HasInputObjectType, IsInputObjectTypeDefinition, IsInputObjectTypeExtension, input_object_type_members};
-ghost use Rattle.graphql_ast_json.specs.lemmas.TypeSystemNodes.{definition_located, definition_never_null, extension_located, extension_never_null, same_definition, same_extension, same_input_object_type};
+ghost use Rattle.graphql_ast_json.specs.kinds.TypeSystemJson.{IsInputObjectTypeDefinition, IsInputObjectTypeExtension};
+ghost use Rattle.graphql_ast_json.specs.lemmas.TypeSystemNodes.{input_object_type_definition_laws, input_object_type_extension_laws};
 
-use crate::ast_json::{AstJson, AstNode};
+use crate::ast_json::AstNode;
 use crate::error::AstJsonError;
-use crate::read::node::check_node;
-use crate::read::trees::{member_tree, optional_member_tree, optional_member_trees};
-use crate::write::node::NodeWriter;
-use graphql_base::name::Name;
+use crate::read::NodeReader;
+use crate::write::NodeWriter;
+use graphql_ast::ast::{InputObjectTypeDefinition, InputObjectTypeExtension, InputValueDefinition};
+use graphql_ast::name::Name;
 use graphql_base::node::{Node, NodeStr};
-use graphql_base::span::{FileId, SourceSpan};
-use graphql_type_system::input_object_type::{InputObjectTypeDefinition, InputObjectTypeExtension};
-use graphql_values::directive::Directive;
-use graphql_values::directive_list::DirectiveList;
-use graphql_values::input_value_definition::InputValueDefinition;
 use serde_json::Value as Json;
-use std::alloc::{AllocError, Global};
+use std::alloc::AllocError;
 
-impl AstJson for InputObjectTypeDefinition {
+impl AstNode for InputObjectTypeDefinition {
     ghost Tree = { input_object_type_definition_kind.Tree };
 
     ghost tree = { input_object_type_definition_tree };
 
-    ghost is_json_of = { IsInputObjectTypeDefinition };
+    ghost is_node = { IsInputObjectTypeDefinition };
 
-    ghost one_tree = { same_definition
-        (codes "InputObjectTypeDefinition") input_object_type_members HasInputObjectType
-        same_input_object_type };
+    ghost laws = { input_object_type_definition_laws };
 
-    ghost never_null = { definition_never_null
-        (codes "InputObjectTypeDefinition") input_object_type_members
-        HasInputObjectType };
-
-    fn from_ast_json(
-        alloc: Global,
-        json: &Json,
-        source: FileId,
-    ) -> Result<InputObjectTypeDefinition, AstJsonError> {
-        let members = ["kind", "loc", "description", "name", "directives", "fields"];
-        check_node(alloc, json, "InputObjectTypeDefinition", &members, source)?;
-        let description = optional_member_tree::<NodeStr>(alloc, json, "description", source)?;
-        let name = member_tree::<Name>(alloc, json, "name", source)?;
-        let directives = optional_member_trees::<Node<Directive>>(
-            alloc,
-            json,
-            "directives",
-            source,
-        )?;
-        let fields = optional_member_trees::<Node<InputValueDefinition>>(
-            alloc, json, "fields", source,
+    fn read_node(node: NodeReader<'_>) -> Result<InputObjectTypeDefinition, AstJsonError> {
+        node.check(
+            "InputObjectTypeDefinition",
+            &["description", "name", "directives", "fields"],
         )?;
         Ok(InputObjectTypeDefinition {
-            description,
-            name,
-            directives: DirectiveList(directives),
-            fields,
+            description: node.optional::<NodeStr>("description")?,
+            name: node.member::<Name>("name")?,
+            directives: node.directives()?,
+            fields: node.list::<Node<InputValueDefinition>>("fields")?,
         })
     }
 
-    fn to_ast_json(&self, alloc: Global) -> Result<Json, AllocError> {
-        self.to_ast_json_at(alloc, None)
-    }
-}
-
-impl AstNode for InputObjectTypeDefinition {
-    ghost located = { definition_located
-        (codes "InputObjectTypeDefinition") input_object_type_members
-        HasInputObjectType };
-
-    fn to_ast_json_at(
-        &self,
-        alloc: Global,
-        location: Option<SourceSpan>,
-    ) -> Result<Json, AllocError> {
-        let mut node = NodeWriter::new(alloc, "InputObjectTypeDefinition", location)?;
+    fn write_node(&self, mut node: NodeWriter) -> Result<Json, AllocError> {
+        node.begin("InputObjectTypeDefinition")?;
         node.put_optional::<NodeStr>("description", &self.description)?;
         node.put::<Name>("name", &self.name)?;
-        node.put_list::<Node<Directive>>("directives", self.directives.0.as_slice())?;
-        node.put_list::<Node<InputValueDefinition>>("fields", self.fields.as_slice())?;
+        node.put_directives(&self.directives)?;
+        node.put_list::<Node<InputValueDefinition>>("fields", &self.fields)?;
         Ok(node.into_json())
     }
 }
 
-impl AstJson for InputObjectTypeExtension {
+impl AstNode for InputObjectTypeExtension {
     ghost Tree = { input_object_type_extension_kind.Tree };
 
     ghost tree = { input_object_type_extension_tree };
 
-    ghost is_json_of = { IsInputObjectTypeExtension };
+    ghost is_node = { IsInputObjectTypeExtension };
 
-    ghost one_tree = { same_extension
-        (codes "InputObjectTypeExtension") input_object_type_members HasInputObjectType
-        same_input_object_type };
+    ghost laws = { input_object_type_extension_laws };
 
-    ghost never_null = { extension_never_null
-        (codes "InputObjectTypeExtension") input_object_type_members
-        HasInputObjectType };
-
-    fn from_ast_json(
-        alloc: Global,
-        json: &Json,
-        source: FileId,
-    ) -> Result<InputObjectTypeExtension, AstJsonError> {
-        let members = ["kind", "loc", "name", "directives", "fields"];
-        check_node(alloc, json, "InputObjectTypeExtension", &members, source)?;
-        let name = member_tree::<Name>(alloc, json, "name", source)?;
-        let directives = optional_member_trees::<Node<Directive>>(
-            alloc,
-            json,
-            "directives",
-            source,
-        )?;
-        let fields = optional_member_trees::<Node<InputValueDefinition>>(
-            alloc, json, "fields", source,
+    fn read_node(node: NodeReader<'_>) -> Result<InputObjectTypeExtension, AstJsonError> {
+        node.check(
+            "InputObjectTypeExtension",
+            &["name", "directives", "fields"],
         )?;
         Ok(InputObjectTypeExtension {
-            name,
-            directives: DirectiveList(directives),
-            fields,
+            name: node.member::<Name>("name")?,
+            directives: node.directives()?,
+            fields: node.list::<Node<InputValueDefinition>>("fields")?,
         })
     }
 
-    fn to_ast_json(&self, alloc: Global) -> Result<Json, AllocError> {
-        self.to_ast_json_at(alloc, None)
-    }
-}
-
-impl AstNode for InputObjectTypeExtension {
-    ghost located = { extension_located (codes "InputObjectTypeExtension") input_object_type_members
-        HasInputObjectType };
-
-    fn to_ast_json_at(
-        &self,
-        alloc: Global,
-        location: Option<SourceSpan>,
-    ) -> Result<Json, AllocError> {
-        let mut node = NodeWriter::new(alloc, "InputObjectTypeExtension", location)?;
+    fn write_node(&self, mut node: NodeWriter) -> Result<Json, AllocError> {
+        node.begin("InputObjectTypeExtension")?;
         node.put::<Name>("name", &self.name)?;
-        node.put_list::<Node<Directive>>("directives", self.directives.0.as_slice())?;
-        node.put_list::<Node<InputValueDefinition>>("fields", self.fields.as_slice())?;
+        node.put_directives(&self.directives)?;
+        node.put_list::<Node<InputValueDefinition>>("fields", &self.fields)?;
         Ok(node.into_json())
     }
 }

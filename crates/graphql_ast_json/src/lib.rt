@@ -1,8 +1,10 @@
 //! Syntax trees from AST JSON, the form of graphql-js 16, and as AST JSON.
 //!
 //! - `AstJson`: what can be read from AST JSON, and written as it; `AstNode`: of which each tree is one node.
+//! - `NodeReader`: JSON that is read, by a reading that refuses what is unknown or passes over it.
 //! - `from_ast_json_str`: a tree from the text of its JSON.
 //! - `error`: why JSON is of no tree, and where in it.
+//! - `Offsets`: what the offsets of locations count, and where they fall in bytes.
 //! - `laws`: what holds of AST JSON, as contracts of functions that do nothing.
 #![tactic(auto)]
 
@@ -17,18 +19,17 @@ mod document;
 mod enum_type;
 mod enum_value_definition;
 pub mod error;
-mod field;
 mod field_definition;
 mod form;
 mod fragment_definition;
 mod fragment_spread;
-mod inline_fragment;
 mod input_object_type;
 mod input_value_definition;
 mod interface_type;
 pub mod laws;
 mod name;
 mod object_type;
+mod offsets;
 mod operation_definition;
 mod operation_type;
 mod read;
@@ -45,3 +46,5 @@ mod write;
 
 pub use crate::ast_json::{AstJson, AstNode, from_ast_json_str};
 pub use crate::error::AstJsonError;
+pub use crate::offsets::Offsets;
+pub use crate::read::{NodeReader, Unknown};

@@ -1,48 +1,61 @@
 //! Names in AST JSON: nodes of the kind `Name`.
-ghost use Rattle.std.specs.Prelude.{◌≡◌, IfOk, IfErr, Some, codes};
-ghost use Rattle.serde_json.specs.Data.{string};
-ghost use Rattle.serde_json.specs.View.{view};
+ghost use Rattle.std.specs.Prelude.{◌≡◌, IfOk, IfErr, IfSome, None, Some, length, option_map};
+ghost use Rattle.graphql_base.specs.Name.{name_location, name_text};
 ghost use Rattle.graphql_text.specs.trees.Leaves.{name_tree};
 ghost use Rattle.graphql_text.specs.lexical.Literals.{NameText};
 ghost use Rattle.graphql_ast_json.specs.code.Errors.{IsMemory};
-ghost use Rattle.graphql_ast_json.specs.nodes.Nodes.{member_of, IsName};
-ghost use Rattle.graphql_ast_json.specs.lemmas.Leaves.{name_never_null, same_name};
+ghost use Rattle.graphql_ast_json.specs.code.NodeReading.{IsTextNode, NameStandsAt, node_json, stretch_of};
+ghost use Rattle.graphql_ast_json.specs.lemmas.Leaves.{json_laws, name_laws};
+ghost use Rattle.graphql_ast_json.specs.nodes.Nodes.{IsLocated, IsName, as_long_as};
 
 use crate::ast_json::AstJson;
-use crate::error::{AstJsonError, AstJsonProblem};
-use crate::read::members::text_member;
-use crate::read::node::check_node;
-use crate::write::node::write_text_node;
-use graphql_base::name::Name;
-use graphql_base::span::{FileId, SourceSpan};
+use crate::error::AstJsonError;
+use crate::read::NodeReader;
+use crate::write::NodeWriter;
+use graphql_ast::name::Name;
+use graphql_base::span::SourceSpan;
 use serde_json::Value as Json;
 use std::alloc::{AllocError, Global};
 
-/// The name that the member `value` is.
-pub(crate) fn name_text(alloc: Global, json: &Json) -> Result<Name, AstJsonError>
+/// The name that a node of this kind is.
+pub(crate) fn name_of_kind(node: NodeReader<'_>, kind: &str) -> Result<Name, AstJsonError>
+    requires { IsLocated node.unknown (node_json node) }
     ensures ok { IfOk result (λ name.
-        member_of (codes "value") (view json.now) ≡ Some (string (name_tree name).text)) }
-    ensures err { IfErr result (λ error. ¬ IsMemory error
-        → (name : NameText)
-        → ¬ (member_of (codes "value") (view json.now) ≡ Some (string name.text))) }
+        IsTextNode node.entry.unknown kind.now (name_tree name).text (node_json node.entry)) }
+    ensures new { IfOk result (λ name. name_location name ≡ None) }
+    ensures err { IfErr result (λ error. ¬ IsMemory error → (name : NameText)
+        → ¬ IsTextNode node.entry.unknown kind.now name.text (node_json node.entry)) }
 {
-    let text = text_member(alloc, json, "value")?;
+    let text = node.text_of_kind(kind)?;
     if Name::is_valid_syntax(text) {
-        Ok(Name::compact_unchecked(alloc, text)?)
+        Ok(Name::compact_unchecked(node.alloc, text)?)
     } else {
-        Err(AstJsonError::text(alloc, text, "a name").in_member(alloc, "value"))
+        Err(node.wrong_text("value", text, "a name"))
     }
 }
 
-/// The error of a location that is not as long as its name.
-fn wrong_length(alloc: Global, span: SourceSpan, name: &Name) -> AstJsonError {
-    let problem = AstJsonProblem::WrongLength {
-        found: span.len(),
-        wanted: name.len(),
-    };
-    AstJsonError::here(alloc, problem).in_member(alloc, "loc")
+/// The name, at this location if it is as long as the name: a program that renames may leave the old one.
+#[tactic(auto, using(crate::proofs::nodes::NamePlaces::fits, crate::proofs::nodes::NamePlaces::unfit))]
+fn name_at(name: Name, location: Option<SourceSpan>) -> Name
+    requires { name_location name ≡ None }
+    ensures text { name_text result ≡ name_text name }
+    ensures place { option_map stretch_of (name_location result)
+        ≡ as_long_as (length (name_text name)) (option_map stretch_of location) }
+    ensures no_other { IfSome (name_location result) (λ span. location ≡ Some span) }
+{
+    match location {
+        Some(span) => {
+            if span.len() as usize == name.len() {
+                name.with_location(span)
+            } else {
+                name
+            }
+        }
+        None => name,
+    }
 }
 
+/// A name has a location only where that is as long as the name.
 impl AstJson for Name {
     ghost Tree = { NameText };
 
@@ -50,27 +63,19 @@ impl AstJson for Name {
 
     ghost is_json_of = { IsName };
 
-    ghost one_tree = { same_name };
+    ghost location = { name_location };
 
-    ghost never_null = { name_never_null };
+    ghost stands = { NameStandsAt };
 
-    /// The name, at its location if the JSON tells one, which is as long as the name.
-    fn from_ast_json(alloc: Global, json: &Json, source: FileId) -> Result<Name, AstJsonError> {
-        let location = check_node(alloc, json, "Name", &["kind", "loc", "value"], source)?;
-        let name = name_text(alloc, json)?;
-        match location {
-            None => Ok(name),
-            Some(span) => {
-                if span.len() as usize == name.len() {
-                    Ok(name.with_location(span))
-                } else {
-                    Err(wrong_length(alloc, span, &name))
-                }
-            }
-        }
+    ghost laws = { json_laws name_laws };
+
+    fn read_ast_json(node: NodeReader<'_>) -> Result<Name, AstJsonError> {
+        let location = node.location()?;
+        let name = name_of_kind(node, "Name")?;
+        Ok(name_at(name, location))
     }
 
     fn to_ast_json(&self, alloc: Global) -> Result<Json, AllocError> {
-        write_text_node(alloc, "Name", self.location(), self.as_str())
+        NodeWriter::new(alloc, self.location()).with_text("Name", self.as_str())
     }
 }

@@ -2,58 +2,35 @@
 ghost use Rattle.graphql_type_system.specs.kinds.Schemas.{RootOperationTree};
 ghost use Rattle.graphql_type_system.specs.trees.TypeSystemTrees.{root_operation_tree};
 ghost use Rattle.graphql_ast_json.specs.kinds.TypeSystemJson.{IsRootOperation};
-ghost use Rattle.graphql_ast_json.specs.lemmas.TypeSystemNodes.{root_operation_located, root_operation_never_null, same_root_operation};
+ghost use Rattle.graphql_ast_json.specs.lemmas.TypeSystemNodes.{root_operation_laws};
 
-use crate::ast_json::{AstJson, AstNode};
+use crate::ast_json::AstNode;
 use crate::error::AstJsonError;
 use crate::form::NamedTypeForm;
-use crate::operation_type::operation_type_member;
-use crate::read::node::check_node;
-use crate::read::trees::member_tree;
-use crate::write::node::NodeWriter;
-use graphql_base::name::NamedType;
-use graphql_base::span::{FileId, SourceSpan};
-use graphql_values::operation_type::OperationType;
+use crate::read::NodeReader;
+use crate::write::NodeWriter;
+use graphql_ast::ast::{NamedType, OperationType};
 use serde_json::Value as Json;
-use std::alloc::{AllocError, Global};
+use std::alloc::AllocError;
 
-impl AstJson for (OperationType, NamedType) {
+impl AstNode for (OperationType, NamedType) {
     ghost Tree = { RootOperationTree };
 
     ghost tree = { root_operation_tree };
 
-    ghost is_json_of = { IsRootOperation };
+    ghost is_node = { IsRootOperation };
 
-    ghost one_tree = { same_root_operation };
+    ghost laws = { root_operation_laws };
 
-    ghost never_null = { root_operation_never_null };
-
-    fn from_ast_json(
-        alloc: Global,
-        json: &Json,
-        source: FileId,
-    ) -> Result<(OperationType, NamedType), AstJsonError> {
-        let members = ["kind", "loc", "operation", "type"];
-        check_node(alloc, json, "OperationTypeDefinition", &members, source)?;
-        let operation_type = operation_type_member(alloc, json)?;
-        let ty = member_tree::<NamedTypeForm>(alloc, json, "type", source)?;
+    fn read_node(node: NodeReader<'_>) -> Result<(OperationType, NamedType), AstJsonError> {
+        node.check("OperationTypeDefinition", &["operation", "type"])?;
+        let operation_type = node.operation_type()?;
+        let ty = node.member::<NamedTypeForm>("type")?;
         Ok((operation_type, ty))
     }
 
-    fn to_ast_json(&self, alloc: Global) -> Result<Json, AllocError> {
-        self.to_ast_json_at(alloc, None)
-    }
-}
-
-impl AstNode for (OperationType, NamedType) {
-    ghost located = { root_operation_located };
-
-    fn to_ast_json_at(
-        &self,
-        alloc: Global,
-        location: Option<SourceSpan>,
-    ) -> Result<Json, AllocError> {
-        let mut node = NodeWriter::new(alloc, "OperationTypeDefinition", location)?;
+    fn write_node(&self, mut node: NodeWriter) -> Result<Json, AllocError> {
+        node.begin("OperationTypeDefinition")?;
         node.put_text("operation", self.0.name())?;
         node.put::<NamedTypeForm>("type", &self.1)?;
         Ok(node.into_json())

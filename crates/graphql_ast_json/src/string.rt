@@ -1,55 +1,47 @@
 //! Strings in AST JSON: nodes of the kind `StringValue`, as descriptions are.
 ghost use Rattle.std.specs.Prelude.{◌≡◌, ℕ, List, IfOk, IfErr, encode_utf8_all};
 ghost use Rattle.serde_json.specs.View.{view};
-ghost use Rattle.graphql_base.specs.Node.{IsNodeStrAt};
+ghost use Rattle.graphql_base.specs.Node.{IsNodeStrAt, node_str_location};
 ghost use Rattle.graphql_text.specs.trees.Leaves.{description_tree};
 ghost use Rattle.graphql_text.specs.lexical.Literals.{StringText};
+ghost use Rattle.graphql_ast_json.specs.code.Drafts.{place_of};
 ghost use Rattle.graphql_ast_json.specs.code.Errors.{IsMemory};
-ghost use Rattle.graphql_ast_json.specs.nodes.Nodes.{IsBoolean, IsStringValue, OptionalMember};
-ghost use Rattle.graphql_ast_json.specs.code.NodeReading.{IsStringOf};
-ghost use Rattle.graphql_ast_json.specs.lemmas.Leaves.{same_string_value, string_never_null};
+ghost use Rattle.graphql_ast_json.specs.code.NodeReading.{IsReadAs, IsStringOf, StandsAt, node_json};
+ghost use Rattle.graphql_ast_json.specs.declared.read.Unknown.{Unknown};
+ghost use Rattle.graphql_ast_json.specs.lemmas.Leaves.{json_laws, string_laws};
+ghost use Rattle.graphql_ast_json.specs.nodes.Nodes.{IsBoolean, IsLocated, IsStringValue, OptionalMember};
 
 use crate::ast_json::AstJson;
 use crate::error::{AstJsonError, JsonType};
-use crate::read::members::{member, text_member, wrong_type};
-use crate::read::node::{check_node, location};
-use crate::write::node::NodeWriter;
+use crate::read::{NodeReader, member};
+use crate::write::NodeWriter;
 use graphql_base::node::NodeStr;
-use graphql_base::span::{FileId, SourceSpan};
+use graphql_base::span::SourceSpan;
 use serde_json::Value as Json;
 use std::alloc::{AllocError, Global};
 
 /// That the member of this name is a boolean, if it is there.
-fn check_optional_boolean(alloc: Global, json: &Json, name: &str) -> Result<(), AstJsonError>
-    ensures ok { IfOk result (λ _. OptionalMember name.now (view json.now) IsBoolean) }
+fn check_optional_boolean(node: NodeReader<'_>, name: &str) -> Result<(), AstJsonError>
+    ensures ok { IfOk result (λ _. OptionalMember name.now (node_json node.entry) IsBoolean) }
     ensures err { IfErr result (λ error. ¬ IsMemory error
-        → ¬ OptionalMember name.now (view json.now) IsBoolean) }
+        → ¬ OptionalMember name.now (node_json node.entry) IsBoolean) }
 {
-    match member(json, name) {
+    match member(node.json, name) {
         None | Some(Json::Bool(_)) => Ok(()),
-        Some(member) => Err(wrong_type(alloc, member, JsonType::Boolean).in_member(alloc, name)),
+        Some(member) => Err(node.within(name, node.wrong_type(member, JsonType::Boolean))),
     }
 }
 
 /// The text of the string that a node is.
-pub(crate) fn string_text<'j>(
-    alloc: Global,
-    json: &'j Json,
-    source: FileId,
-) -> Result<&'j str, AstJsonError>
-    ensures ok { IfOk result (λ text. IsStringOf text.now (view json.now)) }
+pub(crate) fn string_text<'j>(node: NodeReader<'j>) -> Result<&'j str, AstJsonError>
+    requires { IsLocated node.unknown (node_json node) }
+    ensures ok { IfOk result (λ text. IsReadAs IsStringOf node.entry text.now) }
     ensures err { IfErr result (λ error. ¬ IsMemory error
-        → (text : List ℕ) → ¬ IsStringOf text (view json.now)) }
+        → (text : List ℕ) → ¬ IsReadAs IsStringOf node.entry text) }
 {
-    check_node(
-        alloc,
-        json,
-        "StringValue",
-        &["kind", "loc", "value", "block"],
-        source,
-    )?;
-    let text = text_member(alloc, json, "value")?;
-    check_optional_boolean(alloc, json, "block")?;
+    node.check("StringValue", &["value", "block"])?;
+    let text = node.text("value")?;
+    check_optional_boolean(node, "block")?;
     Ok(text)
 }
 
@@ -63,16 +55,13 @@ fn text_at(alloc: Global, location: Option<SourceSpan>, text: &str) -> Result<No
     }
 }
 
-/// The node of a string of these characters, at a location if there is one.
-pub(crate) fn write_string(
-    alloc: Global,
-    location: Option<SourceSpan>,
-    text: &str,
-) -> Result<Json, AllocError>
-    ensures { IfOk result (λ json. (string : StringText) → encode_utf8_all string.text ≡ text.now
-        → IsStringValue string (view json)) }
+/// The node of a string of these characters.
+pub(crate) fn write_string(mut node: NodeWriter, text: &str) -> Result<Json, AllocError>
+    ensures ok { IfOk result (λ json. (unknown : Unknown) (string : StringText)
+        → encode_utf8_all string.text ≡ text.now → IsStringValue unknown string (view json)) }
+    ensures stands { IfOk result (λ json. StandsAt (place_of node) (view json)) }
 {
-    let mut node = NodeWriter::new(alloc, "StringValue", location)?;
+    node.begin("StringValue")?;
     node.put_text("value", text)?;
     Ok(node.into_json())
 }
@@ -84,18 +73,20 @@ impl AstJson for NodeStr {
 
     ghost is_json_of = { IsStringValue };
 
-    ghost one_tree = { same_string_value };
+    ghost location = { node_str_location };
 
-    ghost never_null = { string_never_null };
+    ghost stands = { λ text. StandsAt (node_str_location text) };
+
+    ghost laws = { json_laws string_laws };
 
     /// The text, at its location if the JSON tells one.
-    fn from_ast_json(alloc: Global, json: &Json, source: FileId) -> Result<NodeStr, AstJsonError> {
-        let text = string_text(alloc, json, source)?;
-        let location = location(alloc, json, source)?;
-        Ok(text_at(alloc, location, text)?)
+    fn read_ast_json(node: NodeReader<'_>) -> Result<NodeStr, AstJsonError> {
+        let location = node.location()?;
+        let text = string_text(node)?;
+        Ok(text_at(node.alloc, location, text)?)
     }
 
     fn to_ast_json(&self, alloc: Global) -> Result<Json, AllocError> {
-        write_string(alloc, self.location(), self.as_str())
+        write_string(NodeWriter::new(alloc, self.location()), self.as_str())
     }
 }

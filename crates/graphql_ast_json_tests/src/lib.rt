@@ -4,6 +4,8 @@
 #[cfg(test)]
 mod errors;
 #[cfg(test)]
+mod offsets;
+#[cfg(test)]
 mod refusals;
 #[cfg(test)]
 mod samples;

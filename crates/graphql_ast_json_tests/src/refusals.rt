@@ -1,7 +1,7 @@
 //! Calls that meet a refused growth, wherever it comes: the answer is the refusal, or that of an undisturbed call.
 //! `rt try --test --fail-alloc N` refuses the Nth growth of each test.
 use crate::samples::{DEFINITION, PRINTED};
-use graphql_ast_json::{AstJson, AstJsonError, from_ast_json_str};
+use graphql_ast_json::{AstJson, from_ast_json_str};
 use graphql_base::span::FileId;
 use graphql_text::engine::PrintError;
 use graphql_values::directive_definition::DirectiveDefinition;
@@ -14,7 +14,7 @@ fn a_definition_is_read_or_memory_was_refused(rt: HostRuntime) {
             Ok(text) => assert_eq!(rt; text.as_str(), PRINTED),
             Err(error) => assert_eq!(rt; error, PrintError::Memory),
         },
-        Err(error) => assert!(rt; matches!(error, AstJsonError::Memory)),
+        Err(error) => assert!(rt; error.is_memory()),
     }
 }
 
@@ -30,6 +30,6 @@ fn a_definition_is_written_or_memory_was_refused(rt: HostRuntime) {
     };
     match DirectiveDefinition::from_ast_json(alloc, &json, source) {
         Ok(again) => assert!(rt; again == definition),
-        Err(error) => assert!(rt; matches!(error, AstJsonError::Memory)),
+        Err(error) => assert!(rt; error.is_memory()),
     }
 }

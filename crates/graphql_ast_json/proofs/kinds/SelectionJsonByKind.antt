@@ -11,33 +11,36 @@ use Rattle.serde_json.specs.View.{view, items_view}
 use Rattle.serde_json.specs.declared.value.Value as json
 use Rattle.graphql_ast_json.specs.kinds.ExecutableJson.{AreSelections, IsField, IsInlineFragment, IsSelection}
 use Rattle.graphql_ast_json.specs.lemmas.Leaves.{IsOfKind, different}
+use Rattle.graphql_ast_json.specs.declared.read.Unknown.{Unknown}
 
-pub only_field : (json : Data) → IsOfKind (codes "Field") json → ((field : FieldTree) → IsField field json → ⊥) → (tree : SelectionTree) →
-    IsSelection tree json → ⊥
-only_field json e none (field_selection head set) is = none (record { head = head; selections = set }) is
-only_field json e none (spread_selection fragment) is = different (codes "FragmentSpread") (codes "Field") json is.0.0 e refl
-only_field json e none (inline_selection head set) is = different (codes "InlineFragment") (codes "Field") json is.0.0 e refl
+pub only_field : (unknown : Unknown) (json : Data) → IsOfKind (codes "Field") json → ((field : FieldTree) → IsField unknown field json → ⊥) →
+    (tree : SelectionTree) →
+    IsSelection unknown tree json → ⊥
+only_field unknown json e none (field_selection head set) is = none (record { head = head; selections = set }) is
+only_field unknown json e none (spread_selection fragment) is = different (codes "FragmentSpread") (codes "Field") json is.0.0 e refl
+only_field unknown json e none (inline_selection head set) is = different (codes "InlineFragment") (codes "Field") json is.0.0 e refl
 
-pub only_inline_fragment : (json : Data) → IsOfKind (codes "InlineFragment") json →
-    ((fragment : InlineFragmentTree) → IsInlineFragment fragment json → ⊥) → (tree : SelectionTree) → IsSelection tree json → ⊥
-only_inline_fragment json e none (inline_selection head set) is = none (record { head = head; selections = set }) is
-only_inline_fragment json e none (field_selection head set) is = different (codes "Field") (codes "InlineFragment") json is.0.0 e refl
-only_inline_fragment json e none (spread_selection fragment) is = different (codes "FragmentSpread") (codes "InlineFragment") json is.0.0 e refl
+pub only_inline_fragment : (unknown : Unknown) (json : Data) → IsOfKind (codes "InlineFragment") json →
+    ((fragment : InlineFragmentTree) → IsInlineFragment unknown fragment json → ⊥) → (tree : SelectionTree) → IsSelection unknown tree json → ⊥
+only_inline_fragment unknown json e none (inline_selection head set) is = none (record { head = head; selections = set }) is
+only_inline_fragment unknown json e none (field_selection head set) is = different (codes "Field") (codes "InlineFragment") json is.0.0 e refl
+only_inline_fragment unknown json e none (spread_selection fragment) is = different (codes "FragmentSpread") (codes "InlineFragment") json is.0.0 e refl
 
 -- one more selection
-pub selections_more : (selections : List Selection) (jsons : List json.Value) (selection : Selection) (json : json.Value) →
-    AreSelections (selection_trees selections) (items_view jsons) →
-    IsSelection (selection_tree selection) (view json) → AreSelections (selection_trees (selections ++ selection ∷ [])) (items_view (jsons ++ json ∷ []))
-selections_more [] [] selection json are is = (is, tt)
-selections_more (first ∷ selections) (one ∷ jsons) selection json are is = (are.0, selections_more selections jsons selection json are.1 is)
-selections_more [] (one ∷ jsons) selection json are is = absurd are
-selections_more (first ∷ selections) [] selection json are is = absurd are
+pub selections_more : (unknown : Unknown) (selections : List Selection) (jsons : List json.Value) (selection : Selection) (json : json.Value) →
+    AreSelections unknown (selection_trees selections) (items_view jsons) →
+    IsSelection unknown (selection_tree selection) (view json) → AreSelections unknown (selection_trees (selections ++ selection ∷ [])) (items_view
+    (jsons ++ json ∷ []))
+selections_more unknown [] [] selection json are is = (is, tt)
+selections_more unknown (first ∷ selections) (one ∷ jsons) selection json are is = (are.0, selections_more unknown selections jsons selection json are.1 is)
+selections_more unknown [] (one ∷ jsons) selection json are is = absurd are
+selections_more unknown (first ∷ selections) [] selection json are is = absurd are
 
 -- each item is a selection, so where one is none, they are no selections
-pub none_at : (items : List json.Value) (i : ℕ) (item : json.Value) → i < length items →
-    ((tree : SelectionTree) → IsSelection tree (view (get_or items i item)) → ⊥) → (trees : SelectionTrees) →
-    AreSelections trees (items_view items) → ⊥
-none_at [] i item lt none trees are = absurd (omega arith)
-none_at (first ∷ items) i item lt none no_selections are = are
-none_at (first ∷ items) zero item lt none (more_selections tree trees) are = none tree are.0
-none_at (first ∷ items) (suc i) item lt none (more_selections tree trees) are = none_at items i item (omega arith) none trees are.1
+pub none_at : (unknown : Unknown) (items : List json.Value) (i : ℕ) (item : json.Value) → i < length items →
+    ((tree : SelectionTree) → IsSelection unknown tree (view (get_or items i item)) → ⊥) → (trees : SelectionTrees) →
+    AreSelections unknown trees (items_view items) → ⊥
+none_at unknown [] i item lt none trees are = absurd (omega arith)
+none_at unknown (first ∷ items) i item lt none no_selections are = are
+none_at unknown (first ∷ items) zero item lt none (more_selections tree trees) are = none tree are.0
+none_at unknown (first ∷ items) (suc i) item lt none (more_selections tree trees) are = none_at unknown items i item (omega arith) none trees are.1

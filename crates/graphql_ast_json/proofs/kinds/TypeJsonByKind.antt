@@ -9,39 +9,42 @@ use Rattle.graphql_ast_json.specs.kinds.TypeJson.{IsNamedType, IsTypeAround, IsT
 use Rattle.graphql_ast_json.proofs.nodes.KindTexts.{initial, text_of}
 use Rattle.graphql_ast_json.specs.lemmas.Leaves.{IsOfKind}
 use Rattle.graphql_ast_json.specs.lemmas.TypeNodes.{type_kind, type_node}
+use Rattle.graphql_ast_json.specs.declared.read.Unknown.{Unknown}
 
-clash : (tree : TypeTree) (json : Data) (kind : List ℕ) → IsOfKind kind json → IsTypeReference tree json → type_kind tree ≡ kind
-clash tree json kind e is = ap text_of (sym (type_node tree json is).is.0 ∙ e)
+clash : (unknown : Unknown) (tree : TypeTree) (json : Data) (kind : List ℕ) → IsOfKind kind json → IsTypeReference unknown tree json → type_kind tree ≡ kind
+clash unknown tree json kind e is = ap text_of (sym (type_node unknown tree json is).is.0 ∙ e)
 
 -- the second letter, which tells `NamedType` from `NonNullType`
 abbrev second : List ℕ → ℕ
 second (a ∷ b ∷ more) = b
 second _ = 0
 
-pub only_named : (json : Data) → IsOfKind (codes "NamedType") json → ((name : NameText) → IsNamedType name json → ⊥) → (tree : TypeTree) →
-    IsTypeReference tree json → ⊥
-only_named json e none (named_type name) is = none name is
-only_named json e none tree is = let h : second (type_kind tree) ≡ 97 = ap second (clash tree json _ e is) in absurd (omega arith)
+pub only_named : (unknown : Unknown) (json : Data) → IsOfKind (codes "NamedType") json → ((name : NameText) → IsNamedType unknown name json → ⊥) →
+    (tree : TypeTree) →
+    IsTypeReference unknown tree json → ⊥
+only_named unknown json e none (named_type name) is = none name is
+only_named unknown json e none tree is = let h : second (type_kind tree) ≡ 97 = ap second (clash unknown tree json _ e is) in absurd (omega arith)
 
-pub only_list_type : (json : Data) → IsOfKind (codes "ListType") json →
-    ((item : TypeTree) → IsTypeAround (codes "ListType") (IsTypeReference item) json → ⊥) → (tree : TypeTree) →
-    IsTypeReference tree json → ⊥
-only_list_type json e none (list_type item) is = none item is
-only_list_type json e none tree is = let h : initial (type_kind tree) ≡ 76 = ap initial (clash tree json _ e is) in absurd (omega arith)
+pub only_list_type : (unknown : Unknown) (json : Data) → IsOfKind (codes "ListType") json →
+    ((item : TypeTree) → IsTypeAround unknown (codes "ListType") (IsTypeReference unknown item) json → ⊥) → (tree : TypeTree) →
+    IsTypeReference unknown tree json → ⊥
+only_list_type unknown json e none (list_type item) is = none item is
+only_list_type unknown json e none tree is = let h : initial (type_kind tree) ≡ 76 = ap initial (clash unknown tree json _ e is) in absurd (omega arith)
 
-pub only_non_null : (json : Data) → IsOfKind (codes "NonNullType") json →
-    ((tree : TypeTree) → IsTypeAround (codes "NonNullType") (IsWithoutNull tree) json → ⊥) → (tree : TypeTree) →
-    IsTypeReference tree json → ⊥
-only_non_null json e none (non_null_named_type name) is = none (non_null_named_type name) is
-only_non_null json e none (non_null_list_type item) is = none (non_null_list_type item) is
-only_non_null json e none tree is = let h : second (type_kind tree) ≡ 111 = ap second (clash tree json _ e is) in absurd (omega arith)
+pub only_non_null : (unknown : Unknown) (json : Data) → IsOfKind (codes "NonNullType") json →
+    ((tree : TypeTree) → IsTypeAround unknown (codes "NonNullType") (IsWithoutNull unknown tree) json → ⊥) → (tree : TypeTree) →
+    IsTypeReference unknown tree json → ⊥
+only_non_null unknown json e none (non_null_named_type name) is = none (non_null_named_type name) is
+only_non_null unknown json e none (non_null_list_type item) is = none (non_null_list_type item) is
+only_non_null unknown json e none tree is = let h : second (type_kind tree) ≡ 111 = ap second (clash unknown tree json _ e is) in absurd (omega arith)
 
-pub no_kind : (json : Data) → ((text : List ℕ) → member_of (codes "kind") json ≡ Some (string text) → ⊥) → (tree : TypeTree) → IsTypeReference tree json → ⊥
-no_kind json none tree is = none (type_kind tree) (type_node tree json is).is.0
+pub no_kind : (unknown : Unknown) (json : Data) → ((text : List ℕ) → member_of (codes "kind") json ≡ Some (string text) → ⊥) → (tree : TypeTree) →
+    IsTypeReference unknown tree json → ⊥
+no_kind unknown json none tree is = none (type_kind tree) (type_node unknown tree json is).is.0
 
-pub other_kind : (json : Data) (kind : List ℕ) → IsOfKind kind json → (kind ≡ codes "NamedType" → ⊥) → (kind ≡ codes "ListType" → ⊥) →
-    (kind ≡ codes "NonNullType" → ⊥) → (tree : TypeTree) → IsTypeReference tree json → ⊥
-other_kind json kind e p q r (named_type name) is = p (sym (clash (named_type name) json kind e is))
-other_kind json kind e p q r (non_null_named_type name) is = r (sym (clash (non_null_named_type name) json kind e is))
-other_kind json kind e p q r (list_type item) is = q (sym (clash (list_type item) json kind e is))
-other_kind json kind e p q r (non_null_list_type item) is = r (sym (clash (non_null_list_type item) json kind e is))
+pub other_kind : (unknown : Unknown) (json : Data) (kind : List ℕ) → IsOfKind kind json → (kind ≡ codes "NamedType" → ⊥) → (kind ≡ codes "ListType" → ⊥) →
+    (kind ≡ codes "NonNullType" → ⊥) → (tree : TypeTree) → IsTypeReference unknown tree json → ⊥
+other_kind unknown json kind e p q r (named_type name) is = p (sym (clash unknown (named_type name) json kind e is))
+other_kind unknown json kind e p q r (non_null_named_type name) is = r (sym (clash unknown (non_null_named_type name) json kind e is))
+other_kind unknown json kind e p q r (list_type item) is = q (sym (clash unknown (list_type item) json kind e is))
+other_kind unknown json kind e p q r (non_null_list_type item) is = r (sym (clash unknown (non_null_list_type item) json kind e is))

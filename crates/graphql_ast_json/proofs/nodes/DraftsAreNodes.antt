@@ -1,9 +1,9 @@
 -- What a node is that was begun and given members.
 use Rattle.std.proofs.Common.{◌≡◌, ℕ, ◌<◌, ◌≤◌, ◌^◌, Bool, true, false, ◌&&◌, ◌||◌, not, IsTrue, List, [], ◌∷◌, Option, Some, None}
-use Rattle.std.proofs.Common.{option_map, option_and_then, IfSome, IsSomeAnd, MatchOption, codes, refl, sym, ap, ◌∙◌, subst, cond, arith}
+use Rattle.std.proofs.Common.{option_map, option_and_then, IfSome, MatchOption, codes, refl, sym, ap, ◌∙◌, subst, cond, arith}
 use Rattle.std.proofs.Common.{nat_eq, lt-ltb, le-leb, true≢false, Ordering, Less, Equal, Greater}
 use Rattle.std.proofs.lemmas.Slice.Eq.{bytes_eq-Decides}
-use Rattle.std.specs.Prelude.{⊤}
+use Rattle.std.specs.Prelude.{⊤, IsSome}
 use Rattle.std.specs.Ordering.{match_ordering}
 use Rattle.std.specs.Cmp.Lexicographic.{slice_cmp}
 use Rattle.std.specs.Ordering.{nat_cmp}
@@ -14,8 +14,11 @@ use Rattle.graphql_text.specs.grammar.Forms.{is_one_of}
 use Rattle.serde_json.proofs.Views.{get_member-put, get_member-put_other}
 use Rattle.serde_json.specs.Data.{Data, number, string, object, unsigned, Members, no_members, member, put}
 use Rattle.serde_json.specs.Find.{get, get_member}
-use Rattle.graphql_ast_json.specs.code.Drafts.{location_json, IsAt, IsBegun, IsGiven, put_optional, beginning}
-use Rattle.graphql_ast_json.specs.nodes.Nodes.{present, member_of, names_among, HasOnly, Offsets, IsLocation, IsNode, Anywhere, offsets_of}
+use Rattle.graphql_ast_json.specs.code.Drafts.{location_json, IsBegun, IsGiven, put_optional, beginning}
+use Rattle.graphql_ast_json.specs.code.NodeReading.{StandsAt, stretch_of}
+use Rattle.graphql_ast_json.specs.declared.read.Unknown.{Unknown}
+use Rattle.graphql_ast_json.specs.declared.read.Unknown.TheVariants.{Refuse, PassOver}
+use Rattle.graphql_ast_json.specs.nodes.Nodes.{present, member_of, names_among, HasOnly, IsLocation, IsNode, stretch_in}
 
 abbrev pub Entry : Type 0
 Entry = List ℕ × Option Data
@@ -133,17 +136,31 @@ unfolding beginning
 given_all kind location [] = refl
 given_all kind location (entry ∷ entries) = ap (put_optional entry.0 entry.1) (given_all kind location entries)
 
-offsets_in : (start end : ℕ) → start < 2 ^ 32 → end < 2 ^ 32 → start ≤ end →
-    offsets_of (object (member (codes "end") (number (unsigned end)) (member (codes "start") (number (unsigned start)) no_members)))
+stretch_there : (start end : ℕ) → start < 2 ^ 32 → end < 2 ^ 32 → start ≤ end →
+    stretch_in (object (member (codes "end") (number (unsigned end)) (member (codes "start") (number (unsigned start)) no_members)))
     ≡ Some (record { start = start; end = end })
-offsets_in start end start_fits end_fits in_order = rw (lt-ltb start (2 ^ 32) start_fits, lt-ltb end (2 ^ 32) end_fits, le-leb start end in_order) refl
+stretch_there start end start_fits end_fits in_order = rw (lt-ltb start (2 ^ 32) start_fits, lt-ltb end (2 ^ 32) end_fits, le-leb start end in_order) refl
 
-located : (location : Option SourceSpan) → IfSome location (λ span. span_end span < 2 ^ 32) →
-    MatchOption (option_and_then present (option_map location_json location)) ⊤ (IsLocation (IsAt location))
-located None reach = tt
-located (Some span) reach =
-    let start_fits : span_start span < 2 ^ 32 = omega (arith, span.ordered) in
-    (refl, subst (λ o. IsSomeAnd o (IsAt (Some span))) (sym (offsets_in (span_start span) (span_end span) start_fits reach span.ordered)) (refl, refl))
+span_there : (span : SourceSpan) → span_end span < 2 ^ 32 → stretch_in (location_json span) ≡ Some (stretch_of span)
+span_there span reach = stretch_there (span_start span) (span_end span) (omega (arith, span.ordered)) reach span.ordered
+
+only_offsets : (unknown : Unknown) (span : SourceSpan) → HasOnly unknown (codes "start" ∷ codes "end" ∷ []) (location_json span)
+only_offsets Refuse span = refl
+only_offsets PassOver span = tt
+
+located : (unknown : Unknown) (location : Option SourceSpan) → IfSome location (λ span. span_end span < 2 ^ 32) →
+    MatchOption (option_and_then present (option_map location_json location)) ⊤ (IsLocation unknown)
+located unknown None reach = tt
+located unknown (Some span) reach = (only_offsets unknown span, subst IsSome (sym (span_there span reach)) refl)
+
+placed : (location : Option SourceSpan) → IfSome location (λ span. span_end span < 2 ^ 32) →
+    option_map stretch_of location ≡ option_and_then stretch_in (option_and_then present (option_map location_json location))
+placed None reach = refl
+placed (Some span) reach = sym (span_there span reach)
+
+among_only : (unknown : Unknown) (names : List (List ℕ)) (members : Members) → IsTrue (names_among names members) → HasOnly unknown names (object members)
+among_only Refuse names members among = among
+among_only PassOver names members among = tt
 
 -- a node was begun and given these members, the first of them last
 pub record IsWritten (kind : List ℕ) (location : Option SourceSpan) (entries : List Entry) (json : Data) : Type 0 where
@@ -155,34 +172,31 @@ pub found : (kind : List ℕ) (location : Option SourceSpan) (entries : List Ent
 found kind location entries json w apart name =
     ap (get name) w.are ∙ ap (get_member name) (sym (given_all kind location entries)) ∙ find (all_entries kind location entries) apart name
 
-pub node_written : (kind : List ℕ) (location : Option SourceSpan) (entries : List Entry) (names : List (List ℕ)) (json : Data) →
+-- It is a node: its members have names of their own, each one that such a node has.
+pub is_node : {kind : List ℕ} {location : Option SourceSpan} {entries : List Entry} {json : Data} (unknown : Unknown) (names : List (List ℕ)) →
     IsWritten kind location entries json →
     IsTrue (are_apart (entry_names (all_entries kind location entries))) →
     IsTrue (are_among (codes "kind" ∷ codes "loc" ∷ names) (entry_names (all_entries kind location entries))) →
     entry_at (codes "kind") (all_entries kind location entries) ≡ Some (string kind) →
     entry_at (codes "loc") (all_entries kind location entries) ≡ option_map location_json location →
-    IsNode kind names (IsAt location) json
-node_written kind location entries names json w apart among at_kind at_loc = (
+    IsNode unknown kind names json
+is_node {kind = kind} {location = location} {entries = entries} {json = json} unknown names w apart among at_kind at_loc = (
   ap (option_and_then present) (found kind location entries json w apart (codes "kind") ∙ at_kind),
-  subst (HasOnly (codes "kind" ∷ codes "loc" ∷ names)) (sym w.are)
+  subst (HasOnly unknown (codes "kind" ∷ codes "loc" ∷ names)) (sym w.are)
+      (among_only unknown (codes "kind" ∷ codes "loc" ∷ names) (given entries (beginning kind location))
       (subst (λ ms. IsTrue (names_among (codes "kind" ∷ codes "loc" ∷ names) ms)) (given_all kind location entries)
-      (given_among (codes "kind" ∷ codes "loc" ∷ names) (all_entries kind location entries) among)),
-  subst (λ o. MatchOption (option_and_then present o) ⊤ (IsLocation (IsAt location)))
-      (sym (found kind location entries json w apart (codes "loc") ∙ at_loc)) (located location w.reach),
+      (given_among (codes "kind" ∷ codes "loc" ∷ names) (all_entries kind location entries) among))),
+  subst (λ o. MatchOption (option_and_then present o) ⊤ (IsLocation unknown))
+      (sym (found kind location entries json w apart (codes "loc") ∙ at_loc)) (located unknown location w.reach),
 )
 
-some_weaker : (o : Option Offsets) (Fits Fits' : Offsets → Type 0) → ((at : Offsets) → Fits at → Fits' at) → IsSomeAnd o Fits → IsSomeAnd o Fits'
-some_weaker None Fits Fits' implies h = h
-some_weaker (Some at) Fits Fits' implies h = implies at h
-
-pub located_weaker : (o : Option Data) (Fits Fits' : Offsets → Type 0) → ((at : Offsets) → Fits at → Fits' at) →
-    MatchOption o ⊤ (IsLocation Fits) → MatchOption o ⊤ (IsLocation Fits')
-located_weaker None Fits Fits' implies h = tt
-located_weaker (Some json) Fits Fits' implies h = (h.0, some_weaker (offsets_of json) Fits Fits' implies h.1)
-
--- a node that is somewhere is a node anywhere
-pub anywhere : (kind : List ℕ) (names : List (List ℕ)) (Fits : Offsets → Type 0) (json : Data) → IsNode kind names Fits json → IsNode kind names Anywhere json
-anywhere kind names Fits json is = (is.0, is.1, located_weaker (member_of (codes "loc") json) Fits Anywhere (λ at h. tt) is.2)
+-- It stands where it was begun.
+pub stands : {kind : List ℕ} {location : Option SourceSpan} {entries : List Entry} {json : Data} → IsWritten kind location entries json →
+    IsTrue (are_apart (entry_names (all_entries kind location entries))) →
+    entry_at (codes "loc") (all_entries kind location entries) ≡ option_map location_json location → StandsAt location json
+stands {kind = kind} {location = location} {entries = entries} {json = json} w apart at_loc =
+    placed location w.reach
+    ∙ ap (λ o. option_and_then stretch_in (option_and_then present o)) (sym (found kind location entries json w apart (codes "loc") ∙ at_loc))
 
 pub same_name : (name : List ℕ) → pointwise nat_eq name name ≡ true
 same_name name = (bytes_eq-Decides name name).1 refl
@@ -195,9 +209,14 @@ pub apart_sym : (name other : List ℕ) → pointwise nat_eq name other ≡ fals
 apart_sym name other apart = apart_by (pointwise nat_eq other name) name other refl apart
 
 -- one member besides
+pub record IsWith (kind : List ℕ) (location : Option SourceSpan) (name : List ℕ) (inner json : Data) : Type 0 where
+  pub node : (unknown : Unknown) → IsNode unknown kind (name ∷ []) json
+  pub place : StandsAt location json
+  pub at : get name json ≡ Some inner
+
 pub one_written : (kind : List ℕ) (location : Option SourceSpan) (name : List ℕ) (inner json : Data) →
     is_one_of (codes "loc" ∷ codes "kind" ∷ []) name ≡ false →
-    IsWritten kind location ((name, Some inner) ∷ []) json → IsNode kind (name ∷ []) (IsAt location) json × (get name json ≡ Some inner)
+    IsWritten kind location ((name, Some inner) ∷ []) json → IsWith kind location name inner json
 one_written kind location name inner json other w =
     let loc_apart = (both_false (pointwise nat_eq (codes "loc") name) (is_one_of (codes "kind" ∷ []) name) other).0 in
     let kind_apart =
@@ -211,10 +230,11 @@ one_written kind location name inner json other w =
     let at_loc : entry_at (codes "loc") (all_entries kind location ((name, Some inner) ∷ [])) ≡ option_map location_json location =
     ap (λ same. cond same (Some inner) (option_map location_json location)) (apart_sym (codes "loc") name loc_apart) in
     let here : entry_at name (all_entries kind location ((name, Some inner) ∷ [])) ≡ Some inner =
-    ap (λ same. cond same (Some inner) (entry_at name (all_entries kind location []))) (same_name name) in (
-      node_written kind location ((name, Some inner) ∷ []) (name ∷ []) json w apart among at_kind at_loc,
-      found kind location ((name, Some inner) ∷ []) json w apart name ∙ here,
-    )
+    ap (λ same. cond same (Some inner) (entry_at name (all_entries kind location []))) (same_name name) in record {
+      node = λ unknown. is_node unknown (name ∷ []) w apart among at_kind at_loc;
+      place = stands w apart at_loc;
+      at = found kind location ((name, Some inner) ∷ []) json w apart name ∙ here;
+    }
 
 -- A NODE, MEMBER AFTER MEMBER
 
@@ -237,17 +257,6 @@ gained_json {name = name} {given_json = json} draft one = record { are = one ∙
 pub ended : {kind : List ℕ} {location : Option SourceSpan} {entries : List Entry} {members : Members} {json : Data} →
     json ≡ object members → IsDraft kind location entries members → IsWritten kind location entries json
 ended is draft = record { are = is ∙ ap object draft.are; reach = draft.reach }
-
--- It is a node: its members have names of their own, each one that such a node has.
-pub is_node : {kind : List ℕ} {location : Option SourceSpan} {entries : List Entry} {json : Data} (names : List (List ℕ)) →
-    IsWritten kind location entries json →
-    IsTrue (are_apart (entry_names (all_entries kind location entries))) →
-    IsTrue (are_among (codes "kind" ∷ codes "loc" ∷ names) (entry_names (all_entries kind location entries))) →
-    entry_at (codes "kind") (all_entries kind location entries) ≡ Some (string kind) →
-    entry_at (codes "loc") (all_entries kind location entries) ≡ option_map location_json location →
-    IsNode kind names Anywhere json
-is_node {kind = kind} {location = location} {entries = entries} {json = json} names w apart among at_kind at_loc =
-    anywhere kind names (IsAt location) json (node_written kind location entries names json w apart among at_kind at_loc)
 
 -- What a member was given as is what it is.
 pub given_member : {kind : List ℕ} {location : Option SourceSpan} {entries : List Entry} {json : Data} {name : List ℕ}

@@ -1,5 +1,6 @@
 -- Lists of nodes go item by item.
-use Rattle.std.proofs.Common.{ℕ, zero, suc, ◌<◌, List, [], ◌∷◌, ◌++◌, length, get_or, map, arith}
+use Rattle.std.proofs.Common.{◌≡◌, ℕ, zero, suc, ◌+◌, ◌<◌, List, [], ◌∷◌, ◌++◌, length, take, get_or, map, ap, sym, ◌∙◌, arith}
+use Rattle.std.proofs.lemmas.List.{take_more}
 use Rattle.serde_json.specs.Data.{Data}
 use Rattle.serde_json.specs.View.{view, items_view}
 use Rattle.serde_json.specs.declared.value.Value.{Value}
@@ -21,3 +22,7 @@ none_each Is [] i item lt none trees are = absurd (omega arith)
 none_each Is (first ∷ items) i item lt none [] are = are
 none_each Is (first ∷ items) zero item lt none (tree ∷ trees) are = none tree are.0
 none_each Is (first ∷ items) (suc i) item lt none (tree ∷ trees) are = none_each Is items i item (omega arith) none trees are.1
+
+-- the step of a loop: one more is taken, which is the item at that index
+pub take_next : {A : Type 0} (xs : List A) (i : ℕ) (x : A) → i < length xs → x ≡ get_or xs i x → take (i + 1) xs ≡ take i xs ++ x ∷ []
+take_next xs i x within is = take_more xs i x within ∙ ap (λ y. take i xs ++ y ∷ []) (sym is)

@@ -7,9 +7,10 @@ use Rattle.graphql_text.specs.trees.Leaves.{description_tree}
 use Rattle.serde_json.specs.Data.{Data}
 use Rattle.graphql_ast_json.specs.nodes.Nodes.{IsStringValue}
 use Rattle.graphql_ast_json.specs.code.NodeReading.{IsStringOf}
+use Rattle.graphql_ast_json.specs.declared.read.Unknown.{Unknown}
 
-pub description_is : (node : NodeStr) (bytes : List ℕ) (json : Data) → node_str_text node ≡ bytes → IsStringOf bytes json →
-    IsStringValue (description_tree node) json
-description_is node bytes json same is =
+pub description_is : (unknown : Unknown) (node : NodeStr) (bytes : List ℕ) (json : Data) → node_str_text node ≡ bytes → IsStringOf unknown bytes json →
+    IsStringValue unknown (description_tree node) json
+description_is unknown node bytes json same is =
     let spelt = encodes-chars (node_str_text node) (IsUtf8-had (node_str_text node) node.valid) ∙ same in
-    subst (λ (b : List ℕ). IsStringOf b json) (sym spelt) is
+    subst (λ (b : List ℕ). IsStringOf unknown b json) (sym spelt) is

@@ -6,15 +6,11 @@ use Rattle.graphql_base.specs.declared.span.SourceSpan.{SourceSpan}
 use Rattle.serde_json.specs.Data.{Data, number, string, object, unsigned, Items, Members, no_members, member, put}
 use Rattle.serde_json.specs.Find.{as_array}
 use Rattle.serde_json.specs.View.{members_view}
-use Rattle.graphql_ast_json.specs.nodes.Nodes.{Offsets, items_or_none, present}
-use Rattle.graphql_ast_json.specs.declared.write.node.NodeWriter.{NodeWriter}
+use Rattle.graphql_ast_json.specs.nodes.Nodes.{items_or_none, present}
+use Rattle.graphql_ast_json.specs.declared.write.NodeWriter.{NodeWriter}
 
 abbrev pub location_json : SourceSpan → Data
 location_json span = object (member (codes "end") (number (unsigned (span_end span))) (member (codes "start") (number (unsigned (span_start span))) no_members))
-
--- the offsets are those of the location
-abbrev pub IsAt : Option SourceSpan → Offsets → Type 0
-IsAt location at = IsSomeAnd location (λ span. (at.start ≡ span_start span) × (at.end ≡ span_end span))
 
 -- a member that is left out changes nothing
 abbrev pub put_optional : List ℕ → Option Data → Members → Members
@@ -27,6 +23,14 @@ beginning kind location = put_optional (codes "loc") (option_map location_json l
 
 abbrev pub members_so_far : NodeWriter → Members
 members_so_far node = members_view node.members.entries
+
+-- the node as it stands
+abbrev pub written : NodeWriter → Data
+written node = object (members_so_far node)
+
+-- where it is to stand
+abbrev pub place_of : NodeWriter → Option SourceSpan
+place_of node = node.location
 
 -- what is made of no location, or of one, whose offsets are below 2 ^ 32 as all are
 abbrev pub IsLocationJson : Option SourceSpan → Option Data → Type 0

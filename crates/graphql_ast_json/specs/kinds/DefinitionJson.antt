@@ -1,33 +1,34 @@
 -- Which JSON is of which input value definition and directive definition.
 use Rattle.std.specs.Prelude.{◌≡◌, [], ◌∷◌, Some, codes}
-use Rattle.serde_json.specs.Data.{Data, boolean, string}
+use Rattle.serde_json.specs.Data.{Data, string}
 use Rattle.graphql_values.specs.kinds.DirectiveDefinitions.{directive_definition_kind}
 use Rattle.graphql_values.specs.kinds.DirectiveLocations.{DirectiveLocationTree, location_name}
 use Rattle.graphql_values.specs.kinds.InputValueDefinitions.{input_value_definition_kind}
 use Rattle.graphql_ast_json.specs.kinds.DirectiveJson.{IsDirective}
-use Rattle.graphql_ast_json.specs.nodes.Nodes.{IsNode, IsName, IsStringValue, IsOptional, Anywhere, Member, ListMember, OptionalListMember, Each, member_of}
+use Rattle.graphql_ast_json.specs.declared.read.Unknown.{Unknown}
+use Rattle.graphql_ast_json.specs.nodes.Nodes.{IsFlag, IsNode, IsName, IsStringValue, IsOptional, Member, ListMember, OptionalListMember, Each, member_of}
 use Rattle.graphql_ast_json.specs.kinds.TypeJson.{IsTypeReference}
 use Rattle.graphql_ast_json.specs.kinds.ValueJson.{IsValue}
 
-abbrev pub IsInputValueDefinition : input_value_definition_kind.Tree → Data → Type 0
-IsInputValueDefinition input json =
-    IsNode (codes "InputValueDefinition") (codes "description" ∷ codes "name" ∷ codes "type" ∷ codes "defaultValue" ∷ codes "directives" ∷ []) Anywhere json
-    × IsOptional IsStringValue input.description (member_of (codes "description") json)
-    × Member (codes "name") json (IsName input.body.name)
-    × Member (codes "type") json (IsTypeReference input.body.type)
-    × IsOptional IsValue input.body.default_value (member_of (codes "defaultValue") json)
-    × OptionalListMember (codes "directives") json (Each IsDirective input.body.directives)
+abbrev pub IsInputValueDefinition : Unknown → input_value_definition_kind.Tree → Data → Type 0
+IsInputValueDefinition unknown input json =
+    IsNode unknown (codes "InputValueDefinition") (codes "description" ∷ codes "name" ∷ codes "type" ∷ codes "defaultValue" ∷ codes "directives" ∷ []) json
+    × IsOptional (IsStringValue unknown) input.description (member_of (codes "description") json)
+    × Member (codes "name") json (IsName unknown input.body.name)
+    × Member (codes "type") json (IsTypeReference unknown input.body.type)
+    × IsOptional (IsValue unknown) input.body.default_value (member_of (codes "defaultValue") json)
+    × OptionalListMember (codes "directives") json (Each (IsDirective unknown) input.body.directives)
 
 -- a location of directives is a name: its word in the grammar
-abbrev pub IsDirectiveLocation : DirectiveLocationTree → Data → Type 0
-IsDirectiveLocation location json =
-    IsNode (codes "Name") (codes "value" ∷ []) Anywhere json × (member_of (codes "value") json ≡ Some (string (location_name location)))
+abbrev pub IsDirectiveLocation : Unknown → DirectiveLocationTree → Data → Type 0
+IsDirectiveLocation unknown location json =
+    IsNode unknown (codes "Name") (codes "value" ∷ []) json × (member_of (codes "value") json ≡ Some (string (location_name location)))
 
-abbrev pub IsDirectiveDefinition : directive_definition_kind.Tree → Data → Type 0
-IsDirectiveDefinition definition json =
-    IsNode (codes "DirectiveDefinition") (codes "description" ∷ codes "name" ∷ codes "arguments" ∷ codes "repeatable" ∷ codes "locations" ∷ []) Anywhere json
-    × IsOptional IsStringValue definition.description (member_of (codes "description") json)
-    × Member (codes "name") json (IsName definition.body.name)
-    × OptionalListMember (codes "arguments") json (Each IsInputValueDefinition definition.body.arguments)
-    × (member_of (codes "repeatable") json ≡ Some (boolean definition.body.repeatable))
-    × ListMember (codes "locations") json (Each IsDirectiveLocation definition.body.locations)
+abbrev pub IsDirectiveDefinition : Unknown → directive_definition_kind.Tree → Data → Type 0
+IsDirectiveDefinition unknown definition json =
+    IsNode unknown (codes "DirectiveDefinition") (codes "description" ∷ codes "name" ∷ codes "arguments" ∷ codes "repeatable" ∷ codes "locations" ∷ []) json
+    × IsOptional (IsStringValue unknown) definition.description (member_of (codes "description") json)
+    × Member (codes "name") json (IsName unknown definition.body.name)
+    × OptionalListMember (codes "arguments") json (Each (IsInputValueDefinition unknown) definition.body.arguments)
+    × IsFlag definition.body.repeatable (member_of (codes "repeatable") json)
+    × ListMember (codes "locations") json (Each (IsDirectiveLocation unknown) definition.body.locations)

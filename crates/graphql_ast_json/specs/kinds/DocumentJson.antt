@@ -1,5 +1,5 @@
 -- Which JSON is of which definition and document.
-use Rattle.std.specs.Prelude.{◌≡◌, ℕ, List, [], ◌∷◌, codes}
+use Rattle.std.specs.Prelude.{List, [], ◌∷◌, codes}
 use Rattle.serde_json.specs.Data.{Data}
 use Rattle.graphql_ast.specs.Definitions.{DefinitionName, kind_named, DefinitionTree, OperationDefinition, FragmentDefinition}
 use Rattle.graphql_ast.specs.Definitions.{DirectiveDefinition, SchemaDefinition, ScalarTypeDefinition, ObjectTypeDefinition}
@@ -8,7 +8,8 @@ use Rattle.graphql_ast.specs.Definitions.{SchemaExtension, ScalarTypeExtension, 
 use Rattle.graphql_ast.specs.Definitions.{UnionTypeExtension, EnumTypeExtension, InputObjectTypeExtension}
 use Rattle.graphql_ast_json.specs.kinds.DefinitionJson.{IsDirectiveDefinition}
 use Rattle.graphql_ast_json.specs.kinds.ExecutableJson.{IsFragmentDefinition, IsOperationDefinition}
-use Rattle.graphql_ast_json.specs.nodes.Nodes.{Anywhere, Each, IsNode, ListMember}
+use Rattle.graphql_ast_json.specs.declared.read.Unknown.{Unknown}
+use Rattle.graphql_ast_json.specs.nodes.Nodes.{Each, IsNode, ListMember}
 use Rattle.graphql_ast_json.specs.kinds.TypeSystemJson.{IsEnumTypeDefinition, IsEnumTypeExtension, IsInputObjectTypeDefinition}
 use Rattle.graphql_ast_json.specs.kinds.TypeSystemJson.{IsInputObjectTypeExtension, IsInterfaceTypeDefinition, IsInterfaceTypeExtension}
 use Rattle.graphql_ast_json.specs.kinds.TypeSystemJson.{IsObjectTypeDefinition, IsObjectTypeExtension, IsScalarTypeDefinition}
@@ -16,30 +17,30 @@ use Rattle.graphql_ast_json.specs.kinds.TypeSystemJson.{IsScalarTypeExtension, I
 use Rattle.graphql_ast_json.specs.kinds.TypeSystemJson.{IsUnionTypeExtension}
 
 -- which JSON is of which tree of the kind that is so named
-abbrev pub IsNamed : (name : DefinitionName) → (kind_named name).Tree → Data → Type 0
-IsNamed OperationDefinition = IsOperationDefinition
-IsNamed FragmentDefinition = IsFragmentDefinition
-IsNamed DirectiveDefinition = IsDirectiveDefinition
-IsNamed SchemaDefinition = IsSchemaDefinition
-IsNamed ScalarTypeDefinition = IsScalarTypeDefinition
-IsNamed ObjectTypeDefinition = IsObjectTypeDefinition
-IsNamed InterfaceTypeDefinition = IsInterfaceTypeDefinition
-IsNamed UnionTypeDefinition = IsUnionTypeDefinition
-IsNamed EnumTypeDefinition = IsEnumTypeDefinition
-IsNamed InputObjectTypeDefinition = IsInputObjectTypeDefinition
-IsNamed SchemaExtension = IsSchemaExtension
-IsNamed ScalarTypeExtension = IsScalarTypeExtension
-IsNamed ObjectTypeExtension = IsObjectTypeExtension
-IsNamed InterfaceTypeExtension = IsInterfaceTypeExtension
-IsNamed UnionTypeExtension = IsUnionTypeExtension
-IsNamed EnumTypeExtension = IsEnumTypeExtension
-IsNamed InputObjectTypeExtension = IsInputObjectTypeExtension
+abbrev pub IsNamed : Unknown → (name : DefinitionName) → (kind_named name).Tree → Data → Type 0
+IsNamed unknown OperationDefinition = IsOperationDefinition unknown
+IsNamed unknown FragmentDefinition = IsFragmentDefinition unknown
+IsNamed unknown DirectiveDefinition = IsDirectiveDefinition unknown
+IsNamed unknown SchemaDefinition = IsSchemaDefinition unknown
+IsNamed unknown ScalarTypeDefinition = IsScalarTypeDefinition unknown
+IsNamed unknown ObjectTypeDefinition = IsObjectTypeDefinition unknown
+IsNamed unknown InterfaceTypeDefinition = IsInterfaceTypeDefinition unknown
+IsNamed unknown UnionTypeDefinition = IsUnionTypeDefinition unknown
+IsNamed unknown EnumTypeDefinition = IsEnumTypeDefinition unknown
+IsNamed unknown InputObjectTypeDefinition = IsInputObjectTypeDefinition unknown
+IsNamed unknown SchemaExtension = IsSchemaExtension unknown
+IsNamed unknown ScalarTypeExtension = IsScalarTypeExtension unknown
+IsNamed unknown ObjectTypeExtension = IsObjectTypeExtension unknown
+IsNamed unknown InterfaceTypeExtension = IsInterfaceTypeExtension unknown
+IsNamed unknown UnionTypeExtension = IsUnionTypeExtension unknown
+IsNamed unknown EnumTypeExtension = IsEnumTypeExtension unknown
+IsNamed unknown InputObjectTypeExtension = IsInputObjectTypeExtension unknown
 
 -- A definition of a document is the node that it is by itself.
-abbrev pub IsAnyDefinition : DefinitionTree → Data → Type 0
-IsAnyDefinition definition = IsNamed definition.name definition.tree
+abbrev pub IsAnyDefinition : Unknown → DefinitionTree → Data → Type 0
+IsAnyDefinition unknown definition = IsNamed unknown definition.name definition.tree
 
 -- A document: a node with its definitions.
-abbrev pub IsDocument : List DefinitionTree → Data → Type 0
-IsDocument definitions json =
-    IsNode (codes "Document") (codes "definitions" ∷ []) Anywhere json × ListMember (codes "definitions") json (Each IsAnyDefinition definitions)
+abbrev pub IsDocument : Unknown → List DefinitionTree → Data → Type 0
+IsDocument unknown definitions json =
+    IsNode unknown (codes "Document") (codes "definitions" ∷ []) json × ListMember (codes "definitions") json (Each (IsAnyDefinition unknown) definitions)

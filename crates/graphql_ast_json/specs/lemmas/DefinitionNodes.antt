@@ -14,27 +14,32 @@ use Rattle.serde_json.specs.Data.{Data}
 use Rattle.serde_json.specs.Find.{as_array}
 use Rattle.graphql_ast_json.specs.kinds.DefinitionJson.{IsInputValueDefinition, IsDirectiveLocation, IsDirectiveDefinition}
 use Rattle.graphql_ast_json.specs.kinds.DirectiveJson.{IsDirective}
-use Rattle.graphql_ast_json.specs.nodes.Nodes.{Anywhere, Each, IsLocated, IsName, IsStringValue, items_or_none, member_of}
-use Rattle.graphql_ast_json.specs.nodes.OneTree.{IsNeverNull}
+use Rattle.graphql_ast_json.specs.nodes.Nodes.{Each, IsName, IsStringValue, items_or_none, member_of}
+use Rattle.graphql_ast_json.specs.nodes.OneTree.{NodeLaws}
 use Rattle.graphql_ast_json.specs.kinds.TypeJson.{IsTypeReference}
 use Rattle.graphql_ast_json.specs.kinds.ValueJson.{IsValue}
 use Rattle.graphql_ast_json.specs.lemmas.DirectiveNodes.{same_directive}
-use Rattle.graphql_ast_json.specs.lemmas.Leaves.{both_some, no_null, same_boolean, same_each, same_name, same_optional, same_string, same_string_value}
+use Rattle.graphql_ast_json.specs.lemmas.Leaves.{both_some, same_each, same_flag, same_name, same_optional, same_string, same_string_value}
 use Rattle.graphql_ast_json.specs.lemmas.TypeNodes.{same_type}
 use Rattle.graphql_ast_json.specs.lemmas.ValueNodes.{same_value}
+use Rattle.graphql_ast_json.specs.declared.read.Unknown.{Unknown}
 
-pub same_input_value_definition : (a b : input_value_definition_kind.Tree) (json : Data) → IsInputValueDefinition a json → IsInputValueDefinition b json → a ≡ b
-same_input_value_definition a b json p q =
-    let description = same_optional IsStringValue same_string_value a.description b.description (member_of (codes "description") json) p.1 q.1 in
-    let name = both_some (member_of (codes "name") json) (IsName a.body.name) (IsName b.body.name) p.2 q.2 (same_name a.body.name b.body.name) in
+pub same_input_value_definition : (unknown : Unknown) (a b : input_value_definition_kind.Tree) (json : Data) → IsInputValueDefinition unknown a json →
+    IsInputValueDefinition unknown b json → a ≡ b
+same_input_value_definition unknown a b json p q =
+    let description = same_optional (IsStringValue unknown) (same_string_value unknown) a.description b.description (member_of
+    (codes "description") json) p.1 q.1 in
+    let name = both_some (member_of (codes "name") json) (IsName unknown a.body.name) (IsName unknown b.body.name) p.2 q.2
+    (same_name unknown a.body.name b.body.name) in
     let type =
-    both_some (member_of (codes "type") json) (IsTypeReference a.body.type) (IsTypeReference b.body.type) p.3 q.3
-    (same_type a.body.type b.body.type) in
-    let value = same_optional IsValue same_value a.body.default_value b.body.default_value (member_of (codes "defaultValue") json) p.4 q.4 in
+    both_some (member_of (codes "type") json) (IsTypeReference unknown a.body.type) (IsTypeReference unknown b.body.type) p.3 q.3
+    (same_type unknown a.body.type b.body.type) in
+    let value = same_optional (IsValue unknown) (same_value unknown) a.body.default_value b.body.default_value (member_of
+    (codes "defaultValue") json) p.4 q.4 in
     let directives =
-    both_some (items_or_none (member_of (codes "directives") json)) (Each IsDirective a.body.directives)
-    (Each IsDirective b.body.directives) p.5 q.5
-    (same_each IsDirective same_directive a.body.directives b.body.directives) in
+    both_some (items_or_none (member_of (codes "directives") json)) (Each (IsDirective unknown) a.body.directives)
+    (Each (IsDirective unknown) b.body.directives) p.5 q.5
+    (same_each (IsDirective unknown) (same_directive unknown) a.body.directives b.body.directives) in
     λ i. record { description = description i; body = record { name = name i; type = type i; default_value = value i; directives = directives i } }
 
 location_among : List DirectiveLocationTree → List ℕ → Option DirectiveLocationTree
@@ -72,37 +77,58 @@ location_is_found InputFieldDefinition = refl
 some_location : (a b : DirectiveLocationTree) → Some a ≡ Some b → a ≡ b
 some_location a b same = cc
 
-pub same_location : (a b : DirectiveLocationTree) (json : Data) → IsDirectiveLocation a json → IsDirectiveLocation b json → a ≡ b
-same_location a b json p q =
+pub same_location : (unknown : Unknown) (a b : DirectiveLocationTree) (json : Data) → IsDirectiveLocation unknown a json →
+    IsDirectiveLocation unknown b json → a ≡ b
+same_location unknown a b json p q =
     let name = same_string (codes "value") json (location_name a) (location_name b) p.1 q.1 in
     some_location a b (sym (location_is_found a) ∙ ap (location_among locations) name ∙ location_is_found b)
 
-pub same_directive_definition : (a b : directive_definition_kind.Tree) (json : Data) → IsDirectiveDefinition a json → IsDirectiveDefinition b json → a ≡ b
-same_directive_definition a b json p q =
-    let description = same_optional IsStringValue same_string_value a.description b.description (member_of (codes "description") json) p.1 q.1 in
-    let name = both_some (member_of (codes "name") json) (IsName a.body.name) (IsName b.body.name) p.2 q.2 (same_name a.body.name b.body.name) in
+pub same_directive_definition : (unknown : Unknown) (a b : directive_definition_kind.Tree) (json : Data) → IsDirectiveDefinition unknown a json →
+    IsDirectiveDefinition unknown b json → a ≡ b
+same_directive_definition unknown a b json p q =
+    let description = same_optional (IsStringValue unknown) (same_string_value unknown) a.description b.description (member_of
+    (codes "description") json) p.1 q.1 in
+    let name = both_some (member_of (codes "name") json) (IsName unknown a.body.name) (IsName unknown b.body.name) p.2 q.2
+    (same_name unknown a.body.name b.body.name) in
     let arguments =
-    both_some (items_or_none (member_of (codes "arguments") json)) (Each IsInputValueDefinition a.body.arguments)
-    (Each IsInputValueDefinition b.body.arguments) p.3 q.3
-    (same_each IsInputValueDefinition same_input_value_definition a.body.arguments b.body.arguments) in
-    let repeatable = same_boolean (codes "repeatable") json a.body.repeatable b.body.repeatable p.4 q.4 in
+    both_some (items_or_none (member_of (codes "arguments") json)) (Each (IsInputValueDefinition unknown) a.body.arguments)
+    (Each (IsInputValueDefinition unknown) b.body.arguments) p.3 q.3
+    (same_each (IsInputValueDefinition unknown) (same_input_value_definition unknown) a.body.arguments b.body.arguments) in
+    let repeatable = same_flag a.body.repeatable b.body.repeatable (member_of (codes "repeatable") json) p.4 q.4 in
     let places =
-    both_some (option_and_then as_array (member_of (codes "locations") json)) (Each IsDirectiveLocation a.body.locations)
-    (Each IsDirectiveLocation b.body.locations) p.5 q.5
-    (same_each IsDirectiveLocation same_location a.body.locations b.body.locations) in
+    both_some (option_and_then as_array (member_of (codes "locations") json)) (Each (IsDirectiveLocation unknown) a.body.locations)
+    (Each (IsDirectiveLocation unknown) b.body.locations) p.5 q.5
+    (same_each (IsDirectiveLocation unknown) (same_location unknown) a.body.locations b.body.locations) in
     λ i. record { description = description i; body = record { name = name i; arguments = arguments i; repeatable = repeatable i; locations = places i } }
 
-pub input_value_definition_located : (input : input_value_definition_kind.Tree) (json : Data) → IsInputValueDefinition input json → IsLocated Anywhere json
-input_value_definition_located input json is = is.0.2
+pub input_value_definition_laws : NodeLaws IsInputValueDefinition
+input_value_definition_laws = record {
+  one_tree = same_input_value_definition;
+  node = λ unknown tree json is. record {
+    kind = codes "InputValueDefinition";
+    node = record {
+      names =
+          codes "description" ∷ codes "name" ∷ codes "type" ∷ codes "defaultValue" ∷ codes "directives" ∷ [];
+      is = is.0;
+    };
+  };
+}
 
-pub input_value_definition_never_null : IsNeverNull IsInputValueDefinition
-input_value_definition_never_null input is = no_null (codes "InputValueDefinition") is.0.0
+pub location_laws : NodeLaws IsDirectiveLocation
+location_laws = record {
+  one_tree = same_location;
+  node = λ unknown tree json is. record { kind = codes "Name"; node = record { names = codes "value" ∷ []; is = is.0 } };
+}
 
-pub location_never_null : IsNeverNull IsDirectiveLocation
-location_never_null location is = no_null (codes "Name") is.0.0
-
-pub directive_definition_located : (definition : directive_definition_kind.Tree) (json : Data) → IsDirectiveDefinition definition json → IsLocated Anywhere json
-directive_definition_located definition json is = is.0.2
-
-pub directive_definition_never_null : IsNeverNull IsDirectiveDefinition
-directive_definition_never_null definition is = no_null (codes "DirectiveDefinition") is.0.0
+pub directive_definition_laws : NodeLaws IsDirectiveDefinition
+directive_definition_laws = record {
+  one_tree = same_directive_definition;
+  node = λ unknown tree json is. record {
+    kind = codes "DirectiveDefinition";
+    node = record {
+      names =
+          codes "description" ∷ codes "name" ∷ codes "arguments" ∷ codes "repeatable" ∷ codes "locations" ∷ [];
+      is = is.0;
+    };
+  };
+}

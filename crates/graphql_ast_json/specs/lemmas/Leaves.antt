@@ -5,8 +5,9 @@ use Rattle.std.proofs.lemmas.Str.{encodes_same}
 use Rattle.std.specs.Cmp.Lexicographic.{pointwise}
 use Rattle.graphql_text.proofs.lexical.CheckedTexts.{same_text}
 use Rattle.serde_json.specs.Data.{Data, null, boolean, number, string, array, object, Items, no_items, item}
-use Rattle.graphql_ast_json.specs.nodes.Nodes.{Anywhere, Each, IsName, IsNode, IsOptional, IsStringValue, member_of, present}
-use Rattle.graphql_ast_json.specs.nodes.OneTree.{IsNeverNull, IsOfOneTree}
+use Rattle.graphql_ast_json.specs.nodes.Nodes.{Each, IsFlag, IsName, IsOptional, IsStringValue, member_of, present}
+use Rattle.graphql_ast_json.specs.nodes.OneTree.{IsNeverNull, IsOfOneTree, JsonLaws, NodeLaws}
+use Rattle.graphql_ast_json.specs.declared.read.Unknown.{Unknown}
 
 -- JSON
 
@@ -61,11 +62,6 @@ same_optional Is same (Some a) None (Some json) p q = absurd q
 abbrev pub IsOfKind : List ℕ → Data → Type 0
 IsOfKind kind json = member_of (codes "kind") json ≡ Some (string kind)
 
--- a node of this kind, whatever its members
-pub record IsNodeOf (kind : List ℕ) (json : Data) : Type 0 where
-  pub names : List (List ℕ)
-  pub is : IsNode kind names Anywhere json
-
 -- a node is of one kind
 pub different : (a b : List ℕ) (json : Data) → IsOfKind a json → IsOfKind b json → pointwise nat_eq a b ≡ false → ⊥
 different a b json p q apart = true≢false (sym ((bytes_eq-Decides a b).1 (same_string (codes "kind") json a b p q)) ∙ apart)
@@ -74,16 +70,34 @@ different a b json p q apart = true≢false (sym ((bytes_eq-Decides a b).1 (same
 pub no_null : (kind : List ℕ) → IsOfKind kind null → ⊥
 no_null kind is = cc
 
+-- a node is not null
+pub never_null_of : {Tree : Type 0} {Is : Unknown → Tree → Data → Type 0} → NodeLaws Is → (unknown : Unknown) → IsNeverNull (Is unknown)
+never_null_of laws unknown tree is = let found = laws.node unknown tree null is in no_null found.kind found.node.is.0
+
+pub json_laws : {Tree : Type 0} {Is : Unknown → Tree → Data → Type 0} → NodeLaws Is → JsonLaws Is
+json_laws laws = record { one_tree = laws.one_tree; never_null = never_null_of laws }
+
+-- a flag is one or the other
+pub same_flag : (a b : Bool) (found : Option Data) → IsFlag a found → IsFlag b found → a ≡ b
+same_flag a b None p q = p ∙ sym q
+same_flag a b (Some json) p q = cc
+
 -- NAMES AND STRINGS
 
-pub same_name : IsOfOneTree IsName
-same_name a b json p q = same_text a b (same_string (codes "value") json a.text b.text p.1 q.1)
+pub same_name : (unknown : Unknown) → IsOfOneTree (IsName unknown)
+same_name unknown a b json p q = same_text a b (same_string (codes "value") json a.text b.text p.1 q.1)
 
-pub name_never_null : IsNeverNull IsName
-name_never_null name is = no_null (codes "Name") is.0.0
+pub same_string_value : (unknown : Unknown) → IsOfOneTree (IsStringValue unknown)
+same_string_value unknown a b json p q = same_text a b (encodes_same a.text b.text (some_string _ _ (sym p.1 ∙ q.1)))
 
-pub same_string_value : IsOfOneTree IsStringValue
-same_string_value a b json p q = same_text a b (encodes_same a.text b.text (some_string _ _ (sym p.1 ∙ q.1)))
+pub name_laws : NodeLaws IsName
+name_laws = record {
+  one_tree = same_name;
+  node = λ unknown name json is. record { kind = codes "Name"; node = record { names = codes "value" ∷ []; is = is.0 } };
+}
 
-pub string_never_null : IsNeverNull IsStringValue
-string_never_null text is = no_null (codes "StringValue") is.0.0
+pub string_laws : NodeLaws IsStringValue
+string_laws = record {
+  one_tree = same_string_value;
+  node = λ unknown text json is. record { kind = codes "StringValue"; node = record { names = codes "value" ∷ codes "block" ∷ []; is = is.0 } };
+}

@@ -1,25 +1,27 @@
-//! Members of JSON by their names, and of which type they are.
-ghost use Rattle.std.specs.Prelude.{◌≡◌, ◌<◌, ◌+◌, ℕ, Bool, List, IfOk, IfErr, IfSome, Some, None, option_map, option_and_then};
-ghost use Rattle.serde_json.specs.Data.{boolean, depth, items_depth, string};
+//! Members of a node, and the trees that they are of.
+ghost use Rattle.std.specs.Prelude.{◌≡◌, ◌<◌, ◌+◌, ℕ, Bool, List, Option, IfOk, IfErr, IsSomeAnd, Some, None, map, option_map, option_and_then};
+ghost use Rattle.serde_json.specs.Data.{depth, items_depth, string};
 ghost use Rattle.serde_json.specs.Find.{as_array};
 ghost use Rattle.serde_json.specs.View.{view, items_view};
+ghost use Rattle.graphql_values.specs.kinds.Directives.{DirectiveTree};
+ghost use Rattle.graphql_values.specs.trees.DirectiveTrees.{directive_trees};
 ghost use Rattle.graphql_ast_json.specs.code.Errors.{IsMemory};
-ghost use Rattle.graphql_ast_json.specs.nodes.Nodes.{member_of, items_or_none};
+ghost use Rattle.graphql_ast_json.specs.code.NodeReading.{IsTextNode, node_json};
+ghost use Rattle.graphql_ast_json.specs.kinds.DirectiveJson.{HasDirectives};
+ghost use Rattle.graphql_ast_json.specs.nodes.Nodes.{Each, IsFlag, IsLocated, IsOptional, ListMember, Member, OptionalListMember, items_or_none, member_of};
 
 use crate::error::{AstJsonError, AstJsonProblem, JsonType};
+use crate::form::Form;
+use crate::read::{NodeReader, member};
+use graphql_base::node::Node;
+use graphql_base::span::SourceSpan;
+use graphql_values::directive::Directive;
+use graphql_values::directive_list::DirectiveList;
 use serde_json::Value as Json;
-use std::alloc::Global;
+use std::alloc::AllocError;
 
-/// The member of this name. One that is null is the same as none.
-pub(crate) fn member<'j>(json: &'j Json, name: &str) -> Option<&'j Json>
-    ensures value { option_map (λ v. view v.now) result ≡ member_of name.now (view json.now) }
-    ensures inside { IfSome result (λ v. depth (view v.now) < depth (view json.now)) }
-{
-    match json.get(name) {
-        Some(member) => { if member.is_null() { None } else { Some(member) } }
-        None => None,
-    }
-}
+/// The greatest offset of a location.
+pub(crate) const MAX_OFFSET: u64 = 4294967295;
 
 fn type_of(json: &Json) -> JsonType {
     match json {
@@ -32,116 +34,269 @@ fn type_of(json: &Json) -> JsonType {
     }
 }
 
-/// The error of JSON that is of another type than the one that is wanted.
-pub(crate) fn wrong_type(alloc: Global, json: &Json, wanted: JsonType) -> AstJsonError {
-    let found = type_of(json);
-    AstJsonError::here(alloc, AstJsonProblem::WrongType { found, wanted })
-}
-
-/// The error of a node without a member.
-fn missing(alloc: Global, json: &Json, name: &str) -> AstJsonError {
-    if json.is_object() {
-        AstJsonError::missing(alloc, name)
-    } else {
-        wrong_type(alloc, json, JsonType::Object)
+impl<'j> NodeReader<'j> {
+    /// Where the node tells that it stands, for an error.
+    fn place(self) -> Option<SourceSpan> {
+        let location = self.json.get("loc")?;
+        let start = location.get("start")?.as_u64()?;
+        let end = location.get("end")?.as_u64()?;
+        if start <= MAX_OFFSET && end <= MAX_OFFSET {
+            SourceSpan::new(self.source, start as u32, end as u32)
+        } else {
+            None
+        }
     }
-}
 
-/// The member of this name, which the node must have.
-pub(crate) fn required_member<'j>(
-    alloc: Global,
-    json: &'j Json,
-    name: &str,
-) -> Result<&'j Json, AstJsonError>
-    ensures ok { IfOk result (λ v. member_of name.now (view json.now) ≡ Some (view v.now)) }
-    ensures inside { IfOk result (λ v. depth (view v.now) < depth (view json.now)) }
-    ensures err { IfErr result (λ error. ¬ IsMemory error
-        → member_of name.now (view json.now) ≡ None) }
-{
-    match member(json, name) {
-        Some(member) => Ok(member),
-        None => Err(missing(alloc, json, name)),
+    /// The kind that the node tells, for an error.
+    fn kind(self) -> &'j str {
+        match self.json.get("kind") {
+            Some(Json::String(kind)) => kind.as_str(),
+            _ => "node",
+        }
     }
-}
 
-/// The text of the member of this name.
-pub(crate) fn text_member<'j>(
-    alloc: Global,
-    json: &'j Json,
-    name: &str,
-) -> Result<&'j str, AstJsonError>
-    ensures ok { IfOk result (λ text. member_of name.now (view json.now) ≡ Some (string text.now)) }
-    ensures err { IfErr result (λ error. ¬ IsMemory error
-        → (text : List ℕ) → ¬ (member_of name.now (view json.now) ≡ Some (string text))) }
-{
-    match member(json, name) {
-        None => Err(missing(alloc, json, name)),
-        Some(member) => match member.as_str() {
-            Some(text) => Ok(text),
-            None => Err(wrong_type(alloc, member, JsonType::Text).in_member(alloc, name)),
-        },
+    /// The error of a problem of this JSON.
+    pub(crate) fn problem(self, problem: AstJsonProblem) -> AstJsonError {
+        AstJsonError::here(self.alloc, self.place(), problem)
     }
-}
 
-/// Whether the member of this name is true.
-pub(crate) fn boolean_member(alloc: Global, json: &Json, name: &str) -> Result<bool, AstJsonError>
-    ensures ok { IfOk result (λ is_so. member_of name.now (view json.now) ≡ Some (boolean is_so)) }
-    ensures err { IfErr result (λ error. ¬ IsMemory error
-        → (is_so : Bool) → ¬ (member_of name.now (view json.now) ≡ Some (boolean is_so))) }
-{
-    let member = required_member(alloc, json, name)?;
-    match member {
-        Json::Bool(is_so) => Ok(*is_so),
-        _ => Err(wrong_type(alloc, member, JsonType::Boolean).in_member(alloc, name)),
+    /// The same, or out of memory.
+    fn problem_or_memory(self, problem: Result<AstJsonProblem, AllocError>) -> AstJsonError {
+        match problem {
+            Ok(problem) => self.problem(problem),
+            Err(_) => AstJsonError::Memory,
+        }
     }
-}
 
-/// The items of JSON that is an array.
-pub(crate) fn array_items(alloc: Global, json: &Json) -> Result<&[Json], AstJsonError>
-    ensures ok { IfOk result (λ items. as_array (view json.now) ≡ Some (items_view items.now)) }
-    ensures err { IfErr result (λ error. ¬ IsMemory error → as_array (view json.now) ≡ None) }
-{
-    match json {
-        Json::Array(items) => Ok(items.as_slice()),
-        _ => Err(wrong_type(alloc, json, JsonType::Array)),
+    /// The error of JSON that is of another type than the one that is wanted.
+    pub(crate) fn wrong_type(self, json: &Json, wanted: JsonType) -> AstJsonError {
+        let found = type_of(json);
+        self.problem(AstJsonProblem::WrongType { found, wanted })
     }
-}
 
-/// The items of the array that the member of this name is.
-pub(crate) fn array_member<'j>(
-    alloc: Global,
-    json: &'j Json,
-    name: &str,
-) -> Result<&'j [Json], AstJsonError>
-    ensures ok { IfOk result (λ items.
-        option_and_then as_array (member_of name.now (view json.now))
-        ≡ Some (items_view items.now)) }
-    ensures inside { IfOk result (λ items.
-        items_depth (items_view items.now) + 1 < depth (view json.now)) }
-    ensures err { IfErr result (λ error. ¬ IsMemory error
-        → option_and_then as_array (member_of name.now (view json.now)) ≡ None) }
-{
-    let member = required_member(alloc, json, name)?;
-    match member {
-        Json::Array(items) => Ok(items.as_slice()),
-        _ => Err(wrong_type(alloc, member, JsonType::Array).in_member(alloc, name)),
+    /// The error, told from this node, which has the position in this member.
+    pub(crate) fn within(self, name: &str, error: AstJsonError) -> AstJsonError
+        ensures { IsMemory error → IsMemory result }
+    {
+        error.in_member(self.alloc, name, self.place())
     }
-}
 
-/// The items of the array that the member of this name is, or none where it is not there.
-pub(crate) fn optional_array_member<'j>(
-    alloc: Global,
-    json: &'j Json,
-    name: &str,
-) -> Result<&'j [Json], AstJsonError>
-    ensures ok { IfOk result (λ items.
-        items_or_none (member_of name.now (view json.now)) ≡ Some (items_view items.now)) }
-    ensures err { IfErr result (λ error. ¬ IsMemory error
-        → items_or_none (member_of name.now (view json.now)) ≡ None) }
-{
-    match member(json, name) {
-        None => Ok(&[]),
-        Some(Json::Array(items)) => Ok(items.as_slice()),
-        Some(member) => Err(wrong_type(alloc, member, JsonType::Array).in_member(alloc, name)),
+    /// The error of a text that is the member of this name, and outside the syntax of what is wanted.
+    pub(crate) fn wrong_text(self, name: &str, text: &str, wanted: &str) -> AstJsonError {
+        let problem = AstJsonProblem::text(self.alloc, text, wanted);
+        self.within(name, self.problem_or_memory(problem))
+    }
+
+    /// The error of a kind that isn't wanted here.
+    pub(crate) fn wrong_kind(self, kind: &str, wanted: &str) -> AstJsonError {
+        let problem = AstJsonProblem::kind(self.alloc, kind, wanted);
+        self.within("kind", self.problem_or_memory(problem))
+    }
+
+    /// The error of a member that none of these has.
+    pub(crate) fn unknown(self, name: &str, of: &str) -> AstJsonError {
+        self.problem_or_memory(AstJsonProblem::unknown(self.alloc, name, of))
+    }
+
+    /// The error of JSON without a member that each of these has.
+    pub(crate) fn missing(self, name: &str, of: &str) -> AstJsonError {
+        if self.json.is_object() {
+            self.problem_or_memory(AstJsonProblem::missing(self.alloc, name, of))
+        } else {
+            self.wrong_type(self.json, JsonType::Object)
+        }
+    }
+
+    /// The JSON of the member of this name, which the node must have.
+    pub(crate) fn required(self, name: &str) -> Result<&'j Json, AstJsonError>
+        ensures ok { IfOk result (λ v.
+            member_of name.now (node_json self.entry) ≡ Some (view v.now)) }
+        ensures inside { IfOk result (λ v. depth (view v.now) < depth (node_json self.entry)) }
+        ensures err { IfErr result (λ error. ¬ IsMemory error
+            → member_of name.now (node_json self.entry) ≡ None) }
+    {
+        match member(self.json, name) {
+            Some(member) => Ok(member),
+            None => Err(self.missing(name, self.kind())),
+        }
+    }
+
+    /// The text that the member of this name is.
+    pub(crate) fn text(self, name: &str) -> Result<&'j str, AstJsonError>
+        ensures ok { IfOk result (λ text.
+            member_of name.now (node_json self.entry) ≡ Some (string text.now)) }
+        ensures err { IfErr result (λ error. ¬ IsMemory error
+            → (text : List ℕ) → ¬ (member_of name.now (node_json self.entry)
+            ≡ Some (string text))) }
+    {
+        match member(self.json, name) {
+            None => Err(self.missing(name, self.kind())),
+            Some(member) => match member.as_str() {
+                Some(text) => Ok(text),
+                None => Err(self.within(name, self.wrong_type(member, JsonType::Text))),
+            },
+        }
+    }
+
+    /// The text of a node of this kind that has one.
+    pub(crate) fn text_of_kind(self, kind: &str) -> Result<&'j str, AstJsonError>
+        requires { IsLocated self.unknown (node_json self) }
+        ensures ok { IfOk result (λ text.
+            IsTextNode self.entry.unknown kind.now text.now (node_json self.entry)) }
+        ensures err { IfErr result (λ error. ¬ IsMemory error
+            → (text : List ℕ) → ¬ IsTextNode self.entry.unknown kind.now text
+            (node_json self.entry)) }
+    {
+        self.check(kind, &["value"])?;
+        self.text("value")
+    }
+
+    /// Whether the member of this name is true. One that isn't there is false.
+    pub(crate) fn flag(self, name: &str) -> Result<bool, AstJsonError>
+        ensures ok { IfOk result (λ is_so.
+            IsFlag is_so (member_of name.now (node_json self.entry))) }
+        ensures err { IfErr result (λ error. ¬ IsMemory error
+            → (is_so : Bool) → ¬ IsFlag is_so (member_of name.now (node_json self.entry))) }
+    {
+        match member(self.json, name) {
+            None => Ok(false),
+            Some(Json::Bool(is_so)) => Ok(*is_so),
+            Some(member) => Err(self.within(name, self.wrong_type(member, JsonType::Boolean))),
+        }
+    }
+
+    /// The items of the array that the member of this name is.
+    pub(crate) fn items(self, name: &str) -> Result<&'j [Json], AstJsonError>
+        ensures ok { IfOk result (λ items. option_and_then as_array
+            (member_of name.now (node_json self.entry)) ≡ Some (items_view items.now)) }
+        ensures inside { IfOk result (λ items.
+            items_depth (items_view items.now) + 1 < depth (node_json self.entry)) }
+        ensures err { IfErr result (λ error. ¬ IsMemory error
+            → option_and_then as_array (member_of name.now (node_json self.entry)) ≡ None) }
+    {
+        let member = self.required(name)?;
+        match member {
+            Json::Array(items) => Ok(items.as_slice()),
+            _ => Err(self.within(name, self.wrong_type(member, JsonType::Array))),
+        }
+    }
+
+    /// The same, and none where the member is not there.
+    fn optional_items(self, name: &str) -> Result<&'j [Json], AstJsonError>
+        ensures ok { IfOk result (λ items.
+            items_or_none (member_of name.now (node_json self.entry)) ≡ Some
+            (items_view items.now)) }
+        ensures err { IfErr result (λ error. ¬ IsMemory error
+            → items_or_none (member_of name.now (node_json self.entry)) ≡ None) }
+    {
+        match member(self.json, name) {
+            None => Ok(&[]),
+            Some(Json::Array(items)) => Ok(items.as_slice()),
+            Some(member) => Err(self.within(name, self.wrong_type(member, JsonType::Array))),
+        }
+    }
+
+    /// The trees that these items are of, one by one.
+    fn trees<F: Form>(self, items: &[Json]) -> Result<Vec<F::Value>, AstJsonError>
+        ensures ok { IfOk result (λ values.
+            Each (F.is_json_of self.entry.unknown) (map F.tree values.items)
+            (items_view items.now)) }
+        ensures err { IfErr result (λ error. ¬ IsMemory error → (trees : List F.Tree)
+            → ¬ Each (F.is_json_of self.entry.unknown) trees (items_view items.now)) }
+    {
+        let mut values = Vec::with_capacity(self.alloc, items.len())?;
+        for (index, json) in items.iter().enumerate() {
+            match F::read(NodeReader { json, ..self }) {
+                Ok(value) => values.push(value)?,
+                Err(error) => return Err(error.in_item(self.alloc, index)),
+            }
+        }
+        Ok(values)
+    }
+
+    /// The tree that the member of this name is of, which the node must have.
+    pub(crate) fn member<F: Form>(self, name: &str) -> Result<F::Value, AstJsonError>
+        ensures ok { IfOk result (λ value.
+            Member name.now (node_json self.entry)
+            (F.is_json_of self.entry.unknown (F.tree value))) }
+        ensures err { IfErr result (λ error. ¬ IsMemory error → (tree : F.Tree)
+            → ¬ Member name.now (node_json self.entry) (F.is_json_of self.entry.unknown tree)) }
+    {
+        let json = self.required(name)?;
+        match F::read(NodeReader { json, ..self }) {
+            Ok(value) => Ok(value),
+            Err(error) => Err(self.within(name, error)),
+        }
+    }
+
+    /// The tree that the member of this name is of, if the node has one.
+    pub(crate) fn optional<F: Form>(self, name: &str) -> Result<Option<F::Value>, AstJsonError>
+        ensures ok { IfOk result (λ value. IsOptional (F.is_json_of self.entry.unknown)
+            (option_map F.tree value) (member_of name.now (node_json self.entry))) }
+        ensures err { IfErr result (λ error. ¬ IsMemory error → (tree : Option F.Tree)
+            → ¬ IsOptional (F.is_json_of self.entry.unknown) tree
+            (member_of name.now (node_json self.entry))) }
+    {
+        match member(self.json, name) {
+            None => Ok(None),
+            Some(json) => match F::read(NodeReader { json, ..self }) {
+                Ok(value) => Ok(Some(value)),
+                Err(error) => Err(self.within(name, error)),
+            },
+        }
+    }
+
+    /// The trees that the items of the array are of that the member of this name is.
+    pub(crate) fn required_list<F: Form>(self, name: &str) -> Result<Vec<F::Value>, AstJsonError>
+        ensures ok { IfOk result (λ values. ListMember name.now (node_json self.entry)
+            (Each (F.is_json_of self.entry.unknown) (map F.tree values.items))) }
+        ensures err { IfErr result (λ error. ¬ IsMemory error → (trees : List F.Tree)
+            → ¬ ListMember name.now (node_json self.entry)
+            (Each (F.is_json_of self.entry.unknown) trees)) }
+    {
+        let items = self.items(name)?;
+        match self.trees::<F>(items) {
+            Ok(values) => Ok(values),
+            Err(error) => Err(self.within(name, error)),
+        }
+    }
+
+    /// The same, and none where the member is not there.
+    pub(crate) fn list<F: Form>(self, name: &str) -> Result<Vec<F::Value>, AstJsonError>
+        ensures ok { IfOk result (λ values. OptionalListMember name.now (node_json self.entry)
+            (Each (F.is_json_of self.entry.unknown) (map F.tree values.items))) }
+        ensures err { IfErr result (λ error. ¬ IsMemory error → (trees : List F.Tree)
+            → ¬ OptionalListMember name.now (node_json self.entry)
+            (Each (F.is_json_of self.entry.unknown) trees)) }
+    {
+        let items = self.optional_items(name)?;
+        match self.trees::<F>(items) {
+            Ok(values) => Ok(values),
+            Err(error) => Err(self.within(name, error)),
+        }
+    }
+
+    /// The directives of the node, which has none where it has no member `directives`.
+    pub(crate) fn directives(self) -> Result<DirectiveList, AstJsonError>
+        ensures ok { IfOk result (λ list.
+            HasDirectives self.entry.unknown (directive_trees list) (node_json self.entry)) }
+        ensures err { IfErr result (λ error. ¬ IsMemory error → (trees : List DirectiveTree)
+            → ¬ HasDirectives self.entry.unknown trees (node_json self.entry)) }
+    {
+        Ok(DirectiveList(self.list::<Node<Directive>>("directives")?))
+    }
+
+    /// The trees that the items of the array are of that the JSON is.
+    pub(crate) fn array<F: Form>(self) -> Result<Vec<F::Value>, AstJsonError>
+        ensures ok { IfOk result (λ values. IsSomeAnd (as_array (node_json self.entry))
+            (Each (F.is_json_of self.entry.unknown) (map F.tree values.items))) }
+        ensures err { IfErr result (λ error. ¬ IsMemory error → (trees : List F.Tree)
+            → ¬ IsSomeAnd (as_array (node_json self.entry))
+            (Each (F.is_json_of self.entry.unknown) trees)) }
+    {
+        match self.json {
+            Json::Array(items) => self.trees::<F>(items.as_slice()),
+            _ => Err(self.wrong_type(self.json, JsonType::Array)),
+        }
     }
 }

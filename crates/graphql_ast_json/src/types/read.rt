@@ -1,107 +1,108 @@
 //! Type references from AST JSON.
-ghost use Rattle.std.specs.Prelude.{◌≡◌, IfOk, IfErr, codes};
-ghost use Rattle.serde_json.specs.View.{view};
+ghost use Rattle.std.specs.Prelude.{IfOk, IfErr, codes};
 ghost use Rattle.graphql_text.specs.trees.Leaves.{name_tree};
 ghost use Rattle.graphql_text.specs.lexical.Literals.{NameText};
 ghost use Rattle.graphql_values.specs.kinds.TypeReferences.{TypeTree};
 ghost use Rattle.graphql_values.specs.trees.TypeTrees.{type_tree};
 ghost use Rattle.graphql_ast_json.specs.code.Errors.{IsMemory};
+ghost use Rattle.graphql_ast_json.specs.code.NodeReading.{IsOfNone, IsReadAs, node_json};
 ghost use Rattle.graphql_ast_json.specs.code.TypeReading.{IsWithoutNull};
 ghost use Rattle.graphql_ast_json.specs.kinds.TypeJson.{IsNamedType, IsTypeAround, IsTypeReference};
+ghost use Rattle.graphql_ast_json.specs.nodes.Nodes.{IsLocated};
 
 use crate::error::AstJsonError;
-use crate::read::members::{required_member, text_member};
-use crate::read::node::check_node;
-use crate::read::trees::member_tree;
-use graphql_base::name::Name;
-use graphql_base::span::FileId;
-use graphql_values::types::Type;
-use serde_json::Value as Json;
-use std::alloc::Global;
+use crate::read::NodeReader;
+use graphql_ast::ast::Type;
+use graphql_ast::name::Name;
 
 /// The name that a named type is.
-pub(crate) fn read_named_type(
-    alloc: Global,
-    json: &Json,
-    source: FileId,
-) -> Result<Name, AstJsonError>
-    ensures ok { IfOk result (λ name. IsNamedType (name_tree name) (view json.now)) }
-    ensures err { IfErr result (λ error. ¬ IsMemory error
-        → (name : NameText) → ¬ IsNamedType name (view json.now)) }
+pub(crate) fn read_named_type(node: NodeReader<'_>) -> Result<Name, AstJsonError>
+    requires { IsLocated node.unknown (node_json node) }
+    ensures ok { IfOk result (λ name. IsReadAs IsNamedType node.entry (name_tree name)) }
+    ensures err { IfErr result (λ error. ¬ IsMemory error → IsOfNone IsNamedType node.entry) }
 {
-    check_node(alloc, json, "NamedType", &["kind", "loc", "name"], source)?;
-    member_tree::<Name>(alloc, json, "name", source)
+    node.check("NamedType", &["name"])?;
+    node.member::<Name>("name")
 }
 
-/// The type reference of AST JSON, whose name stands in the source text `source` where the JSON tells where.
+/// The type reference that a node is of, whose location was read.
 #[cycle(types)]
-pub fn read_type(alloc: Global, json: &Json, source: FileId) -> Result<Type, AstJsonError>
-    ensures ok { IfOk result (λ ty. IsTypeReference (type_tree ty) (view json.now)) }
-    ensures err { IfErr result (λ error. ¬ IsMemory error
-        → (tree : TypeTree) → ¬ IsTypeReference tree (view json.now)) }
+pub(crate) fn read_type(node: NodeReader<'_>) -> Result<Type, AstJsonError>
+    requires { IsLocated node.unknown (node_json node) }
+    ensures ok { IfOk result (λ ty. IsReadAs IsTypeReference node.entry (type_tree ty)) }
+    ensures err { IfErr result (λ error. ¬ IsMemory error → IsOfNone IsTypeReference node.entry) }
 {
-    let kind = text_member(alloc, json, "kind")?;
+    let kind = node.text("kind")?;
     match kind {
-        "NamedType" => Ok(Type::Named(read_named_type(alloc, json, source)?)),
+        "NamedType" => Ok(Type::Named(read_named_type(node)?)),
         "ListType" => {
-            let item = list_item(alloc, json, source)?;
-            Ok(Type::List(Box::new(alloc, item)?))
+            let item = list_item(node)?;
+            Ok(Type::List(Box::new(node.alloc, item)?))
         }
-        "NonNullType" => non_null_type(alloc, json, source),
-        _ => Err(AstJsonError::kind(alloc, kind, "a type").in_member(alloc, "kind")),
+        "NonNullType" => non_null_type(node),
+        _ => Err(node.wrong_kind(kind, "a type")),
     }
 }
 
 /// The type of the items of a list type.
 #[cycle(types)]
-fn list_item(alloc: Global, json: &Json, source: FileId) -> Result<Type, AstJsonError>
-    ensures ok { IfOk result (λ item.
-        IsTypeAround (codes "ListType") (IsTypeReference (type_tree item)) (view json.now)) }
+fn list_item(node: NodeReader<'_>) -> Result<Type, AstJsonError>
+    requires { IsLocated node.unknown (node_json node) }
+    ensures ok { IfOk result (λ item. IsTypeAround node.entry.unknown (codes "ListType")
+        (IsTypeReference node.entry.unknown (type_tree item)) (node_json node.entry)) }
     ensures err { IfErr result (λ error. ¬ IsMemory error
-        → (item : TypeTree)
-        → ¬ IsTypeAround (codes "ListType") (IsTypeReference item) (view json.now)) }
+        → (item : TypeTree) → ¬ IsTypeAround node.entry.unknown (codes "ListType")
+        (IsTypeReference node.entry.unknown item) (node_json node.entry)) }
 {
-    check_node(alloc, json, "ListType", &["kind", "loc", "type"], source)?;
-    let inner = required_member(alloc, json, "type")?;
-    match read_type(alloc, inner, source) {
+    node.check("ListType", &["type"])?;
+    let json = node.required("type")?;
+    match inner_type(NodeReader { json, ..node }) {
         Ok(item) => Ok(item),
-        Err(error) => Err(error.in_member(alloc, "type")),
+        Err(error) => Err(node.within("type", error)),
     }
 }
 
+/// A type in another. Where it stands is tested and left out.
 #[cycle(types)]
-fn non_null_type(alloc: Global, json: &Json, source: FileId) -> Result<Type, AstJsonError>
-    ensures ok { IfOk result (λ ty.
-        IsTypeAround (codes "NonNullType") (IsWithoutNull (type_tree ty)) (view json.now)) }
-    ensures err { IfErr result (λ error. ¬ IsMemory error
-        → (tree : TypeTree)
-        → ¬ IsTypeAround (codes "NonNullType") (IsWithoutNull tree) (view json.now)) }
+fn inner_type(node: NodeReader<'_>) -> Result<Type, AstJsonError>
+    ensures ok { IfOk result (λ ty. IsReadAs IsTypeReference node.entry (type_tree ty)) }
+    ensures err { IfErr result (λ error. ¬ IsMemory error → IsOfNone IsTypeReference node.entry) }
 {
-    check_node(alloc, json, "NonNullType", &["kind", "loc", "type"], source)?;
-    let inner = required_member(alloc, json, "type")?;
-    match without_null(alloc, inner, source) {
+    node.location()?;
+    read_type(node)
+}
+
+#[cycle(types)]
+fn non_null_type(node: NodeReader<'_>) -> Result<Type, AstJsonError>
+    requires { IsLocated node.unknown (node_json node) }
+    ensures ok { IfOk result (λ ty. IsTypeAround node.entry.unknown (codes "NonNullType")
+        (IsWithoutNull node.entry.unknown (type_tree ty)) (node_json node.entry)) }
+    ensures err { IfErr result (λ error. ¬ IsMemory error
+        → (tree : TypeTree) → ¬ IsTypeAround node.entry.unknown (codes "NonNullType")
+        (IsWithoutNull node.entry.unknown tree) (node_json node.entry)) }
+{
+    node.check("NonNullType", &["type"])?;
+    let json = node.required("type")?;
+    match without_null(NodeReader { json, ..node }) {
         Ok(ty) => Ok(ty),
-        Err(error) => Err(error.in_member(alloc, "type")),
+        Err(error) => Err(node.within("type", error)),
     }
 }
 
-/// The non-null type around a type that is none itself.
+/// The non-null type around a type that is none itself. Where that stands is tested and left out.
 #[cycle(types)]
-fn without_null(alloc: Global, json: &Json, source: FileId) -> Result<Type, AstJsonError>
-    ensures ok { IfOk result (λ ty. IsWithoutNull (type_tree ty) (view json.now)) }
-    ensures err { IfErr result (λ error. ¬ IsMemory error
-        → (tree : TypeTree) → ¬ IsWithoutNull tree (view json.now)) }
+fn without_null(node: NodeReader<'_>) -> Result<Type, AstJsonError>
+    ensures ok { IfOk result (λ ty. IsReadAs IsWithoutNull node.entry (type_tree ty)) }
+    ensures err { IfErr result (λ error. ¬ IsMemory error → IsOfNone IsWithoutNull node.entry) }
 {
-    let kind = text_member(alloc, json, "kind")?;
+    node.location()?;
+    let kind = node.text("kind")?;
     match kind {
-        "NamedType" => Ok(Type::NonNullNamed(read_named_type(alloc, json, source)?)),
+        "NamedType" => Ok(Type::NonNullNamed(read_named_type(node)?)),
         "ListType" => {
-            let item = list_item(alloc, json, source)?;
-            Ok(Type::NonNullList(Box::new(alloc, item)?))
+            let item = list_item(node)?;
+            Ok(Type::NonNullList(Box::new(node.alloc, item)?))
         }
-        _ => {
-            let error = AstJsonError::kind(alloc, kind, "a named type or a list type");
-            Err(error.in_member(alloc, "kind"))
-        }
+        _ => Err(node.wrong_kind(kind, "a named type or a list type")),
     }
 }

@@ -1,51 +1,50 @@
 //! Type references are written.
-ghost use Rattle.std.specs.Prelude.{IfOk, codes};
-ghost use Rattle.graphql_ast_json.specs.kinds.TypeJson.{IsNamedType, IsTypeReference};
+ghost use Rattle.std.specs.Prelude.{IfOk};
+ghost use Rattle.serde_json.specs.View.{view};
 ghost use Rattle.graphql_text.specs.trees.Leaves.{name_tree};
 ghost use Rattle.graphql_values.specs.trees.TypeTrees.{type_tree};
-ghost use Rattle.serde_json.specs.View.{view};
+ghost use Rattle.graphql_ast_json.specs.code.Drafts.{place_of};
+ghost use Rattle.graphql_ast_json.specs.code.NodeReading.{StandsAt};
+ghost use Rattle.graphql_ast_json.specs.declared.read.Unknown.{Unknown};
+ghost use Rattle.graphql_ast_json.specs.kinds.TypeJson.{IsNamedType, IsTypeReference};
 
 use crate::ast_json::AstJson;
-use crate::write::node::write_node_with;
-use graphql_base::span::SourceSpan;
-use graphql_values::types::{NamedType, Type};
+use crate::write::NodeWriter;
+use graphql_ast::ast::{NamedType, Type};
 use serde_json::Value as Json;
-use std::alloc::{AllocError, Global};
+use std::alloc::AllocError;
 
-/// A type reference that stands at a location, if there is one. `AllocError` where memory is refused.
-pub fn write_type(
-    alloc: Global,
-    location: Option<SourceSpan>,
-    ty: &Type,
-) -> Result<Json, AllocError>
-    ensures { IfOk result (λ json. IsTypeReference (type_tree ty.now) (view json)) }
+/// The type reference as a node. `AllocError` where memory is refused.
+pub(crate) fn write_type(node: NodeWriter, ty: &Type) -> Result<Json, AllocError>
+    ensures ok { IfOk result (λ json. (unknown : Unknown)
+        → IsTypeReference unknown (type_tree ty.now) (view json)) }
+    ensures stands { IfOk result (λ json. StandsAt (place_of node) (view json)) }
 {
+    let alloc = node.allocator();
     match ty {
-        Type::Named(name) => write_named_type(alloc, location, name),
+        Type::Named(name) => write_named_type(node, name),
         Type::NonNullNamed(name) => {
-            let inner = write_named_type(alloc, None, name)?;
-            write_node_with(alloc, "NonNullType", location, "type", inner)
+            let inner = write_named_type(NodeWriter::new(alloc, None), name)?;
+            node.with_member("NonNullType", "type", inner)
         }
         Type::List(item) => {
-            let inner = write_type(alloc, None, item)?;
-            write_node_with(alloc, "ListType", location, "type", inner)
+            let inner = write_type(NodeWriter::new(alloc, None), item)?;
+            node.with_member("ListType", "type", inner)
         }
         Type::NonNullList(item) => {
-            let inner = write_type(alloc, None, item)?;
-            let list = write_node_with(alloc, "ListType", None, "type", inner)?;
-            write_node_with(alloc, "NonNullType", location, "type", list)
+            let inner = write_type(NodeWriter::new(alloc, None), item)?;
+            let list = NodeWriter::new(alloc, None).with_member("ListType", "type", inner)?;
+            node.with_member("NonNullType", "type", list)
         }
     }
 }
 
 /// A named type.
-pub(crate) fn write_named_type(
-    alloc: Global,
-    location: Option<SourceSpan>,
-    name: &NamedType,
-) -> Result<Json, AllocError>
-    ensures { IfOk result (λ json. IsNamedType (name_tree name.now) (view json)) }
+pub(crate) fn write_named_type(node: NodeWriter, name: &NamedType) -> Result<Json, AllocError>
+    ensures ok { IfOk result (λ json. (unknown : Unknown)
+        → IsNamedType unknown (name_tree name.now) (view json)) }
+    ensures stands { IfOk result (λ json. StandsAt (place_of node) (view json)) }
 {
-    let inner = name.to_ast_json(alloc)?;
-    write_node_with(alloc, "NamedType", location, "name", inner)
+    let inner = name.to_ast_json(node.allocator())?;
+    node.with_member("NamedType", "name", inner)
 }

@@ -1,177 +1,157 @@
 //! Values from AST JSON.
-ghost use Rattle.std.specs.Prelude.{◌≡◌, ℕ, List, Bool, IfOk, IfErr, Some, codes};
-ghost use Rattle.serde_json.specs.Data.{boolean, string};
-ghost use Rattle.serde_json.specs.View.{view, items_view};
+ghost use Rattle.std.specs.Prelude.{Bool, IfOk, IfErr, codes};
+ghost use Rattle.serde_json.specs.View.{items_view};
 ghost use Rattle.graphql_base.specs.Node.{node_location, node_value};
 ghost use Rattle.graphql_text.specs.trees.Leaves.{name_tree};
 ghost use Rattle.graphql_text.specs.lexical.Literals.{FloatText, IntText, NameText};
 ghost use Rattle.graphql_values.specs.trees.Literals.{float_tree, int_tree};
-ghost use Rattle.graphql_values.specs.kinds.Values.{ValueTree, ValueTrees, ObjectFieldTrees, enum_value, variable, int_value, float_value, boolean_value, list_value, object_value};
+ghost use Rattle.graphql_values.specs.kinds.Values.{ValueTree, ValueTrees, ObjectFieldTrees, variable, int_value, float_value, boolean_value, list_value, object_value};
 ghost use Rattle.graphql_values.specs.trees.ValueTrees.{value_tree, value_trees, object_field_trees};
 ghost use Rattle.graphql_ast_json.specs.code.Errors.{IsMemory};
-ghost use Rattle.graphql_ast_json.specs.nodes.Nodes.{member_of};
-ghost use Rattle.graphql_ast_json.specs.code.NodeReading.{IsLocatedAt};
+ghost use Rattle.graphql_ast_json.specs.code.NodeReading.{IsInFile, IsOfNone, IsReadAs, StandsAt, node_json};
 ghost use Rattle.graphql_ast_json.specs.kinds.ValueJson.{IsValue, AreValues, AreObjectFields, IsNamedValue};
+ghost use Rattle.graphql_ast_json.specs.nodes.Nodes.{IsLocated};
 
-use crate::error::AstJsonError;
-use crate::name::name_text;
-use crate::read::members::{array_member, boolean_member, required_member, text_member};
-use crate::read::node::{check_node, location, node_of};
-use crate::read::trees::member_tree;
+use crate::ast_json::node_at;
+use crate::error::{AstJsonError, JsonType};
+use crate::name::name_of_kind;
+use crate::read::NodeReader;
 use crate::string::string_text;
-use graphql_base::name::Name;
+use graphql_ast::ast::{FloatValue, IntValue, Value};
+use graphql_ast::name::Name;
 use graphql_base::node::Node;
-use graphql_base::span::FileId;
-use graphql_values::literal::{FloatValue, IntValue};
-use graphql_values::value::Value;
 use serde_json::Value as Json;
-use std::alloc::Global;
-
-/// The name of an enum value.
-fn enum_name(alloc: Global, json: &Json, source: FileId) -> Result<Name, AstJsonError>
-    ensures ok { IfOk result (λ name. IsValue (enum_value (name_tree name)) (view json.now)) }
-    ensures err { IfErr result (λ error. ¬ IsMemory error
-        → (name : NameText) → ¬ IsValue (enum_value name) (view json.now)) }
-{
-    check_node(alloc, json, "EnumValue", &["kind", "loc", "value"], source)?;
-    name_text(alloc, json)
-}
 
 /// The name of a variable.
-pub(crate) fn variable_name(
-    alloc: Global,
-    json: &Json,
-    source: FileId,
-) -> Result<Name, AstJsonError>
-    ensures ok { IfOk result (λ name. IsValue (variable (name_tree name)) (view json.now)) }
+pub(crate) fn variable_name(node: NodeReader<'_>) -> Result<Name, AstJsonError>
+    requires { IsLocated node.unknown (node_json node) }
+    ensures ok { IfOk result (λ name. IsReadAs IsValue node.entry (variable (name_tree name))) }
     ensures err { IfErr result (λ error. ¬ IsMemory error
-        → (name : NameText) → ¬ IsValue (variable name) (view json.now)) }
+        → (name : NameText) → ¬ IsReadAs IsValue node.entry (variable name)) }
 {
-    check_node(alloc, json, "Variable", &["kind", "loc", "name"], source)?;
-    member_tree::<Name>(alloc, json, "name", source)
+    node.check("Variable", &["name"])?;
+    node.member::<Name>("name")
 }
 
 /// An integer.
-fn int(alloc: Global, json: &Json, source: FileId) -> Result<IntValue, AstJsonError>
-    ensures ok { IfOk result (λ int. IsValue (int_value (int_tree int)) (view json.now)) }
+fn int(node: NodeReader<'_>) -> Result<IntValue, AstJsonError>
+    requires { IsLocated node.unknown (node_json node) }
+    ensures ok { IfOk result (λ int. IsReadAs IsValue node.entry (int_value (int_tree int))) }
     ensures err { IfErr result (λ error. ¬ IsMemory error
-        → (int : IntText) → ¬ IsValue (int_value int) (view json.now)) }
+        → (int : IntText) → ¬ IsReadAs IsValue node.entry (int_value int)) }
 {
-    check_node(alloc, json, "IntValue", &["kind", "loc", "value"], source)?;
-    let text = text_member(alloc, json, "value")?;
+    let text = node.text_of_kind("IntValue")?;
     if IntValue::valid_syntax(text) {
-        Ok(IntValue::new_parsed(alloc, text)?)
+        Ok(IntValue::new_parsed(node.alloc, text)?)
     } else {
-        Err(AstJsonError::text(alloc, text, "an integer").in_member(alloc, "value"))
+        Err(node.wrong_text("value", text, "an integer"))
     }
 }
 
 /// A number with a fraction or an exponent.
-fn float(alloc: Global, json: &Json, source: FileId) -> Result<FloatValue, AstJsonError>
-    ensures ok { IfOk result (λ float. IsValue (float_value (float_tree float)) (view json.now)) }
+fn float(node: NodeReader<'_>) -> Result<FloatValue, AstJsonError>
+    requires { IsLocated node.unknown (node_json node) }
+    ensures ok { IfOk result (λ float.
+        IsReadAs IsValue node.entry (float_value (float_tree float))) }
     ensures err { IfErr result (λ error. ¬ IsMemory error
-        → (float : FloatText) → ¬ IsValue (float_value float) (view json.now)) }
+        → (float : FloatText) → ¬ IsReadAs IsValue node.entry (float_value float)) }
 {
-    check_node(alloc, json, "FloatValue", &["kind", "loc", "value"], source)?;
-    let text = text_member(alloc, json, "value")?;
+    let text = node.text_of_kind("FloatValue")?;
     if FloatValue::valid_syntax(text) {
-        Ok(FloatValue::new_parsed(alloc, text)?)
+        Ok(FloatValue::new_parsed(node.alloc, text)?)
     } else {
-        Err(AstJsonError::text(alloc, text, "a float").in_member(alloc, "value"))
+        Err(node.wrong_text("value", text, "a float"))
     }
 }
 
 /// A boolean.
-fn boolean(alloc: Global, json: &Json, source: FileId) -> Result<bool, AstJsonError>
-    ensures ok { IfOk result (λ is_true. IsValue (boolean_value is_true) (view json.now)) }
+fn boolean(node: NodeReader<'_>) -> Result<bool, AstJsonError>
+    requires { IsLocated node.unknown (node_json node) }
+    ensures ok { IfOk result (λ is_true. IsReadAs IsValue node.entry (boolean_value is_true)) }
     ensures err { IfErr result (λ error. ¬ IsMemory error
-        → (is_true : Bool) → ¬ IsValue (boolean_value is_true) (view json.now)) }
+        → (is_true : Bool) → ¬ IsReadAs IsValue node.entry (boolean_value is_true)) }
 {
-    check_node(
-        alloc,
-        json,
-        "BooleanValue",
-        &["kind", "loc", "value"],
-        source,
-    )?;
-    boolean_member(alloc, json, "value")
+    node.check("BooleanValue", &["value"])?;
+    let value = node.required("value")?;
+    match value {
+        Json::Bool(is_true) => Ok(*is_true),
+        _ => Err(node.within("value", node.wrong_type(value, JsonType::Boolean))),
+    }
 }
 
-/// The value of AST JSON, whose nodes stand in the source text `source` where the JSON tells where.
+/// The value that a node is of, whose location was read.
 ///
 /// `{"kind":"IntValue","value":"4"}` is of the value `4`.
 #[cycle(value)]
-pub fn read_value(alloc: Global, json: &Json, source: FileId) -> Result<Value, AstJsonError>
-    ensures ok { IfOk result (λ value. IsValue (value_tree value) (view json.now)) }
-    ensures err { IfErr result (λ error. ¬ IsMemory error
-        → (tree : ValueTree) → ¬ IsValue tree (view json.now)) }
+pub(crate) fn read_value(node: NodeReader<'_>) -> Result<Value, AstJsonError>
+    requires { IsLocated node.unknown (node_json node) }
+    ensures ok { IfOk result (λ value. IsReadAs IsValue node.entry (value_tree value)) }
+    ensures err { IfErr result (λ error. ¬ IsMemory error → IsOfNone IsValue node.entry) }
 {
-    let kind = text_member(alloc, json, "kind")?;
+    let kind = node.text("kind")?;
     match kind {
         "NullValue" => {
-            check_node(alloc, json, "NullValue", &["kind", "loc"], source)?;
+            node.check("NullValue", &[])?;
             Ok(Value::Null)
         }
-        "EnumValue" => Ok(Value::Enum(enum_name(alloc, json, source)?)),
-        "Variable" => Ok(Value::Variable(variable_name(alloc, json, source)?)),
+        "EnumValue" => Ok(Value::Enum(name_of_kind(node, "EnumValue")?)),
+        "Variable" => Ok(Value::Variable(variable_name(node)?)),
         "StringValue" => {
-            let text = string_text(alloc, json, source)?;
-            Ok(Value::String(String::from_str(alloc, text)?))
+            let text = string_text(node)?;
+            Ok(Value::String(String::from_str(node.alloc, text)?))
         }
-        "FloatValue" => Ok(Value::Float(float(alloc, json, source)?)),
-        "IntValue" => Ok(Value::Int(int(alloc, json, source)?)),
-        "BooleanValue" => Ok(Value::Boolean(boolean(alloc, json, source)?)),
-        "ListValue" => Ok(Value::List(list_items(alloc, json, source)?)),
-        "ObjectValue" => Ok(Value::Object(object_fields(alloc, json, source)?)),
-        _ => Err(AstJsonError::kind(alloc, kind, "a value").in_member(alloc, "kind")),
+        "FloatValue" => Ok(Value::Float(float(node)?)),
+        "IntValue" => Ok(Value::Int(int(node)?)),
+        "BooleanValue" => Ok(Value::Boolean(boolean(node)?)),
+        "ListValue" => Ok(Value::List(list_items(node)?)),
+        "ObjectValue" => Ok(Value::Object(object_fields(node)?)),
+        _ => Err(node.wrong_kind(kind, "a value")),
     }
 }
 
 /// The value as a node, at its location.
 #[cycle(value)]
-pub fn read_value_node(
-    alloc: Global,
-    json: &Json,
-    source: FileId,
-) -> Result<Node<Value>, AstJsonError>
-    ensures ok { IfOk result (λ node. IsValue (value_tree (node_value node)) (view json.now)) }
-    ensures located { IfOk result (λ node. IsLocatedAt (node_location node) (view json.now)) }
-    ensures err { IfErr result (λ error. ¬ IsMemory error
-        → (tree : ValueTree) → ¬ IsValue tree (view json.now)) }
+fn read_value_node(node: NodeReader<'_>) -> Result<Node<Value>, AstJsonError>
+    ensures ok { IfOk result (λ value.
+        IsReadAs IsValue node.entry (value_tree (node_value value))) }
+    ensures stands { IfOk result (λ value. StandsAt (node_location value) (node_json node.entry)) }
+    ensures file { IfOk result (λ value. IsInFile node.entry.source (node_location value)) }
+    ensures err { IfErr result (λ error. ¬ IsMemory error → IsOfNone IsValue node.entry) }
 {
-    let value = read_value(alloc, json, source)?;
-    let location = location(alloc, json, source)?;
-    Ok(node_of(alloc, location, value)?)
+    let location = node.location()?;
+    let value = read_value(node)?;
+    Ok(node_at(node.alloc, location, value)?)
 }
 
 /// The items of a list.
 #[cycle(value)]
-fn list_items(alloc: Global, json: &Json, source: FileId) -> Result<Vec<Node<Value>>, AstJsonError>
+fn list_items(node: NodeReader<'_>) -> Result<Vec<Node<Value>>, AstJsonError>
+    requires { IsLocated node.unknown (node_json node) }
     ensures ok { IfOk result (λ items.
-        IsValue (list_value (value_trees items.items)) (view json.now)) }
+        IsReadAs IsValue node.entry (list_value (value_trees items.items))) }
     ensures err { IfErr result (λ error. ¬ IsMemory error
-        → (items : ValueTrees) → ¬ IsValue (list_value items) (view json.now)) }
+        → (items : ValueTrees) → ¬ IsReadAs IsValue node.entry (list_value items)) }
 {
-    check_node(alloc, json, "ListValue", &["kind", "loc", "values"], source)?;
-    let items = array_member(alloc, json, "values")?;
-    match values(alloc, items, source) {
+    node.check("ListValue", &["values"])?;
+    let items = node.items("values")?;
+    match values(node, items) {
         Ok(values) => Ok(values),
-        Err(error) => Err(error.in_member(alloc, "values")),
+        Err(error) => Err(node.within("values", error)),
     }
 }
 
 #[cycle(value)]
-fn values(alloc: Global, items: &[Json], source: FileId) -> Result<Vec<Node<Value>>, AstJsonError>
+fn values(node: NodeReader<'_>, items: &[Json]) -> Result<Vec<Node<Value>>, AstJsonError>
     ensures ok { IfOk result (λ values.
-        AreValues (value_trees values.items) (items_view items.now)) }
+        AreValues node.entry.unknown (value_trees values.items) (items_view items.now)) }
     ensures err { IfErr result (λ error. ¬ IsMemory error
-        → (trees : ValueTrees) → ¬ AreValues trees (items_view items.now)) }
+        → (trees : ValueTrees) → ¬ AreValues node.entry.unknown trees (items_view items.now)) }
 {
-    let mut values = Vec::with_capacity(alloc, items.len())?;
-    for (index, item) in items.iter().enumerate() {
-        match read_value_node(alloc, item, source) {
+    let mut values = Vec::with_capacity(node.alloc, items.len())?;
+    for (index, json) in items.iter().enumerate() {
+        match read_value_node(NodeReader { json, ..node }) {
             Ok(value) => values.push(value)?,
-            Err(error) => return Err(error.in_item(alloc, index)),
+            Err(error) => return Err(error.in_item(node.alloc, index)),
         }
     }
     Ok(values)
@@ -179,71 +159,74 @@ fn values(alloc: Global, items: &[Json], source: FileId) -> Result<Vec<Node<Valu
 
 /// The fields of an object.
 #[cycle(value)]
-fn object_fields(
-    alloc: Global,
-    json: &Json,
-    source: FileId,
-) -> Result<Vec<(Name, Node<Value>)>, AstJsonError>
+fn object_fields(node: NodeReader<'_>) -> Result<Vec<(Name, Node<Value>)>, AstJsonError>
+    requires { IsLocated node.unknown (node_json node) }
     ensures ok { IfOk result (λ fields.
-        IsValue (object_value (object_field_trees fields.items)) (view json.now)) }
+        IsReadAs IsValue node.entry (object_value (object_field_trees fields.items))) }
     ensures err { IfErr result (λ error. ¬ IsMemory error
-        → (fields : ObjectFieldTrees) → ¬ IsValue (object_value fields) (view json.now)) }
+        → (fields : ObjectFieldTrees)
+        → ¬ IsReadAs IsValue node.entry (object_value fields)) }
 {
-    check_node(
-        alloc,
-        json,
-        "ObjectValue",
-        &["kind", "loc", "fields"],
-        source,
-    )?;
-    let items = array_member(alloc, json, "fields")?;
-    match fields(alloc, items, source) {
+    node.check("ObjectValue", &["fields"])?;
+    let items = node.items("fields")?;
+    match fields(node, items) {
         Ok(fields) => Ok(fields),
-        Err(error) => Err(error.in_member(alloc, "fields")),
+        Err(error) => Err(node.within("fields", error)),
     }
 }
 
 #[cycle(value)]
-fn fields(
-    alloc: Global,
-    items: &[Json],
-    source: FileId,
-) -> Result<Vec<(Name, Node<Value>)>, AstJsonError>
+fn fields(node: NodeReader<'_>, items: &[Json]) -> Result<Vec<(Name, Node<Value>)>, AstJsonError>
     ensures ok { IfOk result (λ fields.
-        AreObjectFields (object_field_trees fields.items) (items_view items.now)) }
+        AreObjectFields node.entry.unknown (object_field_trees fields.items)
+        (items_view items.now)) }
     ensures err { IfErr result (λ error. ¬ IsMemory error
-        → (trees : ObjectFieldTrees) → ¬ AreObjectFields trees (items_view items.now)) }
+        → (trees : ObjectFieldTrees) → ¬ AreObjectFields node.entry.unknown trees
+        (items_view items.now)) }
 {
-    let mut fields = Vec::with_capacity(alloc, items.len())?;
-    for (index, item) in items.iter().enumerate() {
-        match named_value(alloc, item, "ObjectField", source) {
+    let mut fields = Vec::with_capacity(node.alloc, items.len())?;
+    for (index, json) in items.iter().enumerate() {
+        match object_field(NodeReader { json, ..node }) {
             Ok(field) => fields.push(field)?,
-            Err(error) => return Err(error.in_item(alloc, index)),
+            Err(error) => return Err(error.in_item(node.alloc, index)),
         }
     }
     Ok(fields)
 }
 
+/// A field of an object. Where it stands is tested and left out.
+#[cycle(value)]
+fn object_field(node: NodeReader<'_>) -> Result<(Name, Node<Value>), AstJsonError>
+    ensures ok { IfOk result (λ pair. IsNamedValue node.entry.unknown (codes "ObjectField")
+        (name_tree pair.0) (IsValue node.entry.unknown (value_tree (node_value pair.1)))
+        (node_json node.entry)) }
+    ensures err { IfErr result (λ error. ¬ IsMemory error
+        → (name : NameText) → (value : ValueTree) → ¬ IsNamedValue node.entry.unknown
+        (codes "ObjectField") name (IsValue node.entry.unknown value) (node_json node.entry)) }
+{
+    node.location()?;
+    named_value(node, "ObjectField")
+}
+
 /// The name and the value of a node of this kind that has both.
 #[cycle(value)]
 pub(crate) fn named_value(
-    alloc: Global,
-    json: &Json,
+    node: NodeReader<'_>,
     kind: &str,
-    source: FileId,
 ) -> Result<(Name, Node<Value>), AstJsonError>
-    ensures ok { IfOk result (λ pair.
-        IsNamedValue kind.now (name_tree pair.0) (IsValue (value_tree (node_value pair.1)))
-        (view json.now)) }
+    requires { IsLocated node.unknown (node_json node) }
+    ensures ok { IfOk result (λ pair. IsNamedValue node.entry.unknown kind.now
+        (name_tree pair.0) (IsValue node.entry.unknown (value_tree (node_value pair.1)))
+        (node_json node.entry)) }
     ensures err { IfErr result (λ error. ¬ IsMemory error
-        → (name : NameText) → (value : ValueTree)
-        → ¬ IsNamedValue kind.now name (IsValue value) (view json.now)) }
+        → (name : NameText) → (value : ValueTree) → ¬ IsNamedValue node.entry.unknown
+        kind.now name (IsValue node.entry.unknown value) (node_json node.entry)) }
 {
-    check_node(alloc, json, kind, &["kind", "loc", "name", "value"], source)?;
-    let name = member_tree::<Name>(alloc, json, "name", source)?;
-    let member = required_member(alloc, json, "value")?;
-    match read_value_node(alloc, member, source) {
+    node.check(kind, &["name", "value"])?;
+    let name = node.member::<Name>("name")?;
+    let json = node.required("value")?;
+    match read_value_node(NodeReader { json, ..node }) {
         Ok(value) => Ok((name, value)),
-        Err(error) => Err(error.in_member(alloc, "value")),
+        Err(error) => Err(node.within("value", error)),
     }
 }

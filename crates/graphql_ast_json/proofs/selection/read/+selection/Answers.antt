@@ -7,6 +7,7 @@ use Rattle.serde_json.specs.declared.value.Value as json
 use Rattle.graphql_executable.specs.trees.ExecutableTrees.{selection_trees}
 use Rattle.graphql_executable.specs.kinds.InlineFragments.{InlineFragmentTree}
 use Rattle.graphql_executable.specs.kinds.Selections.{SelectionTree}
+use Rattle.graphql_ast_json.specs.code.NodeReading.{node_json}
 use Rattle.graphql_ast_json.specs.code.Errors.{IsMemory}
 use Rattle.graphql_ast_json.specs.kinds.ExecutableJson.{AreSelections, IsInlineFragment, IsSelection, IsSelectionSet}
 use Rattle.graphql_ast_json.specs.lemmas.Leaves.{IsOfKind}
@@ -26,10 +27,10 @@ selections-read_selection-requires t c =
 
 pub selections-returns-in-Err-clause-err : goal.selections-returns-in-Err-clause-err
 selections-returns-in-Err-clause-err t c refused =
-    none_at c.args.items.now c.loop-index.index c.index-items-index.result c.loop-index-test.true
+    none_at c.args.node.unknown c.args.items.now c.loop-index.index c.index-items-index.result c.loop-index-test.true
     (λ tree is.
     c.in-Err.ensures.err (λ m. refused (c.in_item.ensures m)) tree
-    (subst (λ (v : json.Value). IsSelection tree (view v)) (sym c.index-items-index.is) is))
+    (subst (λ (v : json.Value). IsSelection c.args.node.unknown tree (view v)) (sym c.index-items-index.is) is))
 
 pub selections-loop-index-preserved : goal.selections-loop-index-preserved
 selections-loop-index-preserved t c =
@@ -37,41 +38,43 @@ selections-loop-index-preserved t c =
     let i = c.loop-index.index in
     let item = c.index-items-index.result in
     let taken = take_more items i item c.loop-index-test.true ∙ ap (λ (v : json.Value). take i items ++ v ∷ []) (sym c.index-items-index.is) in
-    subst₂ (λ selections jsons. AreSelections (selection_trees selections) (items_view jsons)) (sym c.in_ok-push-in-Ok.ensures.items) (sym taken)
-    (selections_more c.loop-index.selections.items (take i items) c.in-Ok.selection item c.loop-index.invariant c.in-Ok.ensures.ok)
+    subst₂ (λ selections jsons. AreSelections c.args.node.unknown (selection_trees selections) (items_view jsons)) (sym c.in_ok-push-in-Ok.ensures.items)
+    (sym taken)
+    (selections_more c.args.node.unknown c.loop-index.selections.items (take i items) c.in-Ok.selection item c.loop-index.invariant c.in-Ok.ensures.ok)
 
-pub read_selection-returns-in_err-read_field_node-in-Field-clause-err : goal.read_selection-returns-in_err-read_field_node-in-Field-clause-err
-read_selection-returns-in_err-read_field_node-in-Field-clause-err t c =
-    let json = view c.args.json.now in
+pub read_selection-returns-in_err-field-in-Field-clause-err : goal.read_selection-returns-in_err-field-in-Field-clause-err
+read_selection-returns-in_err-field-in-Field-clause-err t c =
+    let json = node_json c.args.node in
     let kind : IsOfKind (codes "Field") json = c.in_ok-kind.ensures.ok ∙ ap (λ (s : List ℕ). Some (string s)) c.in-Field.is in
-    let none : ¬ IsMemory c.in_err-read_field_node-in-Field.field-0.0 → (tree : SelectionTree) → ¬ IsSelection tree json =
-    λ m. only_field json kind (c.in_err-read_field_node-in-Field.ensures.err m) in
-    passed _ _ _ none c.from_residual-in_err-read_field_node-in-Field.ensures.1
+    let none : ¬ IsMemory c.in_err-field-in-Field.field-0.0 → (tree : SelectionTree) → ¬ IsSelection c.args.node.unknown tree json =
+    λ m. only_field c.args.node.unknown json kind (c.in_err-field-in-Field.ensures.err m) in
+    passed _ _ _ none c.from_residual-in_err-field-in-Field.ensures.1
 
 pub read_selection-returns-in_err-fragment-in-InlineFragment-clause-err : goal.read_selection-returns-in_err-fragment-in-InlineFragment-clause-err
 read_selection-returns-in_err-fragment-in-InlineFragment-clause-err t c =
-    let json = view c.args.json.now in
+    let json = node_json c.args.node in
     let kind : IsOfKind (codes "InlineFragment") json = c.in_ok-kind.ensures.ok ∙ ap (λ (s : List ℕ). Some (string s)) c.in-InlineFragment.is in
-    let none : ¬ IsMemory c.in_err-fragment-in-InlineFragment.field-0.0 → (tree : SelectionTree) → ¬ IsSelection tree json =
-    λ m. only_inline_fragment json kind (c.in_err-fragment-in-InlineFragment.ensures.err m) in
+    let none : ¬ IsMemory c.in_err-fragment-in-InlineFragment.field-0.0 → (tree : SelectionTree) → ¬ IsSelection c.args.node.unknown tree json =
+    λ m. only_inline_fragment c.args.node.unknown json kind (c.in_err-fragment-in-InlineFragment.ensures.err m) in
     passed _ _ _ none c.from_residual-in_err-fragment-in-InlineFragment.ensures.1
 
-pub read_inline_fragment-returns-in_err-selection_set-clause-err : goal.read_inline_fragment-returns-in_err-selection_set-clause-err
-read_inline_fragment-returns-in_err-selection_set-clause-err t c =
-    let json = view c.args.json.now in
-    let none : ¬ IsMemory c.in_err-selection_set.field-0.0 → (fragment : InlineFragmentTree) → ¬ IsInlineFragment fragment json =
-    λ m fragment is. c.in_err-selection_set.ensures.err m fragment.selections is.2 in
-    passed _ _ _ none c.from_residual-in_err-selection_set.ensures.1
+pub read_inline_fragment-returns-in_err-required_set-clause-err : goal.read_inline_fragment-returns-in_err-required_set-clause-err
+read_inline_fragment-returns-in_err-required_set-clause-err t c =
+    let json = node_json c.args.node in
+    let none : ¬ IsMemory c.in_err-required_set.field-0.0 → (fragment : InlineFragmentTree) → ¬ IsInlineFragment c.args.node.unknown fragment json =
+    λ m fragment is. c.in_err-required_set.ensures.err m fragment.selections is.2 in
+    passed _ _ _ none c.from_residual-in_err-required_set.ensures.1
 
 pub optional_set-returns-in-Err-clause-err : goal.optional_set-returns-in-Err-clause-err
 optional_set-returns-in-Err-clause-err t c refused set is =
-    c.in-Err.ensures.err (λ m. refused (c.in_member.ensures m)) set
-    (subst (λ (found : Option Data). MatchOption found (AreSelections set no_items) (IsSelectionSet set)) (sym c.in-Some.ensures.value) is)
+    c.in-Err.ensures.err (λ m. refused (c.within.ensures m)) set
+    (subst (λ (found : Option Data). MatchOption found (AreSelections c.args.node.unknown set no_items) (IsSelectionSet c.args.node.unknown set))
+    (sym c.in-Some.ensures.value) is)
 
 pub required_set-returns-in-Err-clause-err : goal.required_set-returns-in-Err-clause-err
 required_set-returns-in-Err-clause-err t c refused set is =
-    c.in-Err.ensures.err (λ m. refused (c.in_member.ensures m)) set
-    (subst (λ (found : Option Data). IsSomeAnd found (IsSelectionSet set)) c.in_ok-member.ensures.ok is)
+    c.in-Err.ensures.err (λ m. refused (c.within.ensures m)) set
+    (subst (λ (found : Option Data). IsSomeAnd found (IsSelectionSet c.args.node.unknown set)) c.in_ok-json.ensures.ok is)
 
 pub selections-returns-in_err-push-in-Ok-clause-err : goal.selections-returns-in_err-push-in-Ok-clause-err
 selections-returns-in_err-push-in-Ok-clause-err t c = grind (arith, common_steps)

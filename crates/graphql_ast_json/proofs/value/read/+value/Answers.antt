@@ -9,6 +9,7 @@ use Rattle.graphql_values.specs.kinds.Values.{ValueTree}
 use Rattle.serde_json.specs.Data.{depth, items_depth, string}
 use Rattle.serde_json.specs.View.{view, items_view}
 use Rattle.serde_json.specs.declared.value.Value as json
+use Rattle.graphql_ast_json.specs.code.NodeReading.{node_json}
 use Rattle.graphql_ast_json.specs.code.Errors.{IsMemory}
 use Rattle.graphql_ast_json.specs.nodes.Nodes.{member_of}
 use Rattle.graphql_ast_json.specs.kinds.ValueJson.{IsValue, AreValues, AreObjectFields, IsNamedValue}
@@ -18,62 +19,74 @@ use Rattle.graphql_ast_json.proofs.kinds.ValueJsonByKind.{only_enum, only_string
 use Rattle.graphql_ast_json.proofs.kinds.ValueJsonByKind.{only_object, more_are_values, more_are_fields, none_at, no_field_at, string_is}
 use Rattle.graphql_ast_json.proofs.value.read.+value.Goals as goal
 
-pub read_value-returns-in_err-enum_name-in-EnumValue-clause-err : goal.read_value-returns-in_err-enum_name-in-EnumValue-clause-err
-read_value-returns-in_err-enum_name-in-EnumValue-clause-err t c =
-    let json = view c.args.json.now in
+pub read_value-returns-in_err-name_of_kind-in-EnumValue-clause-err : goal.read_value-returns-in_err-name_of_kind-in-EnumValue-clause-err
+read_value-returns-in_err-name_of_kind-in-EnumValue-clause-err t c =
+    let json = node_json c.args.node in
     let kind : member_of (codes "kind") json ≡ Some (string (codes "EnumValue")) =
     c.in_ok-kind.ensures.ok ∙ ap (λ (s : List ℕ). Some (string s)) c.in-EnumValue.is in
-    let none : ¬ IsMemory c.in_err-enum_name-in-EnumValue.field-0.0 → (tree : ValueTree) → ¬ IsValue tree json =
-    λ m. only_enum json kind (c.in_err-enum_name-in-EnumValue.ensures.err m) in
-    passed _ _ _ none c.from_residual-in_err-enum_name-in-EnumValue.ensures.1
+    let none : ¬ IsMemory c.in_err-name_of_kind-in-EnumValue.field-0.0 → (tree : ValueTree) → ¬ IsValue c.args.node.unknown tree json =
+    λ m. only_enum c.args.node.unknown json kind (c.in_err-name_of_kind-in-EnumValue.ensures.err m) in
+    passed _ _ _ none c.from_residual-in_err-name_of_kind-in-EnumValue.ensures.1
 
 pub read_value-returns-in_err-text-in-StringValue-clause-err : goal.read_value-returns-in_err-text-in-StringValue-clause-err
 read_value-returns-in_err-text-in-StringValue-clause-err t c =
-    let json = view c.args.json.now in
+    let json = node_json c.args.node in
     let kind : member_of (codes "kind") json ≡ Some (string (codes "StringValue")) =
     c.in_ok-kind.ensures.ok ∙ ap (λ (s : List ℕ). Some (string s)) c.in-StringValue.is in
-    let none : ¬ IsMemory c.in_err-text-in-StringValue.field-0.0 → (tree : ValueTree) → ¬ IsValue tree json =
-    λ m. only_string json kind (c.in_err-text-in-StringValue.ensures.err m) in
+    let none : ¬ IsMemory c.in_err-text-in-StringValue.field-0.0 → (tree : ValueTree) → ¬ IsValue c.args.node.unknown tree json =
+    λ m. only_string c.args.node.unknown json kind (c.in_err-text-in-StringValue.ensures.err m) in
     passed _ _ _ none c.from_residual-in_err-text-in-StringValue.ensures.1
 
 pub read_value-returns-in_err-float-in-FloatValue-clause-err : goal.read_value-returns-in_err-float-in-FloatValue-clause-err
 read_value-returns-in_err-float-in-FloatValue-clause-err t c =
-    let json = view c.args.json.now in
+    let json = node_json c.args.node in
     let kind : member_of (codes "kind") json ≡ Some (string (codes "FloatValue")) =
     c.in_ok-kind.ensures.ok ∙ ap (λ (s : List ℕ). Some (string s)) c.in-FloatValue.is in
-    let none : ¬ IsMemory c.in_err-float-in-FloatValue.field-0.0 → (tree : ValueTree) → ¬ IsValue tree json =
-    λ m. only_float json kind (c.in_err-float-in-FloatValue.ensures.err m) in
+    let none : ¬ IsMemory c.in_err-float-in-FloatValue.field-0.0 → (tree : ValueTree) → ¬ IsValue c.args.node.unknown tree json =
+    λ m. only_float c.args.node.unknown json kind (c.in_err-float-in-FloatValue.ensures.err m) in
     passed _ _ _ none c.from_residual-in_err-float-in-FloatValue.ensures.1
 
 pub read_value-returns-in_err-int-in-IntValue-clause-err : goal.read_value-returns-in_err-int-in-IntValue-clause-err
-read_value-returns-in_err-int-in-IntValue-clause-err t c = grind (arith, common_steps, only_int)
+read_value-returns-in_err-int-in-IntValue-clause-err t c =
+    let json = node_json c.args.node in
+    let kind : member_of (codes "kind") json ≡ Some (string (codes "IntValue")) =
+    c.in_ok-kind.ensures.ok ∙ ap (λ (s : List ℕ). Some (string s)) c.in-IntValue.is in
+    let none : ¬ IsMemory c.in_err-int-in-IntValue.field-0.0 → (tree : ValueTree) → ¬ IsValue c.args.node.unknown tree json =
+    λ m. only_int c.args.node.unknown json kind (c.in_err-int-in-IntValue.ensures.err m) in
+    passed _ _ _ none c.from_residual-in_err-int-in-IntValue.ensures.1
 
 pub read_value-returns-in_err-boolean-in-BooleanValue-clause-err : goal.read_value-returns-in_err-boolean-in-BooleanValue-clause-err
-read_value-returns-in_err-boolean-in-BooleanValue-clause-err t c = grind (arith, common_steps, only_boolean)
+read_value-returns-in_err-boolean-in-BooleanValue-clause-err t c =
+    let json = node_json c.args.node in
+    let kind : member_of (codes "kind") json ≡ Some (string (codes "BooleanValue")) =
+    c.in_ok-kind.ensures.ok ∙ ap (λ (s : List ℕ). Some (string s)) c.in-BooleanValue.is in
+    let none : ¬ IsMemory c.in_err-boolean-in-BooleanValue.field-0.0 → (tree : ValueTree) → ¬ IsValue c.args.node.unknown tree json =
+    λ m. only_boolean c.args.node.unknown json kind (c.in_err-boolean-in-BooleanValue.ensures.err m) in
+    passed _ _ _ none c.from_residual-in_err-boolean-in-BooleanValue.ensures.1
 
 pub read_value-returns-in_err-list_items-in-ListValue-clause-err : goal.read_value-returns-in_err-list_items-in-ListValue-clause-err
 read_value-returns-in_err-list_items-in-ListValue-clause-err t c =
-    let json = view c.args.json.now in
+    let json = node_json c.args.node in
     let kind : member_of (codes "kind") json ≡ Some (string (codes "ListValue")) =
     c.in_ok-kind.ensures.ok ∙ ap (λ (s : List ℕ). Some (string s)) c.in-ListValue.is in
-    let none : ¬ IsMemory c.in_err-list_items-in-ListValue.field-0.0 → (tree : ValueTree) → ¬ IsValue tree json =
-    λ m. only_list json kind (c.in_err-list_items-in-ListValue.ensures.err m) in
+    let none : ¬ IsMemory c.in_err-list_items-in-ListValue.field-0.0 → (tree : ValueTree) → ¬ IsValue c.args.node.unknown tree json =
+    λ m. only_list c.args.node.unknown json kind (c.in_err-list_items-in-ListValue.ensures.err m) in
     passed _ _ _ none c.from_residual-in_err-list_items-in-ListValue.ensures.1
 
 pub read_value-returns-in_err-object_fields-in-ObjectValue-clause-err : goal.read_value-returns-in_err-object_fields-in-ObjectValue-clause-err
 read_value-returns-in_err-object_fields-in-ObjectValue-clause-err t c =
-    let json = view c.args.json.now in
+    let json = node_json c.args.node in
     let kind : member_of (codes "kind") json ≡ Some (string (codes "ObjectValue")) =
     c.in_ok-kind.ensures.ok ∙ ap (λ (s : List ℕ). Some (string s)) c.in-ObjectValue.is in
-    let none : ¬ IsMemory c.in_err-object_fields-in-ObjectValue.field-0.0 → (tree : ValueTree) → ¬ IsValue tree json =
-    λ m. only_object json kind (c.in_err-object_fields-in-ObjectValue.ensures.err m) in
+    let none : ¬ IsMemory c.in_err-object_fields-in-ObjectValue.field-0.0 → (tree : ValueTree) → ¬ IsValue c.args.node.unknown tree json =
+    λ m. only_object c.args.node.unknown json kind (c.in_err-object_fields-in-ObjectValue.ensures.err m) in
     passed _ _ _ none c.from_residual-in_err-object_fields-in-ObjectValue.ensures.1
 
 pub read_value-returns-in_ok-from_str-in-StringValue-clause-ok : goal.read_value-returns-in_ok-from_str-in-StringValue-clause-ok
 read_value-returns-in_ok-from_str-in-StringValue-clause-ok t c =
     let text = c.in_ok-from_str-in-StringValue.field-0 in
     let same : string_bytes text ≡ c.in_ok-text-in-StringValue.text.now = grind arith in
-    string_is text c.in_ok-text-in-StringValue.text.now (view c.args.json.now) same c.in_ok-text-in-StringValue.ensures.ok
+    string_is c.args.node.unknown text c.in_ok-text-in-StringValue.text.now (node_json c.args.node) same c.in_ok-text-in-StringValue.ensures.ok
 
 pub values-read_value_node-requires : goal.values-read_value_node-requires
 values-read_value_node-requires t c =
@@ -86,9 +99,9 @@ values-read_value_node-requires t c =
 
 pub values-returns-in-Err-clause-err : goal.values-returns-in-Err-clause-err
 values-returns-in-Err-clause-err t c refused =
-    none_at c.args.items.now c.loop-index.index c.index-items-index.result c.loop-index-test.true (λ tree is.
+    none_at c.args.node.unknown c.args.items.now c.loop-index.index c.index-items-index.result c.loop-index-test.true (λ tree is.
     c.in-Err.ensures.err (λ m. refused (c.in_item.ensures m)) tree
-    (subst (λ (v : json.Value). IsValue tree (view v)) (sym c.index-items-index.is) is))
+    (subst (λ (v : json.Value). IsValue c.args.node.unknown tree (view v)) (sym c.index-items-index.is) is))
 
 pub values-loop-index-preserved : goal.values-loop-index-preserved
 values-loop-index-preserved t c =
@@ -96,19 +109,19 @@ values-loop-index-preserved t c =
     let i = c.loop-index.index in
     let item = c.index-items-index.result in
     let old = c.loop-index.values.items in
-    let next = more_are_values old (take i items) c.in-Ok.value item c.loop-index.invariant c.in-Ok.ensures.ok in
+    let next = more_are_values c.args.node.unknown old (take i items) c.in-Ok.value item c.loop-index.invariant c.in-Ok.ensures.ok in
     let taken = take_more items i item c.loop-index-test.true ∙ ap (λ (v : json.Value). take i items ++ v ∷ []) (sym c.index-items-index.is) in
-    subst (λ (ns : List (Node Value)). AreValues (value_trees ns) (items_view (take (i + 1) items))) (sym c.in_ok-push-in-Ok.ensures.items)
-    (subst (λ (vs : List json.Value). AreValues (value_trees (old ++ c.in-Ok.value ∷ [])) (items_view vs)) (sym taken) next)
+    subst (λ (ns : List (Node Value)). AreValues c.args.node.unknown (value_trees ns) (items_view (take (i + 1) items))) (sym c.in_ok-push-in-Ok.ensures.items)
+    (subst (λ (vs : List json.Value). AreValues c.args.node.unknown (value_trees (old ++ c.in-Ok.value ∷ [])) (items_view vs)) (sym taken) next)
 
 pub values-returns-clause-ok : goal.values-returns-clause-ok
 values-returns-clause-ok t c =
     let items = c.args.items.now in
-    subst (λ (vs : List json.Value). AreValues (value_trees c.loop-index.values.items) (items_view vs))
+    subst (λ (vs : List json.Value). AreValues c.args.node.unknown (value_trees c.loop-index.values.items) (items_view vs))
     (take_all c.loop-index.index items (omega arith)) c.loop-index.invariant
 
-pub fields-named_value-requires : goal.fields-named_value-requires
-fields-named_value-requires t c =
+pub fields-object_field-requires : goal.fields-object_field-requires
+fields-object_field-requires t c =
     let items = c.args.items.now in
     let item = c.index-items-index.result in
     let deep : depth (view item) ≤ items_depth (items_view items) =
@@ -118,9 +131,10 @@ fields-named_value-requires t c =
 
 pub fields-returns-in-Err-clause-err : goal.fields-returns-in-Err-clause-err
 fields-returns-in-Err-clause-err t c refused =
-    no_field_at c.args.items.now c.loop-index.index c.index-items-index.result c.loop-index-test.true (λ name tree is.
+    no_field_at c.args.node.unknown c.args.items.now c.loop-index.index c.index-items-index.result c.loop-index-test.true (λ name tree is.
     c.in-Err.ensures.err (λ m. refused (c.in_item.ensures m)) name tree
-    (subst (λ (v : json.Value). IsNamedValue (codes "ObjectField") name (IsValue tree) (view v)) (sym c.index-items-index.is) is))
+    (subst (λ (v : json.Value). IsNamedValue c.args.node.unknown (codes "ObjectField") name (IsValue c.args.node.unknown tree) (view v))
+    (sym c.index-items-index.is) is))
 
 pub fields-loop-index-preserved : goal.fields-loop-index-preserved
 fields-loop-index-preserved t c =
@@ -128,16 +142,16 @@ fields-loop-index-preserved t c =
     let i = c.loop-index.index in
     let item = c.index-items-index.result in
     let old = c.loop-index.fields.items in
-    let next = more_are_fields old (take i items) c.in-Ok.field item c.loop-index.invariant c.in-Ok.ensures.ok in
+    let next = more_are_fields c.args.node.unknown old (take i items) c.in-Ok.field item c.loop-index.invariant c.in-Ok.ensures.ok in
     let taken = take_more items i item c.loop-index-test.true ∙ ap (λ (v : json.Value). take i items ++ v ∷ []) (sym c.index-items-index.is) in
-    subst (λ (ns : List (Name × Node Value)). AreObjectFields (object_field_trees ns) (items_view (take (i + 1) items)))
+    subst (λ (ns : List (Name × Node Value)). AreObjectFields c.args.node.unknown (object_field_trees ns) (items_view (take (i + 1) items)))
     (sym c.in_ok-push-in-Ok.ensures.items) (subst
-    (λ (vs : List json.Value). AreObjectFields (object_field_trees (old ++ c.in-Ok.field ∷ [])) (items_view vs)) (sym taken) next)
+    (λ (vs : List json.Value). AreObjectFields c.args.node.unknown (object_field_trees (old ++ c.in-Ok.field ∷ [])) (items_view vs)) (sym taken) next)
 
 pub fields-returns-clause-ok : goal.fields-returns-clause-ok
 fields-returns-clause-ok t c =
     let items = c.args.items.now in
-    subst (λ (vs : List json.Value). AreObjectFields (object_field_trees c.loop-index.fields.items) (items_view vs))
+    subst (λ (vs : List json.Value). AreObjectFields c.args.node.unknown (object_field_trees c.loop-index.fields.items) (items_view vs))
     (take_all c.loop-index.index items (omega arith)) c.loop-index.invariant
 
 pub fields-returns-in_err-push-in-Ok-clause-err : goal.fields-returns-in_err-push-in-Ok-clause-err

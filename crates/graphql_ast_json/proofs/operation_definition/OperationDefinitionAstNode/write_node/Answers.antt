@@ -1,0 +1,24 @@
+use Rattle.std.proofs.Common.{codes, ◌∷◌, refl, sym}
+use Rattle.graphql_ast_json.specs.kinds.ExecutableJson.{operation_definition_members}
+use Rattle.graphql_ast_json.proofs.nodes.DraftsAreNodes.{begun, ended, gained, given_member, is_node, stands}
+use Rattle.graphql_ast_json.proofs.operation_definition.OperationDefinitionAstNode.write_node.Goals as goal
+
+pub returns : goal.returns
+returns c =
+    let w =
+    ended c.into_json.ensures (gained (gained (gained (gained (gained (gained
+    (begun c.in_ok-begin.ensures) c.in_ok-put_optional.ensures) c.in_ok-put_text.ensures) c.in_ok-put_optional-2.ensures)
+    c.in_ok-put_list.ensures) c.in_ok-put_directives.ensures) c.in_ok-put.ensures) in record {
+      ok = λ unknown. (
+        is_node unknown (codes "description" ∷ operation_definition_members) w refl refl refl refl,
+        given_member w c.in_ok-put_optional.ensures refl refl unknown,
+        (
+          rw (sym c.name.ensures) (given_member w c.in_ok-put_text.ensures refl refl),
+          given_member w c.in_ok-put_optional-2.ensures refl refl unknown,
+          rw (sym c.deref.ensures.value) (given_member w c.in_ok-put_list.ensures refl refl unknown).1,
+          (given_member w c.in_ok-put_directives.ensures refl refl unknown).1,
+          given_member w c.in_ok-put.ensures refl refl unknown,
+        ),
+      );
+      stands = stands w refl refl;
+    }

@@ -1,9 +1,0 @@
-use Rattle.std.proofs.Common.{◌≡◌}
-use Rattle.serde_json.specs.View.{members_view}
-use Rattle.graphql_ast_json.specs.nodes.Nodes.{names_among}
-use Rattle.graphql_ast_json.specs.code.NodeReading.{texts_of}
-use Rattle.graphql_ast_json.proofs.read.node.unknown_name.Given as goal
-
-abbrev pub invariant-loop-name : goal.invariant-loop-name
-invariant-loop-name l =
-    names_among (texts_of l.names) (members_view l.members.entries) ≡ names_among (texts_of l.names) (members_view l.name-iterator)

@@ -1,7 +1,0 @@
-use Rattle.std.proofs.Common.{map, take}
-use Rattle.serde_json.specs.View.{items_view}
-use Rattle.graphql_ast_json.specs.nodes.Nodes.{Each}
-use Rattle.graphql_ast_json.proofs.write.list.write_list.Given as goal
-
-abbrev pub invariant-loop-value : goal.invariant-loop-value
-invariant-loop-value g l = Each g.F.Form.is_json_of (map g.F.Form.tree (take l.value-index l.values)) (items_view l.list.items)

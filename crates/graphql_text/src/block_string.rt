@@ -97,7 +97,7 @@ fn has_unindented_line(value: &[u8]) -> bool
 }
 
 /// Whether the printer may write a value as a block string.
-pub(crate) fn can_be_block(value: &str) -> bool
+pub fn can_be_block(value: &str) -> bool
     ensures { result ≡ has_block_form (chars value.now) }
 {
     let bytes = value.as_bytes();

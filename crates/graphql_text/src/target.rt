@@ -60,35 +60,33 @@ pub(crate) struct ToSink<'a, S> {
 }
 
 /// Lets the text wait, where there is room for it alone; else sends what waits, and then lets the text wait, or sends
-/// it too. It answers whether writing stopped.
-#[cold]
+/// it too.
 #[inline(never)]
 #[tactic(auto, using(crate::proofs::code::SinkTwoPuts::put_steps))]
-fn send<S: TextSink>(sink: &mut S, stopped: bool, buffer: &mut Buffer, text: &str) -> bool
-    ensures { SendsBuffered S.taken S.fault_count sink.old stopped
-        (waiting_bytes buffer.old) text.now
-        sink.new result (waiting_bytes buffer.new) }
+fn send<S: TextSink>(out: &mut ToSink<'_, S>, text: &str)
+    ensures name { out.new.sink.ghost_name ≡ out.old.sink.ghost_name }
+    ensures sent { SendsBuffered S.taken S.fault_count out.old.sink.now out.old.stopped
+        (waiting_bytes out.old.buffer) text.now
+        out.new.sink.now out.new.stopped (waiting_bytes out.new.buffer) }
 {
-    if stopped {
-        return true;
+    if out.stopped || out.buffer.add(text) {
+        return;
     }
-    if buffer.add(text) {
-        return false;
+    if out.sink.faults() == u64::MAX {
+        out.stopped = true;
+        return;
     }
-    if sink.faults() == u64::MAX {
-        return true;
+    if put_all(&mut *out.sink, out.buffer.waiting()).is_err() {
+        out.stopped = true;
+        return;
     }
-    if put_all(sink, buffer.waiting()).is_err() {
-        return true;
+    out.buffer.clear();
+    if out.buffer.add(text) {
+        return;
     }
-    buffer.clear();
-    if buffer.add(text) {
-        return false;
+    if put_all(&mut *out.sink, text.as_bytes()).is_err() {
+        out.stopped = true;
     }
-    if put_all(sink, text.as_bytes()).is_err() {
-        return true;
-    }
-    false
 }
 
 /// Sends what still waits, at the end.
@@ -137,33 +135,23 @@ impl<'a, S: TextSink> Target for ToSink<'a, S> {
 
     #[inline(always)]
     fn text(&mut self, text: &str) {
-        if !self.buffer.add(text) {
-            self.stopped = send(&mut *self.sink, self.stopped, &mut self.buffer, text);
+        if !self.buffer.add_short(text) {
+            send(self, text);
         }
     }
 
     #[inline(always)]
     fn padded<P: Padded>(&mut self, text: &P) {
         if !self.buffer.add_padded(text) {
-            self.stopped = send(
-                &mut *self.sink,
-                self.stopped,
-                &mut self.buffer,
-                text.as_str(),
-            );
+            send(self, text.as_str());
         }
     }
 
     #[inline(always)]
     fn padded_then<P: Padded>(&mut self, text: &P, words: &str) {
         if !self.buffer.add_padded_then(text, words) {
-            self.stopped = send(
-                &mut *self.sink,
-                self.stopped,
-                &mut self.buffer,
-                text.as_str(),
-            );
-            self.stopped = send(&mut *self.sink, self.stopped, &mut self.buffer, words);
+            send(self, text.as_str());
+            send(self, words);
         }
     }
 
@@ -180,28 +168,24 @@ pub(crate) struct ToText {
     pub buffer: Buffer,
 }
 
-/// Lets more wait, where there is room for it alone; else appends what waits to a text, and then lets more wait, or
-/// appends that too. It answers whether memory was refused.
-#[cold]
+/// Lets more wait, where there is room for it alone; else appends what waits to the text, and then lets more wait, or
+/// appends that too.
 #[inline(never)]
-fn append(text: &mut String, failed: bool, buffer: &mut Buffer, more: &str) -> bool
-    ensures { TextGrew (string_bytes text.old ++ waiting_bytes buffer.old) failed more.now
-        (string_bytes text.new ++ waiting_bytes buffer.new) result }
+fn append(out: &mut ToText, more: &str)
+    ensures { TextGrew (written_bytes out.old) out.old.failed more.now
+        (written_bytes out.new) out.new.failed }
 {
-    if failed {
-        return true;
+    if out.failed || out.buffer.add(more) {
+        return;
     }
-    if buffer.add(more) {
-        return false;
+    if out.text.push_str(out.buffer.waiting_text()).is_err() {
+        out.failed = true;
+        return;
     }
-    if text.push_str(buffer.waiting_text()).is_err() {
-        return true;
+    out.buffer.clear();
+    if !out.buffer.add(more) {
+        out.failed = out.text.push_str(more).is_err();
     }
-    buffer.clear();
-    if buffer.add(more) {
-        return false;
-    }
-    text.push_str(more).is_err()
 }
 
 /// The whole text, unless memory was refused.
@@ -237,23 +221,23 @@ impl Target for ToText {
     // It may go on after a failure: what stands in it then is never handed out.
     #[inline(always)]
     fn text(&mut self, text: &str) {
-        if !self.buffer.add(text) {
-            self.failed = append(&mut self.text, self.failed, &mut self.buffer, text);
+        if !self.buffer.add_short(text) {
+            append(self, text);
         }
     }
 
     #[inline(always)]
     fn padded<P: Padded>(&mut self, text: &P) {
         if !self.buffer.add_padded(text) {
-            self.failed = append(&mut self.text, self.failed, &mut self.buffer, text.as_str());
+            append(self, text.as_str());
         }
     }
 
     #[inline(always)]
     fn padded_then<P: Padded>(&mut self, text: &P, words: &str) {
         if !self.buffer.add_padded_then(text, words) {
-            self.failed = append(&mut self.text, self.failed, &mut self.buffer, text.as_str());
-            self.failed = append(&mut self.text, self.failed, &mut self.buffer, words);
+            append(self, text.as_str());
+            append(self, words);
         }
     }
 

@@ -32,7 +32,7 @@ pub fn clones_are_the_same()
     ensures enum_type_definitions { ClonesKeep ⟦<EnumTypeDefinition as Clone>⟧.is_clone
         (λ it. it.description & it.name & it.directives.0.items & it.values.items
         & enum_type_definition_tree it) }
-    ensures input_object_type_definitions { ClonesKeep ⟦<InputObjectTypeDefinition as Clone>⟧.is_clone
+    ensures input_object_definitions { ClonesKeep ⟦<InputObjectTypeDefinition as Clone>⟧.is_clone
         (λ it. it.description & it.name & it.directives.0.items & it.fields.items
         & input_object_type_definition_tree it) }
     ensures field_definitions { ClonesKeep ⟦<FieldDefinition as Clone>⟧.is_clone
@@ -55,7 +55,7 @@ pub fn clones_are_the_same()
         & union_type_extension_tree it) }
     ensures enum_type_extensions { ClonesKeep ⟦<EnumTypeExtension as Clone>⟧.is_clone (λ it. it.name
         & it.directives.0.items & it.values.items & enum_type_extension_tree it) }
-    ensures input_object_type_extensions { ClonesKeep ⟦<InputObjectTypeExtension as Clone>⟧.is_clone
+    ensures input_object_extensions { ClonesKeep ⟦<InputObjectTypeExtension as Clone>⟧.is_clone
         (λ it. it.name & it.directives.0.items & it.fields.items
         & input_object_type_extension_tree it) }
 {}

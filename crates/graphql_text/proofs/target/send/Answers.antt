@@ -3,8 +3,8 @@ use Rattle.graphql_text.specs.code.Sinks.{SinkFaulted}
 use Rattle.graphql_text.specs.lemmas.Sinks.{faulted_before}
 use Rattle.graphql_text.proofs.target.send.Goals as goal
 
-pub returns-then-is_err : goal.returns-then-is_err
-returns-then-is_err g c =
-    let fault : SinkFaulted g.S.TextSink.taken g.S.TextSink.fault_count c.args.sink.now c.waiting.result.now c.put_all.new.sink = search rules in
+pub returns-then-is_err-clause-sent : goal.returns-then-is_err-clause-sent
+returns-then-is_err-clause-sent g c =
+    let fault : SinkFaulted g.S.TextSink.taken g.S.TextSink.fault_count c.args.out.now.sink.now c.waiting.result.now c.put_all.new.sink = search rules in
     let waiting = rw (c.waiting.ensures, c.add.ensures.full c.if-add.false) at fault in
-    rw c.if-stopped.false (λ few. faulted_before c.args.text.now waiting)
+    rw c.if-out.false (λ few. faulted_before c.args.text.now waiting)

@@ -1,7 +1,7 @@
 //! What holds of definitions and documents as they are printed and read, compared and cloned.
 //!
 //! The contract of each function is the law; `thirty_kinds_are_read_back`, which has one clause a kind, calls the laws of
-//! the crates below.
+//! the crates below. `base`, `text`, `values`, `executable` and `type_system` are the laws of those crates.
 
 mod comparisons;
 mod edges;
@@ -14,3 +14,8 @@ pub use crate::laws::readings::{
     definitions_are_read, refused_definitions, refused_documents, worked_layouts, worked_readings,
 };
 pub use crate::laws::thirty_kinds::thirty_kinds_are_read_back;
+pub use graphql_base::laws as base;
+pub use graphql_executable::laws as executable;
+pub use graphql_text::laws as text;
+pub use graphql_type_system::laws as type_system;
+pub use graphql_values::laws as values;

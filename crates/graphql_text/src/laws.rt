@@ -182,6 +182,12 @@ pub fn displayed_trees_are_read<'a, T: Syntax>(_printed: &Serialize<'a, T>)
         (λ bytes. ReadsAlone T.kind bytes (T.tree (print_tree _printed.now))) }
 {}
 
+/// A clone of a print is the same print: of the same tree, in the same layout.
+pub fn clones_of_prints_are_the_same<'a, T>(_print: &Serialize<'a, T>, _clone: &Serialize<'a, T>)
+    ensures { ⟦<Serialize<'a, T> as Clone>⟧.is_clone _print.now _clone.now →
+        _clone.now ≡ _print.now }
+{}
+
 /// Two errors of a print are equal exactly if they are the same one.
 pub fn print_errors_compare_by_variant(a: PrintError, b: PrintError)
     ensures { IsTrue (⟦<PrintError as PartialEq>⟧.eq a b) ↔ (a ≡ b) }

@@ -11,8 +11,8 @@ ghost use Rattle.graphql_text.specs.code.Place.{breaks, mode_of};
 ghost use Rattle.graphql_text.specs.lexical.Tokens.{Name as NameToken, IntValue, FloatValue};
 ghost use Rattle.graphql_text.specs.code.Writing.{IsCommaLead, Writes, WritesAnywhere, WritesItems, WritesLayout, fixed_text};
 
-use crate::breaks::{comma_break, indent, line_break, ready_comma_break};
 pub use crate::block_string::can_be_block;
+use crate::breaks::{comma_break, indent, line_break, ready_comma_break};
 pub use crate::depths::Depths;
 pub use crate::node_lists::{are_parts_well_formed, find_parts_depths};
 pub use crate::padded::Padded;

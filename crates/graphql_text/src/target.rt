@@ -76,7 +76,8 @@ fn send<S: TextSink>(out: &mut ToSink<'_, S>, text: &str)
         out.stopped = true;
         return;
     }
-    if put_all(&mut *out.sink, out.buffer.waiting()).is_err() {
+    let unsent = out.buffer.waiting();
+    if put_all(&mut *out.sink, unsent).is_err() {
         out.stopped = true;
         return;
     }

@@ -112,18 +112,6 @@ impl Buffer {
         }
     }
 
-    /// Adds the text, if it is at most 16 bytes and there is room for it: so that nothing is called.
-    #[inline(always)]
-    pub(crate) fn add_short(&mut self, text: &str) -> bool
-        ensures added { IsTrue result →
-            waiting_bytes self.new ≡ waiting_bytes self.old ++ text.now }
-        ensures full { result ≡ false → self.new ≡ self.old }
-        ensures room { length text.now ≤ 16 →
-            length (waiting_bytes self.old) + length text.now ≤ SIZE → IsTrue result }
-    {
-        text.len() <= 16 && self.add(text)
-    }
-
     /// Adds the text, if there is room for it and for what stands behind it. All of that is copied, so nothing depends
     /// on how long the text is.
     #[inline(always)]

@@ -136,7 +136,7 @@ impl<'a, S: TextSink> Target for ToSink<'a, S> {
 
     #[inline(always)]
     fn text(&mut self, text: &str) {
-        if !self.buffer.add_short(text) {
+        if !self.buffer.add(text) {
             send(self, text);
         }
     }
@@ -222,7 +222,7 @@ impl Target for ToText {
     // It may go on after a failure: what stands in it then is never handed out.
     #[inline(always)]
     fn text(&mut self, text: &str) {
-        if !self.buffer.add_short(text) {
+        if !self.buffer.add(text) {
             append(self, text);
         }
     }

@@ -6,12 +6,12 @@ ghost use Rattle.graphql_ast_json.specs.lemmas.DirectiveNodes.{argument_laws};
 
 use crate::ast_json::AstNode;
 use crate::error::AstJsonError;
+use crate::form::OnOneLine;
 use crate::read::NodeReader;
 use crate::value::read::named_value;
 use crate::write::NodeWriter;
 use graphql_ast::ast::{Argument, Value};
 use graphql_ast::name::Name;
-use graphql_base::node::Node;
 use serde_json::Value as Json;
 use std::alloc::AllocError;
 
@@ -32,7 +32,7 @@ impl AstNode for Argument {
     fn write_node(&self, mut node: NodeWriter) -> Result<Json, AllocError> {
         node.begin("Argument")?;
         node.put::<Name>("name", &self.name)?;
-        node.put::<Node<Value>>("value", &self.value)?;
+        node.put::<OnOneLine<Value>>("value", &self.value)?;
         Ok(node.into_json())
     }
 }

@@ -11,6 +11,7 @@ use crate::write::NodeWriter;
 use graphql_ast::ast::{DirectiveDefinition, DirectiveLocation, InputValueDefinition};
 use graphql_ast::name::Name;
 use graphql_base::node::{Node, NodeStr};
+use graphql_values::writers::some_want_lines;
 use serde_json::Value as Json;
 use std::alloc::AllocError;
 
@@ -47,7 +48,8 @@ impl AstNode for DirectiveDefinition {
         node.begin("DirectiveDefinition")?;
         node.put_optional::<NodeStr>("description", &self.description)?;
         node.put::<Name>("name", &self.name)?;
-        node.put_list::<Node<InputValueDefinition>>("arguments", &self.arguments)?;
+        let over_lines = some_want_lines(&self.arguments);
+        node.put_parameters("arguments", &self.arguments, over_lines)?;
         node.put_boolean("repeatable", self.repeatable)?;
         node.put_list::<DirectiveLocation>("locations", &self.locations)?;
         Ok(node.into_json())

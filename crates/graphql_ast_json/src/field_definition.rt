@@ -11,6 +11,7 @@ use crate::write::NodeWriter;
 use graphql_ast::ast::{FieldDefinition, InputValueDefinition, Type};
 use graphql_ast::name::Name;
 use graphql_base::node::{Node, NodeStr};
+use graphql_values::writers::some_want_lines;
 use serde_json::Value as Json;
 use std::alloc::AllocError;
 
@@ -41,7 +42,8 @@ impl AstNode for FieldDefinition {
         node.begin("FieldDefinition")?;
         node.put_optional::<NodeStr>("description", &self.description)?;
         node.put::<Name>("name", &self.name)?;
-        node.put_list::<Node<InputValueDefinition>>("arguments", &self.arguments)?;
+        let over_lines = some_want_lines(&self.arguments);
+        node.put_parameters("arguments", &self.arguments, over_lines)?;
         node.put::<Type>("type", &self.ty)?;
         node.put_directives(&self.directives)?;
         Ok(node.into_json())

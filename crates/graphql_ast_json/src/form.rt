@@ -2,6 +2,7 @@
 ghost use Rattle.std.specs.Prelude.{IfOk, IfErr};
 ghost use Rattle.serde_json.specs.Data.{Data};
 ghost use Rattle.serde_json.specs.View.{view};
+ghost use Rattle.graphql_base.specs.Node.{node_value};
 ghost use Rattle.graphql_text.specs.trees.Leaves.{name_tree};
 ghost use Rattle.graphql_text.specs.lexical.Literals.{NameText};
 ghost use Rattle.graphql_executable.specs.trees.ExecutableTrees.{selection_trees};
@@ -16,7 +17,7 @@ ghost use Rattle.graphql_ast_json.specs.lemmas.Leaves.{json_laws};
 ghost use Rattle.graphql_ast_json.specs.lemmas.TypeNodes.{named_type_laws};
 ghost use Rattle.graphql_ast_json.specs.nodes.OneTree.{JsonLaws};
 
-use crate::ast_json::AstJson;
+use crate::ast_json::{AstJson, AstNode};
 use crate::error::AstJsonError;
 use crate::read::NodeReader;
 use crate::selection::read::read_selection_set;
@@ -28,8 +29,10 @@ use crate::value::write::write_variable;
 use crate::write::NodeWriter;
 use graphql_ast::ast::{NamedType, Selection};
 use graphql_ast::name::Name;
+use graphql_base::node::Node;
 use serde_json::Value as Json;
 use std::alloc::{AllocError, Global};
+use std::marker::PhantomData;
 
 /// A form in which values of a type stand in AST JSON. What has `AstJson` has a form of its own; the name of a type
 /// also stands as a node `NamedType`, that of a variable as a node `Variable`, and selections as a node `SelectionSet`.
@@ -70,6 +73,33 @@ impl<T: AstJson + Drop> Form for T {
 
     fn write(alloc: Global, value: &T) -> Result<Json, AllocError> {
         value.to_ast_json(alloc)
+    }
+}
+
+/// A node that the default layout prints on one line, so that no string in it is a block string.
+pub struct OnOneLine<T> {
+    node: PhantomData<T>,
+}
+
+impl<T: AstNode + Drop> Form for OnOneLine<T> {
+    type Value = Node<T>;
+
+    ghost Tree = { T.Tree };
+
+    ghost tree = { λ node. T.tree (node_value node) };
+
+    ghost is_json_of = { T.is_node };
+
+    ghost laws = { json_laws T.laws };
+
+    fn read(node: NodeReader<'_>) -> Result<Node<T>, AstJsonError> {
+        Node::read_ast_json(node)
+    }
+
+    fn write(alloc: Global, value: &Node<T>) -> Result<Json, AllocError> {
+        value
+            .as_ref()
+            .write_node(NodeWriter::on_one_line(alloc, value.location()))
     }
 }
 

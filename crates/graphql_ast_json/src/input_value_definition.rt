@@ -42,7 +42,7 @@ impl AstNode for InputValueDefinition {
         node.put_optional::<NodeStr>("description", &self.description)?;
         node.put::<Name>("name", &self.name)?;
         node.put::<Node<Type>>("type", &self.ty)?;
-        node.put_optional::<Node<Value>>("defaultValue", &self.default_value)?;
+        node.put_default_value(&self.default_value)?;
         node.put_directives(&self.directives)?;
         Ok(node.into_json())
     }

@@ -15,6 +15,13 @@ use graphql_base::node::{Node, NodeStr};
 use serde_json::Value as Json;
 use std::alloc::AllocError;
 
+/// Whether a variable has a description, so that the default layout prints variables over lines.
+fn some_are_described(variables: &[Node<VariableDefinition>]) -> bool {
+    variables
+        .iter()
+        .any(|variable| variable.description.is_some())
+}
+
 impl AstNode for OperationDefinition {
     ghost Tree = { operation_definition_kind.Tree };
 
@@ -51,7 +58,8 @@ impl AstNode for OperationDefinition {
         node.put_optional::<NodeStr>("description", &self.description)?;
         node.put_text("operation", self.operation_type.name())?;
         node.put_optional::<Name>("name", &self.name)?;
-        node.put_list::<Node<VariableDefinition>>("variableDefinitions", &self.variables)?;
+        let over_lines = some_are_described(&self.variables);
+        node.put_parameters("variableDefinitions", &self.variables, over_lines)?;
         node.put_directives(&self.directives)?;
         node.put::<SelectionSetForm>("selectionSet", &self.selection_set)?;
         Ok(node.into_json())

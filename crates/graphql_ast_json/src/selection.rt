@@ -1,9 +1,10 @@
 //! Selections in AST JSON: a field, a fragment spread or an inline fragment, whose location is that of its node.
-ghost use Rattle.std.specs.Prelude.{None, ⊤};
+ghost use Rattle.graphql_executable.specs.code.SelectionQueries.{selection_location};
 ghost use Rattle.graphql_executable.specs.trees.ExecutableTrees.{field_tree, inline_fragment_tree, selection_tree};
 ghost use Rattle.graphql_executable.specs.kinds.Fields.{FieldTree};
 ghost use Rattle.graphql_executable.specs.kinds.InlineFragments.{InlineFragmentTree};
 ghost use Rattle.graphql_executable.specs.kinds.Selections.{SelectionTree};
+ghost use Rattle.graphql_ast_json.specs.code.NodeReading.{StandsAt};
 ghost use Rattle.graphql_ast_json.specs.kinds.ExecutableJson.{IsField, IsInlineFragment, IsSelection};
 ghost use Rattle.graphql_ast_json.specs.lemmas.ExecutableNodes.{field_laws, inline_fragment_laws, selection_laws};
 ghost use Rattle.graphql_ast_json.specs.lemmas.Leaves.{json_laws};
@@ -28,9 +29,9 @@ impl AstJson for Selection {
 
     ghost is_json_of = { IsSelection };
 
-    ghost location = { λ _. None };
+    ghost location = { selection_location };
 
-    ghost stands = { λ _ _. ⊤ };
+    ghost stands = { λ selection. StandsAt (selection_location selection) };
 
     ghost laws = { json_laws selection_laws };
 

@@ -1,5 +1,6 @@
 //! Strings in AST JSON: nodes of the kind `StringValue`, as descriptions are.
-ghost use Rattle.std.specs.Prelude.{◌≡◌, ℕ, List, IfOk, IfErr, encode_utf8_all};
+ghost use Rattle.std.specs.Prelude.{◌≡◌, ℕ, List, IfOk, IfErr, None, Some, codes, encode_utf8_all, if◌then◌else◌, true};
+ghost use Rattle.serde_json.specs.Data.{boolean};
 ghost use Rattle.serde_json.specs.View.{view};
 ghost use Rattle.graphql_base.specs.Node.{IsNodeStrAt, node_str_location};
 ghost use Rattle.graphql_text.specs.trees.Leaves.{description_tree};
@@ -9,7 +10,7 @@ ghost use Rattle.graphql_ast_json.specs.code.Errors.{IsMemory};
 ghost use Rattle.graphql_ast_json.specs.code.NodeReading.{IsReadAs, IsStringOf, StandsAt, node_json};
 ghost use Rattle.graphql_ast_json.specs.declared.read.Unknown.{Unknown};
 ghost use Rattle.graphql_ast_json.specs.lemmas.Leaves.{json_laws, string_laws};
-ghost use Rattle.graphql_ast_json.specs.nodes.Nodes.{IsBoolean, IsLocated, IsStringValue, OptionalMember};
+ghost use Rattle.graphql_ast_json.specs.nodes.Nodes.{IsBoolean, IsLocated, IsStringValue, OptionalMember, member_of};
 
 use crate::ast_json::AstJson;
 use crate::error::{AstJsonError, JsonType};
@@ -17,6 +18,7 @@ use crate::read::{NodeReader, member};
 use crate::write::NodeWriter;
 use graphql_base::node::NodeStr;
 use graphql_base::span::SourceSpan;
+use graphql_text::writers::can_be_block;
 use serde_json::Value as Json;
 use std::alloc::{AllocError, Global};
 
@@ -55,14 +57,26 @@ fn text_at(alloc: Global, location: Option<SourceSpan>, text: &str) -> Result<No
     }
 }
 
-/// The node of a string of these characters.
-pub(crate) fn write_string(mut node: NodeWriter, text: &str) -> Result<Json, AllocError>
+/// Whether the default layout prints the value of this text, which a node is, as a block string.
+pub(crate) fn is_block_value(node: &NodeWriter, text: &str) -> bool {
+    !node.is_on_one_line() && text.as_bytes().contains(&b'\n') && can_be_block(text)
+}
+
+/// The node of a string of these characters, which tells `block` where it is one.
+pub(crate) fn write_string(
+    mut node: NodeWriter,
+    text: &str,
+    is_block: bool,
+) -> Result<Json, AllocError>
     ensures ok { IfOk result (λ json. (unknown : Unknown) (string : StringText)
         → encode_utf8_all string.text ≡ text.now → IsStringValue unknown string (view json)) }
+    ensures block { IfOk result (λ json. member_of (codes "block") (view json)
+        ≡ (if is_block then Some (boolean true) else None)) }
     ensures stands { IfOk result (λ json. StandsAt (place_of node) (view json)) }
 {
     node.begin("StringValue")?;
     node.put_text("value", text)?;
+    node.put_flag("block", is_block)?;
     Ok(node.into_json())
 }
 
@@ -86,7 +100,13 @@ impl AstJson for NodeStr {
         Ok(text_at(node.alloc, location, text)?)
     }
 
+    /// The text tells `block` exactly where the default layout prints the description as a block string.
     fn to_ast_json(&self, alloc: Global) -> Result<Json, AllocError> {
-        write_string(NodeWriter::new(alloc, self.location()), self.as_str())
+        let text = self.as_str();
+        write_string(
+            NodeWriter::new(alloc, self.location()),
+            text,
+            can_be_block(text),
+        )
     }
 }

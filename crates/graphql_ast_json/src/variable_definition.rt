@@ -48,7 +48,7 @@ impl AstNode for VariableDefinition {
         node.put_optional::<NodeStr>("description", &self.description)?;
         node.put::<VariableForm>("variable", &self.name)?;
         node.put::<Node<Type>>("type", &self.ty)?;
-        node.put_optional::<Node<Value>>("defaultValue", &self.default_value)?;
+        node.put_default_value(&self.default_value)?;
         node.put_directives(&self.directives)?;
         Ok(node.into_json())
     }

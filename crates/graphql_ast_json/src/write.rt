@@ -1,21 +1,26 @@
 //! Nodes are written: objects with a kind, perhaps a location, and members.
-ghost use Rattle.std.specs.Prelude.{◌≡◌, ◌∷◌, [], IfOk, IsSomeAnd, OnErr, OnOk, Some, codes, false, map, option_map};
+ghost use Rattle.std.specs.Prelude.{◌≡◌, ◌∷◌, [], IfOk, IsSomeAnd, OnErr, OnOk, None, Some, codes, false, if◌then◌else◌, map, option_map, true};
 ghost use Rattle.serde_json.specs.Data.{boolean, object, string, put as with_member};
 ghost use Rattle.serde_json.specs.Find.{as_array, get};
 ghost use Rattle.serde_json.specs.View.{view};
+ghost use Rattle.graphql_base.specs.Node.{node_value};
 ghost use Rattle.graphql_text.specs.grammar.Forms.{is_one_of};
 ghost use Rattle.graphql_values.specs.trees.DirectiveTrees.{directive_trees};
+ghost use Rattle.graphql_values.specs.trees.ValueTrees.{value_tree};
 ghost use Rattle.graphql_ast_json.specs.code.Drafts.{IsArrayOf, IsBegun, IsGiven, IsLocationJson, beginning, members_so_far, place_of, put_optional, written};
 ghost use Rattle.graphql_ast_json.specs.code.NodeReading.{IsTextNode, StandsAt};
 ghost use Rattle.graphql_ast_json.specs.declared.read.Unknown.{Unknown};
 ghost use Rattle.graphql_ast_json.specs.kinds.DirectiveJson.{IsDirective};
+ghost use Rattle.graphql_ast_json.specs.kinds.ValueJson.{IsValue};
 ghost use Rattle.graphql_ast_json.specs.nodes.Nodes.{Each, IsNode, IsOptional};
 
-use crate::form::Form;
+use crate::ast_json::AstNode;
+use crate::form::{Form, OnOneLine};
 use graphql_base::node::Node;
 use graphql_base::span::SourceSpan;
 use graphql_values::directive::Directive;
 use graphql_values::directive_list::DirectiveList;
+use graphql_values::value::Value;
 use serde_json::{Map, Value as Json, json, push, put};
 use std::alloc::{AllocError, Global};
 
@@ -25,6 +30,8 @@ pub struct NodeWriter {
     alloc: Global,
     location: Option<SourceSpan>,
     members: Map<String, Json>,
+    /// Whether the default layout prints the node on one line, so that no string in it is a block string.
+    is_on_one_line: bool,
 }
 
 /// A stretch of a source text, if there is one, by its offsets.
@@ -62,7 +69,33 @@ impl NodeWriter {
             alloc,
             location,
             members: Map::new(alloc),
+            is_on_one_line: false,
         }
+    }
+
+    /// The same of a node that the default layout prints on one line.
+    pub(crate) fn on_one_line(alloc: Global, location: Option<SourceSpan>) -> NodeWriter
+        ensures { place_of result ≡ location }
+    {
+        NodeWriter {
+            is_on_one_line: true,
+            ..NodeWriter::new(alloc, location)
+        }
+    }
+
+    /// The same of a node within this one, which is printed on one line if this one is.
+    pub(crate) fn inner(&self, location: Option<SourceSpan>) -> NodeWriter
+        ensures { place_of result ≡ location }
+    {
+        NodeWriter {
+            is_on_one_line: self.is_on_one_line,
+            ..NodeWriter::new(self.alloc, location)
+        }
+    }
+
+    /// Whether the default layout prints the node on one line.
+    pub(crate) fn is_on_one_line(&self) -> bool {
+        self.is_on_one_line
     }
 
     /// The allocator that the node is written with.
@@ -151,6 +184,42 @@ impl NodeWriter {
         self.put_json(name, json)
     }
 
+    /// The same of nodes that the default layout prints over lines, or on one line.
+    pub(crate) fn put_parameters<T: AstNode + Drop>(
+        &mut self,
+        name: &str,
+        parameters: &[Node<T>],
+        over_lines: bool,
+    ) -> Result<(), AllocError>
+        ensures { OnOk result
+            (IsGiven name.now (λ json. (unknown : Unknown) → IsArrayOf (Each (T.is_node unknown)
+            (map (λ node. T.tree (node_value node)) parameters.now)) json)
+            (members_so_far self.old) (members_so_far self.new)) }
+    {
+        if over_lines {
+            self.put_list::<Node<T>>(name, parameters)
+        } else {
+            self.put_list::<OnOneLine<T>>(name, parameters)
+        }
+    }
+
+    /// Gives the node a member `defaultValue`, if there is such a value, which is printed on one line if the node is.
+    pub(crate) fn put_default_value(
+        &mut self,
+        value: &Option<Node<Value>>,
+    ) -> Result<(), AllocError>
+        ensures { OnOk result
+            (IsGiven (codes "defaultValue") (λ json. (unknown : Unknown) → IsOptional
+            (IsValue unknown) (option_map (λ node. value_tree (node_value node)) value.now) json)
+            (members_so_far self.old) (members_so_far self.new)) }
+    {
+        if self.is_on_one_line {
+            self.put_optional::<OnOneLine<Value>>("defaultValue", value)
+        } else {
+            self.put_optional::<Node<Value>>("defaultValue", value)
+        }
+    }
+
     /// Gives the node a member `directives`.
     pub(crate) fn put_directives(&mut self, list: &DirectiveList) -> Result<(), AllocError>
         ensures { OnOk result
@@ -176,6 +245,19 @@ impl NodeWriter {
             (members_so_far self.old) (members_so_far self.new)) }
     {
         self.put_json(name, Json::Bool(is_so))
+    }
+
+    /// Gives the node a member that is true, if it is so.
+    pub(crate) fn put_flag(&mut self, name: &str, is_so: bool) -> Result<(), AllocError>
+        ensures { OnOk result
+            (IsGiven name.now (λ json. json ≡ (if is_so then Some (boolean true) else None))
+            (members_so_far self.old) (members_so_far self.new)) }
+    {
+        if is_so {
+            self.put_boolean(name, true)
+        } else {
+            Ok(())
+        }
     }
 
     /// The node as it stands.

@@ -1,12 +1,13 @@
 //! Selections and their sets from AST JSON.
 ghost use Rattle.std.specs.Prelude.{IfOk, IfErr};
 ghost use Rattle.serde_json.specs.View.{items_view};
+ghost use Rattle.graphql_executable.specs.code.SelectionQueries.{selection_location};
 ghost use Rattle.graphql_executable.specs.trees.ExecutableTrees.{field_tree, inline_fragment_tree, selection_tree, selection_trees};
 ghost use Rattle.graphql_executable.specs.kinds.Fields.{FieldTree};
 ghost use Rattle.graphql_executable.specs.kinds.InlineFragments.{InlineFragmentTree};
 ghost use Rattle.graphql_executable.specs.kinds.Selections.{SelectionTree, SelectionTrees};
 ghost use Rattle.graphql_ast_json.specs.code.Errors.{IsMemory};
-ghost use Rattle.graphql_ast_json.specs.code.NodeReading.{IsOfNone, IsReadAs, node_json};
+ghost use Rattle.graphql_ast_json.specs.code.NodeReading.{IsInFile, IsOfNone, IsReadAs, StandsAt, node_json};
 ghost use Rattle.graphql_ast_json.specs.kinds.ExecutableJson.{AreSelections, HasOptionalSetOf, HasSetOf, IsField, IsInlineFragment, IsSelection, IsSelectionSet};
 ghost use Rattle.graphql_ast_json.specs.nodes.Nodes.{IsLocated};
 
@@ -24,6 +25,10 @@ use serde_json::Value as Json;
 pub(crate) fn read_selection(node: NodeReader<'_>) -> Result<Selection, AstJsonError>
     ensures ok { IfOk result (λ selection.
         IsReadAs IsSelection node.entry (selection_tree selection)) }
+    ensures stands { IfOk result (λ selection.
+        StandsAt (selection_location selection) (node_json node.entry)) }
+    ensures file { IfOk result (λ selection.
+        IsInFile node.entry.source (selection_location selection)) }
     ensures err { IfErr result (λ error. ¬ IsMemory error → IsOfNone IsSelection node.entry) }
 {
     let location = node.location()?;

@@ -3,6 +3,7 @@ ghost use Rattle.std.specs.Prelude.{IfOk, IsSomeAnd, MatchOption, option_map};
 ghost use Rattle.serde_json.specs.Data.{no_items};
 ghost use Rattle.serde_json.specs.Find.{as_array};
 ghost use Rattle.serde_json.specs.View.{view};
+ghost use Rattle.graphql_executable.specs.code.SelectionQueries.{selection_location};
 ghost use Rattle.graphql_executable.specs.trees.ExecutableTrees.{field_tree, inline_fragment_tree, selection_tree, selection_trees};
 ghost use Rattle.graphql_ast_json.specs.code.Drafts.{place_of};
 ghost use Rattle.graphql_ast_json.specs.code.NodeReading.{StandsAt};
@@ -21,8 +22,9 @@ use std::alloc::{AllocError, Global};
 /// A selection, at its location if it has one. `AllocError` where memory is refused.
 #[cycle(selection)]
 pub(crate) fn write_selection(alloc: Global, selection: &Selection) -> Result<Json, AllocError>
-    ensures { IfOk result (λ json. (unknown : Unknown)
+    ensures ok { IfOk result (λ json. (unknown : Unknown)
         → IsSelection unknown (selection_tree selection.now) (view json)) }
+    ensures stands { IfOk result (λ json. StandsAt (selection_location selection.now) (view json)) }
 {
     match selection {
         Selection::Field(field) => write_field(NodeWriter::new(alloc, field.location()), field),

@@ -12,7 +12,7 @@ ghost use Rattle.graphql_ast_json.specs.kinds.ValueJson.{AreObjectFields, AreVal
 ghost use Rattle.graphql_ast_json.specs.nodes.Nodes.{IsName, IsNode, Member};
 
 use crate::ast_json::AstJson;
-use crate::string::write_string;
+use crate::string::{is_block_value, write_string};
 use crate::write::NodeWriter;
 use graphql_ast::ast::Value;
 use graphql_ast::name::Name;
@@ -29,17 +29,21 @@ pub(crate) fn write_value(node: NodeWriter, value: &Value) -> Result<Json, Alloc
 {
     match value {
         Value::List(items) => {
-            let values = write_items(node.allocator(), items.as_slice())?;
+            let values = write_items(&node, items.as_slice())?;
             node.with_member("ListValue", "values", values)
         }
         Value::Object(fields) => {
-            let fields = write_fields(node.allocator(), fields.as_slice())?;
+            let fields = write_fields(&node, fields.as_slice())?;
             node.with_member("ObjectValue", "fields", fields)
         }
         Value::Null => node.with_none("NullValue"),
         Value::Enum(name) => node.with_text("EnumValue", name.as_str()),
         Value::Variable(name) => write_variable(node, name),
-        Value::String(text) => write_string(node, text.as_str()),
+        Value::String(text) => {
+            let characters = text.as_str();
+            let is_block = is_block_value(&node, characters);
+            write_string(node, characters, is_block)
+        }
         Value::Float(float) => node.with_text("FloatValue", float.as_str()),
         Value::Int(int) => node.with_text("IntValue", int.as_str()),
         Value::Boolean(is_true) => {
@@ -59,27 +63,27 @@ pub(crate) fn write_variable(node: NodeWriter, name: &Name) -> Result<Json, Allo
 }
 
 #[cycle(value)]
-fn write_items(alloc: Global, items: &[Node<Value>]) -> Result<Json, AllocError>
+fn write_items(node: &NodeWriter, items: &[Node<Value>]) -> Result<Json, AllocError>
     ensures { IfOk result (λ json. (unknown : Unknown)
         → IsSomeAnd (as_array (view json)) (AreValues unknown (value_trees items.now))) }
 {
-    let mut values = Vec::new(alloc);
+    let mut values = Vec::new(node.allocator());
     for item in items {
-        let value = write_value(NodeWriter::new(alloc, item.location()), item)?;
+        let value = write_value(node.inner(item.location()), item)?;
         push(&mut values, value)?;
     }
     Ok(Json::Array(values))
 }
 
 #[cycle(value)]
-fn write_fields(alloc: Global, fields: &[(Name, Node<Value>)]) -> Result<Json, AllocError>
+fn write_fields(node: &NodeWriter, fields: &[(Name, Node<Value>)]) -> Result<Json, AllocError>
     ensures { IfOk result (λ json. (unknown : Unknown) → IsSomeAnd (as_array (view json))
         (AreObjectFields unknown (object_field_trees fields.now))) }
 {
-    let mut list = Vec::new(alloc);
+    let mut list = Vec::new(node.allocator());
     for field in fields {
-        let value = write_value(NodeWriter::new(alloc, field.1.location()), &field.1)?;
-        let json = write_field(alloc, &field.0, value)?;
+        let value = write_value(node.inner(field.1.location()), &field.1)?;
+        let json = write_field(node.allocator(), &field.0, value)?;
         push(&mut list, json)?;
     }
     Ok(Json::Array(list))

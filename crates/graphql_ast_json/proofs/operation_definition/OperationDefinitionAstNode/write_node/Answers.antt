@@ -8,14 +8,14 @@ returns c =
     let w =
     ended c.into_json.ensures (gained (gained (gained (gained (gained (gained
     (begun c.in_ok-begin.ensures) c.in_ok-put_optional.ensures) c.in_ok-put_text.ensures) c.in_ok-put_optional-2.ensures)
-    c.in_ok-put_list.ensures) c.in_ok-put_directives.ensures) c.in_ok-put.ensures) in record {
+    c.in_ok-put_parameters.ensures) c.in_ok-put_directives.ensures) c.in_ok-put.ensures) in record {
       ok = λ unknown. (
         is_node unknown (codes "description" ∷ operation_definition_members) w refl refl refl refl,
         given_member w c.in_ok-put_optional.ensures refl refl unknown,
         (
           rw (sym c.name.ensures) (given_member w c.in_ok-put_text.ensures refl refl),
           given_member w c.in_ok-put_optional-2.ensures refl refl unknown,
-          rw (sym c.deref.ensures.value) (given_member w c.in_ok-put_list.ensures refl refl unknown).1,
+          rw (sym c.deref-2.ensures.value) (given_member w c.in_ok-put_parameters.ensures refl refl unknown).1,
           (given_member w c.in_ok-put_directives.ensures refl refl unknown).1,
           given_member w c.in_ok-put.ensures refl refl unknown,
         ),

@@ -20,7 +20,7 @@ write_selections-loop-selection-preserved t c = λ unknown.
     subst₂ (λ taken jsons. AreSelections unknown (selection_trees taken) (items_view jsons))
     (sym (take_next selections i selection c.loop-selection-test.true c.selection-item.is)) (sym c.in_ok-push.ensures.ok)
     (selections_more unknown (take i selections) c.loop-selection.list.items selection c.in_ok-json.json (c.loop-selection.invariant unknown)
-    (c.in_ok-json.ensures unknown))
+    (c.in_ok-json.ensures.ok unknown))
 
 pub write_selections-returns : goal.write_selections-returns
 write_selections-returns t c = λ unknown.

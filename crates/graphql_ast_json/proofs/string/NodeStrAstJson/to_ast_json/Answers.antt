@@ -11,7 +11,7 @@ returns-clause-ok c =
     let text = c.args.self.now in
     let bytes = node_str_text text in
     one_then c.write_string.result c.write_string.ensures.ok
-    (λ json is unknown. is unknown (description_tree text) (encodes-chars bytes (IsUtf8-had bytes text.valid) ∙ sym c.as_str.ensures))
+    (λ json is unknown. is unknown (description_tree text) (encodes-chars bytes (IsUtf8-had bytes text.valid) ∙ sym c.as_str-text.ensures))
 
 pub returns-clause-stands : goal.returns-clause-stands
 returns-clause-stands c =

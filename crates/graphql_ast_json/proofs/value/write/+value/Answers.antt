@@ -97,7 +97,7 @@ pub write_value-returns-in-String-clause-ok : goal.write_value-returns-in-String
 write_value-returns-in-String-clause-ok t c =
     let text = c.in-String.text in
     let bytes = string_bytes text in
-    let same = encodes-chars bytes (IsUtf8-string_bytes text) ∙ sym c.as_str-in-String.ensures.value in
+    let same = encodes-chars bytes (IsUtf8-string_bytes text) ∙ sym c.as_str-characters.ensures.value in
     one_then c.write_string.result c.write_string.ensures.ok (λ json is unknown.
     subst (λ tree. IsValue unknown tree (view json)) (sym (ap value_tree c.in-String.is ∙ string_value_tree text)) (is unknown (string_tree text) same))
 

@@ -1,0 +1,100 @@
+//! The tree that some JSON is of.
+ghost use Rattle.std.specs.Prelude.{◌≡◌, IfErr, IfOk, Some};
+ghost use Rattle.serde_json.specs.Read.{read};
+ghost use Rattle.serde_json.specs.View.{view};
+ghost use Rattle.graphql_ast_calls.specs.Answers.{IsJsonOf, reading};
+ghost use Rattle.graphql_ast_calls.specs.Refusals.{IsDataRefusal, IsNoTreeOrMemory, IsNotJsonOrMemory, IsRefusal, TellsRefusal};
+
+use crate::message::{put_message, put_out_of_memory};
+use crate::status::Status;
+use graphql_ast::span::FileId;
+use graphql_ast_json::{AstJson, NodeReader, Unknown};
+use serde_json::Value as Json;
+use std::alloc::{AllocError, Global};
+
+/// Why no tree was read, with a message.
+#[derive(Drop)]
+pub(crate) enum Refusal {
+    NotJson(String),
+    NoTree(String),
+    Memory,
+}
+
+/// That the bytes are no text, or no JSON.
+fn not_json(message: Result<String, AllocError>) -> Refusal
+    ensures { IsNotJsonOrMemory result }
+{
+    match message {
+        Ok(message) => Refusal::NotJson(message),
+        Err(_) => Refusal::Memory,
+    }
+}
+
+/// That the JSON is of no such tree.
+fn no_tree(message: Result<String, AllocError>) -> Refusal
+    ensures { IsNoTreeOrMemory result }
+{
+    match message {
+        Ok(message) => Refusal::NoTree(message),
+        Err(_) => Refusal::Memory,
+    }
+}
+
+/// The JSON that some bytes are.
+fn read_data(alloc: Global, json: &[u8]) -> Result<Json, Refusal>
+    ensures ok { IfOk result (λ found. read json.now ≡ Some (view found)) }
+    ensures err { IfErr result (IsDataRefusal json.now) }
+{
+    match Json::from_slice(alloc, json) {
+        Ok(json) => Ok(json),
+        Err(error) if error.is_memory() => Err(Refusal::Memory),
+        Err(error) => Err(not_json(format!(in alloc; "not JSON: {error}"))),
+    }
+}
+
+/// The tree that some JSON is of.
+pub(crate) fn read_tree<T: AstJson>(
+    alloc: Global,
+    json: &[u8],
+    pass_over: bool,
+) -> Result<T, Refusal>
+    ensures ok { IfOk result (λ tree.
+        IsJsonOf (T.is_json_of (reading pass_over)) json.now (T.tree tree)) }
+    ensures err { IfErr result (IsRefusal (T.is_json_of (reading pass_over)) json.now) }
+{
+    let json = read_data(alloc, json)?;
+    let node = NodeReader {
+        alloc,
+        json: &json,
+        source: FileId::new(1),
+        unknown: if pass_over {
+            Unknown::PassOver
+        } else {
+            Unknown::Refuse
+        },
+    };
+    match T::read_ast_json(node) {
+        Ok(tree) => Ok(tree),
+        Err(error) if error.is_memory() => Err(Refusal::Memory),
+        Err(error) => Err(no_tree(format!(in alloc; "{error}"))),
+    }
+}
+
+impl Refusal {
+    /// Puts the message into the caller's buffer.
+    pub(crate) fn tell(self, out: &mut [u8], needed: &mut usize) -> Status
+        ensures { TellsRefusal self out.old out.new needed.new result }
+    {
+        match self {
+            Refusal::NotJson(message) => {
+                put_message(message.as_str(), out, needed);
+                Status::NotJson
+            }
+            Refusal::NoTree(message) => {
+                put_message(message.as_str(), out, needed);
+                Status::NoTree
+            }
+            Refusal::Memory => put_out_of_memory(out, needed),
+        }
+    }
+}

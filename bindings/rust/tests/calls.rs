@@ -1,0 +1,112 @@
+//! Tests of the safe functions. `GRAPHQL_AST_CASES` names the file of cases, which ../cases.py writes.
+
+use graphql_ast::{check, normalize, print, print_value, version, Error, Layout, Unknown};
+
+const QUERY: &str = r#"{"kind":"Document","definitions":[{"kind":"OperationDefinition","operation":"query","selectionSet":{"kind":"SelectionSet","selections":[{"kind":"Field","name":{"kind":"Name","value":"a"}}]}}]}"#;
+const EMPTY: &str = r#"{"kind":"Document","definitions":[]}"#;
+
+struct Case {
+    numbers: Vec<usize>,
+    json: String,
+    prefix: String,
+    text: String,
+}
+
+/// The cases: a line of eight numbers, and then three texts whose lengths they tell.
+fn cases() -> Vec<Case> {
+    let bytes = std::fs::read(std::env::var("GRAPHQL_AST_CASES").unwrap()).unwrap();
+    let mut rest = &bytes[..];
+    let mut found = Vec::new();
+    while !rest.is_empty() {
+        let end = rest.iter().position(|byte| *byte == b'\n').unwrap();
+        let numbers: Vec<usize> = std::str::from_utf8(&rest[..end]).unwrap().split(' ').map(|it| it.parse().unwrap()).collect();
+        rest = &rest[end + 1..];
+        let mut text = |length| {
+            let (front, behind) = rest.split_at(length);
+            rest = behind;
+            String::from_utf8(front.to_vec()).unwrap()
+        };
+        let (json, prefix, wanted) = (text(numbers[4]), text(numbers[5]), text(numbers[6]));
+        assert_eq!(text(1), "\n");
+        found.push(Case { numbers, json, prefix, text: wanted });
+    }
+    assert!(found.len() > 800);
+    found
+}
+
+fn status(answer: &Result<String, Error>) -> usize {
+    match answer {
+        Ok(_) => 0,
+        Err(Error::NotJson(_)) => 2,
+        Err(Error::NoTree(_)) => 3,
+        Err(Error::IllFormed(_)) => 4,
+        Err(Error::LevelOverflow(_)) => 5,
+        Err(Error::OutOfMemory(_)) => 6,
+        Err(_) => 7,
+    }
+}
+
+fn check_cases(cases: &[Case]) {
+    for case in cases {
+        let layout = match case.numbers[2] {
+            0 if case.numbers[1] != 5 => Layout::OneLine,
+            0 => continue, // a level that overflows on one line, which a layout cannot ask for
+            _ => Layout::Lines { prefix: &case.prefix, level: case.numbers[7] },
+        };
+        let unknown = if case.numbers[3] == 0 { Unknown::Refuse } else { Unknown::PassOver };
+        let answer = (if case.numbers[0] == 0 { print } else { print_value })(&case.json, layout, unknown);
+        assert_eq!(status(&answer), case.numbers[1], "{answer:?} of {}", case.json);
+        if !case.text.is_empty() {
+            assert_eq!(answer.as_deref().unwrap_or_else(Error::message), case.text, "of {}", case.json);
+        }
+    }
+}
+
+#[test]
+fn stored_cases_are_answered() {
+    check_cases(&cases());
+}
+
+#[test]
+fn two_threads_share_nothing() {
+    let cases = cases();
+    std::thread::scope(|scope| {
+        for _ in 0..2 {
+            scope.spawn(|| check_cases(&cases));
+        }
+    });
+}
+
+#[test]
+fn each_status_has_an_error() {
+    assert_eq!(print(QUERY, Layout::default(), Unknown::Refuse).unwrap(), "{\n  a\n}\n");
+    assert_eq!(print(QUERY, Layout::OneLine, Unknown::Refuse).unwrap(), "{ a }");
+    assert!(matches!(print("", Layout::OneLine, Unknown::Refuse), Err(Error::NotJson(_))));
+    assert!(matches!(print("\0", Layout::OneLine, Unknown::Refuse), Err(Error::NotJson(_))));
+    assert_eq!(
+        print("7", Layout::OneLine, Unknown::Refuse).unwrap_err().to_string(),
+        "at the root: found a number where an object was wanted"
+    );
+    assert_eq!(print(EMPTY, Layout::OneLine, Unknown::Refuse), Err(Error::IllFormed("at `definitions`: the document has no definition".into())));
+    let deep = Layout::Lines { prefix: "", level: usize::MAX };
+    assert!(matches!(print(QUERY, deep, Unknown::Refuse), Err(Error::LevelOverflow(_))));
+    let wrong = Layout::Lines { prefix: "\u{a0}", level: 0 };
+    assert!(matches!(print(QUERY, wrong, Unknown::Refuse), Err(Error::WrongPrefix(_))));
+    assert_eq!(check(QUERY, Unknown::Refuse), Ok(()));
+    assert!(matches!(check(EMPTY, Unknown::Refuse), Err(Error::IllFormed(_))));
+    let normal = normalize(QUERY, Unknown::Refuse).unwrap();
+    assert_eq!(normalize(&normal, Unknown::Refuse).unwrap(), normal);
+    assert_eq!(version(), 1);
+}
+
+#[test]
+fn long_texts_are_answered() {
+    let prefix = " ".repeat(1 << 20);
+    let text = print(QUERY, Layout::Lines { prefix: &prefix, level: 1 }, Unknown::Refuse).unwrap();
+    assert_eq!(text, format!("{prefix}query {{\n{prefix}{prefix}a\n{prefix}}}\n"));
+    let item = r#"{"kind":"ScalarTypeDefinition","name":{"kind":"Name","value":"Abcdefg"}}"#;
+    let count = 10_000_000 / item.len() + 1;
+    let json = format!(r#"{{"kind":"Document","definitions":[{}]}}"#, vec![item; count].join(","));
+    let text = print(&json, Layout::default(), Unknown::Refuse).unwrap();
+    assert_eq!(text, "scalar Abcdefg\n".repeat(count).replace("g\ns", "g\n\ns"));
+}

@@ -37,10 +37,7 @@ pub extern "C" fn graphql_ast_print_json(
     ensures answer { PrintAnswer document_kind (IsDocument (reading pass_over)) json.now
         (mode_of broken prefix.now) level out.old out.new needed.new (status_of result) }
 {
-    print_json(
-        alloc, json, broken, prefix, level, pass_over, out, needed,
-    )
-    .code()
+    print_json(alloc, json, broken, prefix, level, pass_over, out, needed).code()
 }
 
 /// A value in AST JSON as GraphQL text: `graphql_ast_calls::print_value_json`.
@@ -64,10 +61,7 @@ pub extern "C" fn graphql_ast_print_value_json(
     ensures answer { PrintAnswer value_kind (IsValue (reading pass_over)) json.now
         (mode_of broken prefix.now) level out.old out.new needed.new (status_of result) }
 {
-    print_value_json(
-        alloc, json, broken, prefix, level, pass_over, out, needed,
-    )
-    .code()
+    print_value_json(alloc, json, broken, prefix, level, pass_over, out, needed).code()
 }
 
 /// Whether some JSON is of a document that is well formed: `graphql_ast_calls::check_json`.

@@ -1,9 +1,8 @@
 -- What of a message stands in a buffer.
-use Rattle.std.proofs.Common.{◌≡◌, ℕ, ◌+◌, ◌-◌, ◌<◌, ◌≤◌, min, IsUtf8, List, ◌++◌, length, take, drop, refl, ap, sym, subst, ◌∙◌, arith}
+use Rattle.std.proofs.Common.{◌≡◌, ℕ, ◌≤◌, min, IsUtf8, List, ◌++◌, length, take, drop, refl, ap, ◌∙◌, arith}
 use Rattle.std.proofs.lemmas.Grind.{common_steps}
 use Rattle.std.proofs.lemmas.Str.{utf8_valid_len_le, utf8_valid_len-IsUtf8}
 use Rattle.std.proofs.Math.Seq.{take-length}
-use Rattle.std.specs.Str.Lossy.{utf8_valid_len}
 use Rattle.graphql_ast_calls.specs.Messages.{HasMessage, fitting, text_front}
 
 pub whole_text : (bytes : List ℕ) → IsUtf8 bytes → text_front bytes ≡ bytes

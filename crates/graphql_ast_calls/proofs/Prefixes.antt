@@ -1,6 +1,5 @@
 -- Prefixes of spaces and tabs: their bytes are their characters.
-use Rattle.std.proofs.Common.{◌≡◌, ℕ, ◌<◌, ◌&&◌, Bool, true, List, [], ◌∷◌, refl, ap, sym, ◌∙◌, arith, IsUtf8, get_or, zero, suc}
-use Rattle.std.proofs.lemmas.Grind.{common_steps}
+use Rattle.std.proofs.Common.{◌≡◌, ℕ, ◌<◌, true, List, [], ◌∷◌, arith, IsUtf8, zero, suc}
 use Rattle.std.proofs.lemmas.Str.{chars-IsAscii, IsUtf8-from_ascii}
 use Rattle.std.specs.Prelude.{chars}
 use Rattle.std.specs.Str.{IsAscii}

@@ -1,10 +1,10 @@
 -- What a print wrote into a buffer.
-use Rattle.std.proofs.Common.{◌≡◌, ℕ, ◌+◌, ◌-◌, ◌^◌, ◌<◌, ◌≤◌, List, ◌++◌, length, take, drop, refl, ap, sym, ◌∙◌, arith}
+use Rattle.std.proofs.Common.{◌≡◌, ℕ, ◌+◌, ◌-◌, ◌^◌, ◌<◌, ◌≤◌, List, ◌++◌, length, drop, ap, sym, ◌∙◌, arith}
 use Rattle.std.proofs.lemmas.Grind.{common_steps}
 use Rattle.std.proofs.lemmas.List.{take-append-drop}
 use Rattle.std.proofs.lemmas.Slice.{drop-put_mid, take-put_mid}
 use borrow.Rule.Slice.PartMut.{put_mid}
-use Rattle.graphql_ast_calls.specs.Buffers.{Stand, WentTo, told_length}
+use Rattle.graphql_ast_calls.specs.Buffers.{WentTo, told_length}
 use Rattle.graphql_ast_calls.specs.Messages.{Holds}
 
 pub went_inside : (a bytes : List ℕ) (n m : ℕ) → m ≡ told_length (n + length bytes) → m ≤ length a → length a < 2 ^ 63 →

@@ -1,5 +1,5 @@
 -- Texts and messages in a caller's buffer.
-use Rattle.std.specs.Prelude.{◌≡◌, ℕ, ◌<◌, List, ◌++◌, IsUtf8, length, take, drop}
+use Rattle.std.specs.Prelude.{◌≡◌, ℕ, List, ◌++◌, IsUtf8, length, take, drop}
 use Rattle.std.specs.Str.Lossy.{utf8_valid_len}
 
 -- The bytes stand at the front of a buffer, all of them, and are so many; behind them nothing has changed.

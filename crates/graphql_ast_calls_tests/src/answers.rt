@@ -117,7 +117,16 @@ fn buffers_that_are_too_short_are_told(rt: HostRuntime) {
     let status = print_value_json(alloc, value, false, b"", 0, false, &mut out, &mut needed);
     assert_eq!(rt; status, Status::Done);
     check_text(&rt, &out, needed, "A");
-    let status = print_value_json(alloc, value, false, b"", 0, false, &mut out[..0], &mut needed);
+    let status = print_value_json(
+        alloc,
+        value,
+        false,
+        b"",
+        0,
+        false,
+        &mut out[..0],
+        &mut needed,
+    );
     assert_eq!(rt; status, Status::TooShort);
     assert_eq!(rt; needed, 1);
 
@@ -128,7 +137,10 @@ fn buffers_that_are_too_short_are_told(rt: HostRuntime) {
     let wrong = "{\"kind\":\"\u{e4}\"}".as_bytes();
     let status = check_json(alloc, wrong, false, &mut out[..28], &mut needed);
     assert_eq!(rt; status, Status::NoTree);
-    assert_eq!(rt; needed, "at `kind`: found the kind `\u{e4}` where Document was wanted".len());
+    assert_eq!(rt;
+        needed,
+        "at `kind`: found the kind `\u{e4}` where Document was wanted".len()
+    );
     check_text(&rt, &out[..27], 27, "at `kind`: found the kind `");
     assert_eq!(rt; out[27], b'#');
 

@@ -1,4 +1,4 @@
-use Rattle.std.proofs.Common.{◌≡◌, ◌-◌, List, ℕ, refl, subst, sym, ◌∙◌}
+use Rattle.std.proofs.Common.{◌-◌, List, ℕ, refl, subst, sym, ◌∙◌}
 use borrow.Rule.Slice.PartMut.{put_mid}
 use Rattle.graphql_ast_calls.specs.Buffers.{WentTo}
 use Rattle.graphql_ast_calls.proofs.Prints.{went_inside}

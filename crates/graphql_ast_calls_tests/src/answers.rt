@@ -5,6 +5,7 @@ use std::alloc::Global;
 use std::process::Abort;
 
 /// A print of a document: how it is asked for, and what it answers.
+#[derive(Drop)]
 struct Print {
     json: &'static str,
     prefix: &'static str,

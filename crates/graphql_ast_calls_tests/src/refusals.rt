@@ -6,7 +6,7 @@ use graphql_ast_calls::{Status, print_json, write_json};
 #[test]
 fn a_call_answers_or_memory_was_refused(rt: HostRuntime) {
     let alloc = rt.alloc();
-    let (mut out, mut needed) = ([b'#'; 400], 0usize);
+    let (mut out, mut needed) = ([b'#'; 1000], 0usize);
     for (json, answer) in [(QUERY, Status::Done), (ILL_FORMED, Status::IllFormed)] {
         let json = json.as_bytes();
         let status = print_json(alloc, json, true, b"  ", 0, false, &mut out, &mut needed);

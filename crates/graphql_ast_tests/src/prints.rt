@@ -21,6 +21,7 @@ fn of_each_variant_and_a_value(rt: HostRuntime) {
     let all = each_variant(alloc).expect(&rt, "memory");
     for definition in &all {
         assert!(&rt; definition.is_well_formed());
+        assert!(&rt; definition.clone().expect(&rt, "memory") == *definition);
     }
     check_line(&rt, alloc, &document(alloc, all), EACH_VARIANT, true);
     let value = value!(in alloc; {min: 0, max: $max, tags: ["new", NEW], other: null});

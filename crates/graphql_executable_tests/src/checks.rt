@@ -45,6 +45,12 @@ pub(crate) fn check_text_or_refused<T: Syntax>(
     }
 }
 
+/// A clone: memory is ample.
+pub(crate) fn check_cloned<T: Clone + PartialEq + Drop>(rt: &impl Abort, original: &T) {
+    let copy = original.clone().expect(rt, "memory");
+    assert!(rt; copy == *original);
+}
+
 /// A clone, where memory may be refused.
 pub(crate) fn check_cloned_or_refused<T: Clone + PartialEq + Drop>(rt: &impl Abort, original: &T) {
     if let Ok(copy) = original.clone() {

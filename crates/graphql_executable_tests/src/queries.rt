@@ -3,8 +3,8 @@ ghost use Rattle.std.specs.Prelude.{OnErr, OnOk};
 ghost use Rattle.graphql_executable.specs.code.SelectionLoans.{IsSelectionWith};
 ghost use Rattle.graphql_executable.specs.code.SelectionQueries.{selection_directives};
 
-use crate::checks::check_line;
-use crate::samples::{a, field, inline_fragment, only, variable};
+use crate::checks::{check_cloned, check_line};
+use crate::samples::{a, field, fragment, inline_fragment, only, operation, variable};
 use graphql_base::name;
 use graphql_base::node::Node;
 use graphql_base::span::{FileId, SourceSpan};
@@ -22,6 +22,7 @@ use graphql_values::operation_type::OperationType;
 use graphql_values::ty;
 use graphql_values::value::Value;
 use std::alloc::{AllocError, Global};
+use std::collections::HashSet;
 use std::process::Abort;
 
 /// The name of the first directive, and how many selections there are.
@@ -215,4 +216,27 @@ fn of_new_trees(rt: HostRuntime) {
     check_line(&rt, alloc, &query, "mutation {}", false);
     let fragment = FragmentDefinition::new(alloc, name!(F), name!(T));
     check_line(&rt, alloc, &fragment, "fragment F on T {}", false);
+}
+
+/// A field without an alias too, and what hash sets hold of fields that differ in locations.
+#[test]
+fn of_clones(rt: HostRuntime) {
+    let alloc = rt.alloc();
+    check_cloned(&rt, &operation(alloc).expect(&rt, "memory"));
+    check_cloned(&rt, &fragment(alloc).expect(&rt, "memory"));
+    check_cloned(&rt, &variable(alloc).expect(&rt, "memory"));
+    check_cloned(&rt, &field(alloc).expect(&rt, "memory"));
+    check_cloned(&rt, &Field::new(alloc, name!(a)));
+    check_cloned(&rt, &FragmentSpread::new(alloc, name!(F)));
+    check_cloned(&rt, &inline_fragment(alloc).expect(&rt, "memory"));
+    for made in [a(alloc), spread(alloc), inline(alloc), inline_node(alloc)] {
+        check_cloned(&rt, &made.expect(&rt, "memory"));
+    }
+    let span = SourceSpan::new(FileId::new(5), 10, 11).expect(&rt, "a span");
+    assert_eq!(&rt; span.len(), 1);
+    let mut seen = HashSet::new(alloc);
+    let placed = Field::new(alloc, name!(a).with_location(span));
+    assert!(&rt; seen.insert(placed).is_ok());
+    assert!(&rt; seen.contains(&Field::new(alloc, name!(a))));
+    assert!(&rt; !seen.contains(&Field::new(alloc, name!(b))));
 }

@@ -2,7 +2,7 @@
 
 ghost use Rattle.std.specs.Prelude.{◌≡◌, Some};
 
-use crate::samples::numbers;
+use crate::samples::items;
 use graphql_text::engine::PrintError;
 use graphql_text::sink::{SinkFault, StreamSink, TextSink, VecSink};
 use graphql_values::value::Value;
@@ -10,7 +10,7 @@ use std::alloc::Global;
 use std::io::{self, Cursor, ErrorKind, Write};
 use std::process::Abort;
 
-const TEXT: &[u8] = b"[1, 2]";
+const TEXT: &[u8] = b"[1, EXAMPLE, true, null]";
 
 /// Takes one byte a call, so many in all, and then faults.
 #[derive(Drop)]
@@ -88,8 +88,12 @@ impl Write for Told {
     }
 }
 
-/// Prints the list, and answers whether all of it was taken, how many faults there were, and the writer.
-fn print_to_writer(list: &Value, alloc: Global, answers: [Answer; 3]) -> (bool, u64, Told) {
+/// Prints the list, and answers whether all of it was taken, how many faults there were, the last error, and the writer.
+fn print_to_writer(
+    list: &Value,
+    alloc: Global,
+    answers: [Answer; 3],
+) -> (bool, u64, Option<ErrorKind>, Told) {
     let mut sink = StreamSink::new(Told {
         answers,
         writes: 0,
@@ -97,7 +101,8 @@ fn print_to_writer(list: &Value, alloc: Global, answers: [Answer; 3]) -> (bool, 
     });
     let is_whole = list.serialize().no_indent().print_to(&mut sink).is_ok();
     let faults = sink.faults();
-    (is_whole, faults, sink.into_inner())
+    let last = sink.last_error().map(|error| error.kind());
+    (is_whole, faults, last, sink.into_inner())
 }
 
 /// Prints the list below its text, and answers whether all of both was taken, and the sink.
@@ -128,8 +133,8 @@ fn print_to_narrow(list: &Value, alloc: Global, room: usize) -> (bool, Narrow) {
 /// The sink of so many bytes: at the first that it has no room for all ends, with one fault.
 #[test]
 fn one_byte_a_call(rt: HostRuntime) {
-    let list = numbers(rt.alloc()).expect(&rt, "memory");
-    for room in 0..8 {
+    let list = items(rt.alloc()).expect(&rt, "memory");
+    for room in 0..=25 {
         let (is_whole, sink) = print_to_narrow(&list, rt.alloc(), room);
         let taken = room.min(TEXT.len());
         check_taken(&rt, is_whole, sink.faults, sink.bytes.as_slice(), taken);
@@ -147,41 +152,92 @@ fn print_to_memory(list: &Value, alloc: Global) -> (bool, u64, Vec<u8>) {
 
 #[test]
 fn sinks_in_memory_take_all(rt: HostRuntime) {
-    let list = numbers(rt.alloc()).expect(&rt, "memory");
+    let list = items(rt.alloc()).expect(&rt, "memory");
     let (is_whole, sink) = print_to_vector(&list, rt.alloc());
     assert!(rt; is_whole);
     assert_eq!(rt;
         (sink.bytes(), sink.faults()),
-        (b"[1, 2][1, 2]".as_slice(), 0)
+        (
+            b"[1, EXAMPLE, true, null][1, EXAMPLE, true, null]".as_slice(),
+            0
+        )
     );
-    assert_eq!(rt; sink.into_bytes().len(), 12);
+    assert_eq!(rt; sink.into_bytes().len(), 48);
     let (is_whole, faults, bytes) = print_to_memory(&list, rt.alloc());
     check_taken(&rt, is_whole, faults, bytes.as_slice(), TEXT.len());
 }
 
-/// What the writer answers, in how many writes all ends, and how many bytes are taken then.
-const AWKWARD: [([Answer; 3], usize, usize); 6] = [
-    ([Answer::Interrupted, Answer::All, Answer::All], 1, 0),
-    ([Answer::None, Answer::All, Answer::All], 1, 0),
-    ([Answer::One, Answer::One, Answer::Interrupted], 3, 2),
-    ([Answer::One, Answer::None, Answer::All], 2, 1),
-    ([Answer::One, Answer::One, Answer::One], 6, 6),
+/// What the writer answers, in how many writes all ends, how many bytes are taken then, and whether it answered an error.
+/// A write that takes nothing is a fault without one.
+const AWKWARD: [([Answer; 3], usize, usize, bool); 6] = [
+    ([Answer::Interrupted, Answer::All, Answer::All], 1, 0, true),
+    ([Answer::None, Answer::All, Answer::All], 1, 0, false),
+    ([Answer::One, Answer::One, Answer::Interrupted], 3, 2, true),
+    ([Answer::One, Answer::None, Answer::All], 2, 1, false),
+    ([Answer::One, Answer::One, Answer::One], 24, 24, false),
     (
         [Answer::All, Answer::Interrupted, Answer::Interrupted],
         1,
-        6,
+        24,
+        false,
     ),
 ];
 
 /// Nothing is tried again.
 #[test]
 fn awkward_writers(rt: HostRuntime) {
-    let list = numbers(rt.alloc()).expect(&rt, "memory");
-    for (answers, writes, taken) in AWKWARD {
-        let (is_whole, faults, writer) = print_to_writer(&list, rt.alloc(), answers);
+    let list = items(rt.alloc()).expect(&rt, "memory");
+    for (answers, writes, taken, has_error) in AWKWARD {
+        let (is_whole, faults, last, writer) = print_to_writer(&list, rt.alloc(), answers);
         assert_eq!(rt; writer.writes, writes);
         check_taken(&rt, is_whole, faults, writer.bytes.as_slice(), taken);
+        let wanted = if has_error {
+            Some(ErrorKind::Interrupted)
+        } else {
+            None
+        };
+        assert_eq!(rt; last, wanted);
     }
+}
+
+/// Takes nothing, and answers one kind of error and then another.
+#[derive(Drop)]
+struct Failing {
+    writes: usize,
+}
+
+impl Write for Failing {
+    fn write(&mut self, _bytes: &[u8]) -> io::Result<usize> {
+        self.writes = self.writes.saturating_add(1);
+        Err(io::Error::from(match self.writes {
+            1 => ErrorKind::Interrupted,
+            2 => ErrorKind::NotFound,
+            _ => ErrorKind::PermissionDenied,
+        }))
+    }
+
+    fn flush(&mut self) -> io::Result<()> {
+        Ok(())
+    }
+}
+
+/// One error after another: the sink has the last.
+#[test]
+fn the_last_error_is_kept(rt: HostRuntime) {
+    let mut sink = StreamSink::new(Failing { writes: 0 });
+    assert!(rt; sink.last_error().is_none());
+    for wanted in [
+        ErrorKind::Interrupted,
+        ErrorKind::NotFound,
+        ErrorKind::PermissionDenied,
+    ] {
+        assert_eq!(rt;
+            Value::Null.serialize().print_to(&mut sink),
+            Err(PrintError::Sink)
+        );
+        assert_eq!(rt; sink.last_error().map(|error| error.kind()), Some(wanted));
+    }
+    assert_eq!(rt; sink.faults(), 3);
 }
 
 /// However many pieces are left.

@@ -1,6 +1,8 @@
 //! Clones where memory is ample.
 use crate::checks::{check_cloned, check_made};
-use crate::samples::{FORMS, nested, value_of};
+use crate::samples::{FORMS, definition, directive, directives, input, nested, number, value_of};
+use graphql_base::name;
+use graphql_values::argument::Argument;
 use graphql_values::literal::{FloatValue, IntValue};
 use graphql_values::ty;
 use graphql_values::types::Type;
@@ -15,6 +17,14 @@ fn type_of(alloc: Global, text: &str) -> Result<Type, AllocError> {
     }
 }
 
+/// `x: 1`
+fn argument(alloc: Global) -> Result<Argument, AllocError> {
+    Ok(Argument {
+        name: name!(x),
+        value: number(alloc, 1)?,
+    })
+}
+
 #[test]
 fn of_trees_and_prints(rt: HostRuntime) {
     for form in FORMS {
@@ -27,6 +37,21 @@ fn of_trees_and_prints(rt: HostRuntime) {
     check_cloned(&rt, &int);
     let float = FloatValue::new_parsed(rt.alloc(), "1.50").expect(&rt, "memory");
     check_cloned(&rt, &float);
+    let long = "-100000000000000000000000000002";
+    check_cloned(
+        &rt,
+        &IntValue::new_parsed(rt.alloc(), long).expect(&rt, "memory"),
+    );
+    let long = "1.50000000000000000000000000002";
+    check_cloned(
+        &rt,
+        &FloatValue::new_parsed(rt.alloc(), long).expect(&rt, "memory"),
+    );
+    check_cloned(&rt, &argument(rt.alloc()).expect(&rt, "memory"));
+    check_cloned(&rt, &directive(rt.alloc()).expect(&rt, "memory"));
+    check_cloned(&rt, &directives(rt.alloc()).expect(&rt, "memory"));
+    check_cloned(&rt, &input(rt.alloc()).expect(&rt, "memory"));
+    check_cloned(&rt, &definition(rt.alloc()).expect(&rt, "memory"));
     let value = nested(rt.alloc()).expect(&rt, "memory");
     let print = value.serialize().indent_prefix("-").initial_indent_level(1);
     let copy = print.clone().expect(&rt, "memory");

@@ -231,6 +231,7 @@ fn the_last_error_is_kept(rt: HostRuntime) {
         ErrorKind::NotFound,
         ErrorKind::PermissionDenied,
     ] {
+        assert!(rt; sink.faults() < 3);
         assert_eq!(rt;
             Value::Null.serialize().print_to(&mut sink),
             Err(PrintError::Sink)

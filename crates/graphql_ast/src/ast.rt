@@ -153,11 +153,11 @@ macro_rules! value {
     (@list $alloc:expr; [$($items:tt)*]) => {
         $crate::value!(in $alloc; [ $($items)* ])
     };
-    (@list $alloc:expr; [$($items:tt)*] $literal:literal $(, $($rest:tt)*)?) => {
-        $crate::value!(@list $alloc; [$($items)* ($literal),] $($($rest)*)?)
-    };
     (@list $alloc:expr; [$($items:tt)*] $item:tt $(, $($rest:tt)*)?) => {
         $crate::value!(@list $alloc; [$($items)* $item,] $($($rest)*)?)
+    };
+    (@list $alloc:expr; [$($items:tt)*] $literal:literal $(, $($rest:tt)*)?) => {
+        $crate::value!(@list $alloc; [$($items)* ($literal),] $($($rest)*)?)
     };
     (@list $alloc:expr; [$($items:tt)*] $dollar:tt $name:ident $(, $($rest:tt)*)?) => {
         $crate::value!(@list $alloc; [$($items)* ($dollar $name),] $($($rest)*)?)
@@ -165,11 +165,11 @@ macro_rules! value {
     (@object $alloc:expr; [$($fields:tt)*]) => {
         $crate::value!(in $alloc; { $($fields)* })
     };
-    (@object $alloc:expr; [$($fields:tt)*] $key:ident : $literal:literal $(, $($rest:tt)*)?) => {
-        $crate::value!(@object $alloc; [$($fields)* $key: ($literal),] $($($rest)*)?)
-    };
     (@object $alloc:expr; [$($fields:tt)*] $key:ident : $value:tt $(, $($rest:tt)*)?) => {
         $crate::value!(@object $alloc; [$($fields)* $key: $value,] $($($rest)*)?)
+    };
+    (@object $alloc:expr; [$($fields:tt)*] $key:ident : $literal:literal $(, $($rest:tt)*)?) => {
+        $crate::value!(@object $alloc; [$($fields)* $key: ($literal),] $($($rest)*)?)
     };
     (@object $alloc:expr; [$($fields:tt)*] $key:ident : $dollar:tt $name:ident $(, $($rest:tt)*)?) => {
         $crate::value!(@object $alloc; [$($fields)* $key: ($dollar $name),] $($($rest)*)?)

@@ -37,6 +37,8 @@ fn as_graphql_writes_them(rt: HostRuntime) {
         (value!(in alloc; []), "[]"),
         (value!(in alloc; [1, A, [true],]), "[1, A, [true]]"),
         (value!(in alloc; [-1, $a, {b: $c}]), "[-1, $a, {b: $c}]"),
+        (value!(in alloc; [true, $a, -1, 2]), "[true, $a, -1, 2]"),
+        (value!(in alloc; {a: $a, b: false}), "{a: $a, b: false}"),
         (value!(in alloc; {}), "{}"),
         (
             value!(in alloc; {min: 0, max: $max, tags: ["new", NEW], other: null}),

@@ -47,12 +47,13 @@ pub record DefinitionTree : Type 0 where
   pub name : DefinitionName
   pub tree : (kind_named name).Tree
 
--- Its grammar, its layout, its nesting and its side conditions are those of its kind.
+-- Its grammar, its layout, its nesting, its side conditions and its flaws are those of its kind.
 abbrev pub definition_kind : Kind
 definition_kind = record {
   Tree = DefinitionTree;
   form = λ definition. (kind_named definition.name).form definition.tree;
   obeys = λ definition. (kind_named definition.name).obeys definition.tree;
+  flaws = λ definition. (kind_named definition.name).flaws definition.tree;
   shape = λ broken front definition. (kind_named definition.name).shape broken front definition.tree;
   nesting = λ definition. (kind_named definition.name).nesting definition.tree;
 }

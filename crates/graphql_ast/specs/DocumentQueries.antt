@@ -1,5 +1,5 @@
--- What a document of the code answers: its operations and fragments, the extensions of a type, and the first definition of a name.
-use Rattle.std.specs.Prelude.{ℕ, Bool, true, false, ◌&&◌, List, Option, Some, None, filter}
+-- What a document of the code answers: its operations and fragments, the extensions of a type, and the first definition of a name or with a flaw.
+use Rattle.std.specs.Prelude.{ℕ, Bool, true, false, ◌&&◌, not, List, Option, Some, None, filter}
 use Rattle.std.specs.List.{filter_map, find}
 use Rattle.std.specs.Option.{option_and_then}
 use Rattle.graphql_base.specs.declared.name.Name.{Name}
@@ -11,6 +11,8 @@ use Rattle.graphql_executable.specs.declared.fragment_definition.FragmentDefinit
 use Rattle.graphql_executable.specs.declared.operation_definition.OperationDefinition.{OperationDefinition}
 use Rattle.graphql_ast.specs.DefinitionQueries.{definition_name, is_extension, is_type_definition}
 use Rattle.graphql_ast.specs.DefinitionQueries.{directive_definition_of, fragment_definition_of, operation_definition_of}
+use Rattle.graphql_ast.specs.AstTrees.{definition_tree}
+use Rattle.graphql_ast.specs.Definitions.{definition_kind}
 use Rattle.graphql_ast.specs.declared.definition.Definition.{Definition}
 use Rattle.graphql_ast.specs.declared.definition.Definition.TheVariants as variant
 use Rattle.graphql_ast.specs.declared.document.look_ups.Extensions.{Extensions}
@@ -22,6 +24,10 @@ abbrev pub has_name : Option (List ℕ) → Option Name → Bool
 has_name (Some text) (Some name) = is_named text name
 has_name None None = true
 has_name _ _ = false
+
+-- whether it breaks a side condition
+abbrev pub is_ill_formed : Definition → Bool
+is_ill_formed definition = not (definition_kind.obeys (definition_tree definition))
 
 -- OPERATIONS
 

@@ -1,12 +1,14 @@
 -- Documents: Document, section 2.2.
-use Rattle.std.specs.Prelude.{List, [], ◌∷◌, ◌++◌, Bool, false, ◌&&◌}
-use Rattle.std.specs.List.{list_all}
+use Rattle.std.specs.Prelude.{List, [], ◌∷◌, ◌++◌, Bool, false, ◌&&◌, None}
+use Rattle.std.specs.List.{list_all, flat_map}
 use Rattle.graphql_text.specs.grammar.Forms.{nonempty_list_of}
 use Rattle.graphql_text.specs.parts.Greatest.{greatest}
 use Rattle.graphql_text.specs.kinds.Kinds.{Kind}
 use Rattle.graphql_text.specs.layout.Layout.{Item, Blank, Finish}
 use Rattle.graphql_text.specs.parts.Members.{has_some}
 use Rattle.graphql_ast.specs.Definitions.{DefinitionTree, definition_kind}
+use Rattle.graphql_text.specs.declared.ill_formed.SideCondition.TheVariants.{HasDefinition}
+use Rattle.graphql_text.specs.kinds.Flaws.{flaw_unless}
 
 -- The layout behind the first definition: an empty line before each that follows, or a space on one line, and a line feed at the end, unless it
 -- is on one line. Something is written before each, so none is in shorthand.
@@ -26,6 +28,7 @@ document_kind = record {
   Tree = List DefinitionTree;
   form = nonempty_list_of definition_kind.form;
   obeys = λ definitions. has_some definitions && list_all definition_kind.obeys definitions;
+  flaws = λ definitions. flaw_unless (has_some definitions) HasDefinition None ++ flat_map definition_kind.flaws definitions;
   shape = document_shape;
   nesting = greatest definition_kind.nesting;
 }

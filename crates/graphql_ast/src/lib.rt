@@ -4,6 +4,7 @@
 //!   `value_macro` is what `value!` calls.
 //! - `name`: names, and the macro `name!`. `node`: values that several trees may share. `span`: source locations.
 //! - `serialize`: what is printed, and why a print fails. `sink`: what takes the bytes.
+//! - `ill_formed`: why a tree isn't well formed.
 //! - `laws`: laws of definitions and documents, as contracts of functions that do nothing.
 //!
 //! docs/API.md names each type and each call of these modules, with its signature and a sentence.
@@ -20,5 +21,5 @@ pub mod name;
 pub use crate::name::{InvalidNameError, Name};
 pub use graphql_base::node::Node;
 pub use graphql_base::{node, span};
-pub use graphql_text::{engine as serialize, sink};
+pub use graphql_text::{engine as serialize, ill_formed, sink};
 pub use graphql_values::value_macro;

@@ -8,3 +8,5 @@ pub mod Selections
 pub mod VariableDefinitions
 -- of kinds.OperationDefinitions and kinds.FragmentDefinitions
 pub mod Definitions
+-- of the flaws of kinds: they tell what the side conditions do
+pub mod FlawsTold

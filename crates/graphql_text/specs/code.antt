@@ -10,6 +10,8 @@ pub mod Groups
 pub mod Stack
 -- what waits on a stack to be written, for a writer that goes through a tree by a stack
 pub mod PendingStack
+-- what a search for flaws answers
+pub mod IllFormed
 -- what bytes do to a sink
 pub mod Sinks
 -- what contracts see of a sink over a writer

@@ -1,6 +1,8 @@
 -- Kinds of trees: what is printed, and what it is to be read as it.
 
--- a kind: its trees, grammar, side conditions, layout and nesting
+-- what is wrong with a tree that isn't well formed
+pub mod Flaws
+-- a kind: its trees, grammar, side conditions and flaws, layout and nesting
 pub mod Kinds
 -- what it is for a text, or for bytes, to be read as a tree; the laws of a kind
 pub mod Reading

@@ -1,6 +1,7 @@
 //! Kinds of trees that are printed, and their prints.
 ghost use Rattle.std.specs.Prelude.{◌≡◌, ℕ, ◌↔◌, [], true, false, List, Bool, Option, Some, None, codes, IfOk, OnOk, OnErr, IsOk, IsErrOf, IsTrue, MatchOption, string_bytes, encode_utf8_all, chars};
 ghost use Rattle.graphql_text.specs.code.Buffer.{waiting_bytes};
+ghost use Rattle.graphql_text.specs.code.IllFormed.{IsFirstFlaw};
 ghost use Rattle.graphql_text.specs.grammar.Forms.{TokenClass};
 ghost use Rattle.graphql_text.specs.kinds.Kinds.{Kind};
 ghost use Rattle.graphql_text.specs.layout.Layout.{IsBlankMode};
@@ -11,6 +12,7 @@ ghost use Rattle.graphql_text.specs.code.Writing.{WritesTree, bytes_from};
 
 use crate::buffer::Buffer;
 use crate::depths::Depths;
+use crate::ill_formed::IllFormed;
 use crate::place::{Place, Start};
 use crate::sink::TextSink;
 use crate::target::{Target, ToFormatter, ToSink, ToText, finish, into_text};
@@ -34,10 +36,18 @@ pub trait SyntaxTree {
     /// types needs so much room.
     ghost list_depth: { kind.Tree → ℕ };
 
+    /// Where the tree isn't well formed: the first of its flaws in the order of print. `None` exactly if it obeys the
+    /// side conditions of its kind. It takes no memory.
+    fn find_ill_formed(&self) -> Option<IllFormed<'_>>
+        ensures { IsFirstFlaw (kind.flaws (tree self.now)) result };
+
     /// Whether the tree obeys the side conditions of its kind: then what is printed of it can be read. It takes no
     /// memory.
     fn is_well_formed(&self) -> bool
-        ensures { result ≡ kind.obeys (tree self.now) };
+        ensures { result ≡ kind.obeys (tree self.now) }
+    {
+        self.find_ill_formed().is_none()
+    }
 
     /// The nesting depth of the tree's groups, and the list depth of its types. `None` if the nesting depth is above
     /// `usize::MAX`.

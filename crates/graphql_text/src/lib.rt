@@ -3,6 +3,7 @@
 //! A text is a list of Unicode scalar values. The definitions stand in `specs/`.
 //!
 //! - `engine`: kinds of trees that are printed, and their prints.
+//! - `ill_formed`: why a tree isn't well formed.
 //! - `sink`: what takes the bytes of a print.
 //! - `writers`: what the kinds of the crates above are written with.
 //! - `laws`: laws of the definitions, as contracts of functions that do nothing.
@@ -13,6 +14,7 @@ mod breaks;
 mod buffer;
 mod depths;
 pub mod engine;
+pub mod ill_formed;
 pub mod laws;
 mod node_lists;
 mod padded;

@@ -4,3 +4,5 @@
 pub mod Bodies
 -- the laws of the sixteen kinds
 pub mod Kinds
+-- of the flaws of kinds: they tell what the side conditions do
+pub mod FlawsTold

@@ -12,3 +12,5 @@ pub mod InputValueDefinitions
 pub mod DirectiveDefinitions
 -- of kinds.OperationTypes
 pub mod OperationTypes
+-- of the flaws of kinds: they tell what the side conditions do
+pub mod FlawsTold

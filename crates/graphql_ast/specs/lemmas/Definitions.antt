@@ -1,6 +1,6 @@
 -- Lemmas, no definitions of the product: definitions as parts, and their laws.
 use Rattle.std.proofs.Common.{ℕ, ◌≡◌, ◌∙◌, refl, sym, inl, inr, Bool, true, false, if◌then◌else◌, ◌&&◌, List, [], ◌∷◌, codes, nat_eq}
-use Rattle.std.proofs.Common.{Option, Some, None, IsTrue, ◌||◌}
+use Rattle.std.proofs.Common.{Option, Some, None, IsTrue}
 use Rattle.std.proofs.lemmas.Bool.{or_cases}
 use Rattle.std.proofs.lemmas.Slice.Eq.{bytes_eq-Decides}
 use Rattle.std.specs.Cmp.Lexicographic.{pointwise}
@@ -9,7 +9,7 @@ use Rattle.graphql_text.specs.parts.Extensions.{extension}
 use Rattle.graphql_text.specs.grammar.Forms.{TokenClass, a_punctuator, a_keyword, a_name, a_string_value, token, no_tokens, ◌⨟◌, only_if, either, begins}
 use Rattle.graphql_text.specs.parts.Members.{has_some}
 use Rattle.graphql_text.specs.kinds.Kinds.{Kind}
-use Rattle.graphql_text.specs.lexical.Literals.{StringText}
+use Rattle.graphql_text.specs.lexical.Literals.{NameText, StringText}
 use Rattle.graphql_text.specs.kinds.Reading.{Laws}
 use Rattle.graphql_text.specs.lexical.Tokens.{amp, at, bar, equals, lbrace, lparen, Token, Punctuation, Name, StringValue}
 use Rattle.graphql_text.proofs.kinds.KindLaws.{laws_of}
@@ -36,8 +36,8 @@ use Rattle.graphql_type_system.specs.kinds.InputObjectTypes.{input_object_type_b
 use Rattle.graphql_type_system.specs.kinds.InterfaceTypes.{interface_type_body}
 use Rattle.graphql_type_system.specs.kinds.ObjectTypes.{object_type_body}
 use Rattle.graphql_type_system.specs.kinds.ScalarTypes.{scalar_type_body}
-use Rattle.graphql_type_system.specs.kinds.Schemas.{extended_schema_body, schema_body}
-use Rattle.graphql_type_system.specs.kinds.UnionTypes.{union_type_body}
+use Rattle.graphql_type_system.specs.kinds.Schemas.{extended_schema_adds, extended_schema_body, extended_schema_name, schema_body}
+use Rattle.graphql_type_system.specs.kinds.UnionTypes.{union_type_adds, union_type_body}
 use Rattle.graphql_type_system.specs.lemmas.Bodies.{enum_type_body_part, extended_schema_body_part, input_object_type_body_part}
 use Rattle.graphql_type_system.specs.lemmas.Bodies.{interface_type_body_part, object_type_body_part, scalar_type_body_part}
 use Rattle.graphql_type_system.specs.lemmas.Bodies.{schema_body_part, union_type_body_part}
@@ -47,6 +47,15 @@ use Rattle.graphql_ast.specs.Definitions.{ScalarTypeDefinition, ObjectTypeDefini
 use Rattle.graphql_ast.specs.Definitions.{EnumTypeDefinition, InputObjectTypeDefinition, SchemaExtension, ScalarTypeExtension}
 use Rattle.graphql_ast.specs.Definitions.{ObjectTypeExtension, InterfaceTypeExtension, UnionTypeExtension, EnumTypeExtension}
 use Rattle.graphql_ast.specs.Definitions.{InputObjectTypeExtension, kind_named, DefinitionTree, definition_kind}
+use Rattle.graphql_executable.specs.lemmas.Definitions.{fragment_definition_laws, operation_definition_laws}
+use Rattle.graphql_values.specs.lemmas.DirectiveDefinitions.{directive_definition_laws}
+use Rattle.graphql_type_system.specs.lemmas.Kinds.{schema_definition_laws, scalar_type_definition_laws}
+use Rattle.graphql_type_system.specs.lemmas.Kinds.{object_type_definition_laws, interface_type_definition_laws}
+use Rattle.graphql_type_system.specs.lemmas.Kinds.{union_type_definition_laws, enum_type_definition_laws}
+use Rattle.graphql_type_system.specs.lemmas.Kinds.{input_object_type_definition_laws, schema_extension_laws}
+use Rattle.graphql_type_system.specs.lemmas.Kinds.{scalar_type_extension_laws, object_type_extension_laws}
+use Rattle.graphql_type_system.specs.lemmas.Kinds.{interface_type_extension_laws, union_type_extension_laws}
+use Rattle.graphql_type_system.specs.lemmas.Kinds.{enum_type_extension_laws, input_object_type_extension_laws}
 
 -- what may not follow a definition, what begins one, and before what one isn't printed
 abbrev pub excluded_after_definition : List TokenClass
@@ -194,18 +203,21 @@ module _ {word : List ℕ} (body : Kind) {F S : List TokenClass} {opens : Bool} 
   described_definition name is begun = alike (described body) (described_part body p refl) name is refl (λ broken front tree. refl)
       (λ tree tokens rest d. let found = described_chosen tree tokens rest d in found.1 ∙ begun found.0)
 
-  pub extension_chosen : (adds : body.Tree → Bool) (tree : body.Tree) (tokens rest : List Token) → (extension body adds).form tree tokens rest →
+  pub extension_chosen : (adds : body.Tree → Bool) (name : body.Tree → Option NameText) (tree : body.Tree) (tokens rest : List Token) →
+      (extension body adds name).form tree tokens rest →
       (more : List Token) × (chosen_definition tokens ≡ definition_at (Name (codes "extend") ∷ Name word ∷ more))
   unfolding ◌⨟◌ only_if
-  extension_chosen adds tree tokens rest d =
+  extension_chosen adds name tree tokens rest d =
       let found = keyword_opens word d.1.0 rest (let x = p.read 0 tree in x.opens d.1.0 rest d.1.2) in
       (found.0, behind_extend word tokens d.1.0 found.0 d.1.1 found.1)
 
   -- an extension of what a word begins
-  unfoldable pub extension_definition : (adds : body.Tree → Bool) (name : DefinitionName) → is_definition F (a_keyword (codes "extend") ∷ []) S ≡ true →
-      ((more : List Token) → definition_at (Name (codes "extend") ∷ Name word ∷ more) ≡ Some name) → DefinitionPart (extension body adds) name
-  extension_definition adds name is begun = alike (extension body adds) (extension_part body adds p) name is refl (λ broken front tree. refl)
-      (λ tree tokens rest d. let found = extension_chosen adds tree tokens rest d in found.1 ∙ begun found.0)
+  unfoldable pub extension_definition : (adds : body.Tree → Bool) (extended : body.Tree → Option NameText) (name : DefinitionName) →
+      is_definition F (a_keyword (codes "extend") ∷ []) S ≡ true →
+      ((more : List Token) → definition_at (Name (codes "extend") ∷ Name word ∷ more) ≡ Some name) → DefinitionPart (extension body adds extended) name
+  extension_definition adds extended name is begun =
+      alike (extension body adds extended) (extension_part body adds extended p) name is refl (λ broken front tree. refl)
+      (λ tree tokens rest d. let found = extension_chosen adds extended tree tokens rest d in found.1 ∙ begun found.0)
 
 -- OPERATIONS
 
@@ -253,23 +265,23 @@ definition_parts InputObjectTypeDefinition =
     described_definition input_object_type_body input_object_type_body_part InputObjectTypeDefinition refl (λ more. refl)
 definition_parts SchemaExtension =
     extension_definition extended_schema_body extended_schema_body_part
-    (λ schema. has_some schema.directives || has_some schema.root_operations) SchemaExtension refl (λ more. refl)
+    extended_schema_adds extended_schema_name SchemaExtension refl (λ more. refl)
 definition_parts ScalarTypeExtension =
     extension_definition scalar_type_body scalar_type_body_part
-    (λ scalar. has_some scalar.directives) ScalarTypeExtension refl (λ more. refl)
+    (λ scalar. has_some scalar.directives) (λ scalar. Some scalar.name) ScalarTypeExtension refl (λ more. refl)
 definition_parts ObjectTypeExtension =
-    extension_definition object_type_body object_type_body_part implementing_type_adds ObjectTypeExtension refl (λ more. refl)
+    extension_definition object_type_body object_type_body_part implementing_type_adds (λ type. Some type.name) ObjectTypeExtension refl (λ more. refl)
 definition_parts InterfaceTypeExtension =
-    extension_definition interface_type_body interface_type_body_part implementing_type_adds InterfaceTypeExtension refl (λ more. refl)
+    extension_definition interface_type_body interface_type_body_part implementing_type_adds (λ type. Some type.name) InterfaceTypeExtension refl (λ more. refl)
 definition_parts UnionTypeExtension =
     extension_definition union_type_body union_type_body_part
-    (λ union. has_some union.directives || has_some union.members) UnionTypeExtension refl (λ more. refl)
+    union_type_adds (λ union. Some union.name) UnionTypeExtension refl (λ more. refl)
 definition_parts EnumTypeExtension =
     extension_definition enum_type_body enum_type_body_part
-    (braced_type_adds enum_value_definition_kind) EnumTypeExtension refl (λ more. refl)
+    (braced_type_adds enum_value_definition_kind) (λ type. Some type.name) EnumTypeExtension refl (λ more. refl)
 definition_parts InputObjectTypeExtension =
     extension_definition input_object_type_body input_object_type_body_part
-    (braced_type_adds input_value_definition_kind) InputObjectTypeExtension refl (λ more. refl)
+    (braced_type_adds input_value_definition_kind) (λ type. Some type.name) InputObjectTypeExtension refl (λ more. refl)
 
 -- DEFINITIONS
 
@@ -314,7 +326,28 @@ pub first_definition_written : (front : Bool) (definition : DefinitionTree) → 
 unfolding first_definition_tokens
 first_definition_written front definition = (definition_parts definition.name).first_written front definition.tree
 
+-- the laws of the kind that is so named
+laws_named : (name : DefinitionName) → Laws (kind_named name)
+laws_named OperationDefinition = operation_definition_laws
+laws_named FragmentDefinition = fragment_definition_laws
+laws_named DirectiveDefinition = directive_definition_laws
+laws_named SchemaDefinition = schema_definition_laws
+laws_named ScalarTypeDefinition = scalar_type_definition_laws
+laws_named ObjectTypeDefinition = object_type_definition_laws
+laws_named InterfaceTypeDefinition = interface_type_definition_laws
+laws_named UnionTypeDefinition = union_type_definition_laws
+laws_named EnumTypeDefinition = enum_type_definition_laws
+laws_named InputObjectTypeDefinition = input_object_type_definition_laws
+laws_named SchemaExtension = schema_extension_laws
+laws_named ScalarTypeExtension = scalar_type_extension_laws
+laws_named ObjectTypeExtension = object_type_extension_laws
+laws_named InterfaceTypeExtension = interface_type_extension_laws
+laws_named UnionTypeExtension = union_type_extension_laws
+laws_named EnumTypeExtension = enum_type_extension_laws
+laws_named InputObjectTypeExtension = input_object_type_extension_laws
+
 pub definition_laws : Laws definition_kind
 definition_laws = laws_of {tokens = first_definition_tokens} first_definition_told definition_is_read
     (λ front definition holds. first_definition_written front definition holds [] refl)
     (λ definition. (definition_parts definition.name).part.obeyed definition.tree)
+    (λ definition. (laws_named definition.name).tells definition.tree)

@@ -1,7 +1,7 @@
 -- Lemmas, no definitions of the product: definitions in a row, and the laws of documents.
-use Rattle.std.proofs.Common.{ℕ, refl, ◌≡◌, Bool, true, false, List, [], ◌∷◌, IsTrue}
+use Rattle.std.proofs.Common.{ℕ, refl, ◌≡◌, Bool, true, false, List, [], ◌∷◌, IsTrue, None}
 use Rattle.std.proofs.Math.Dec.{eqb-suc-zero}
-use Rattle.std.specs.List.{list_all}
+use Rattle.std.specs.List.{list_all, flat_map}
 use Rattle.graphql_text.specs.grammar.Forms.{no_tokens, never, ◌⨟◌, list_of, begins}
 use Rattle.graphql_text.specs.parts.Greatest.{greatest}
 use Rattle.graphql_text.specs.parts.Members.{has_some}
@@ -17,7 +17,10 @@ use Rattle.graphql_ast.specs.Definitions.{DefinitionTree, definition_kind}
 use Rattle.graphql_ast.specs.Documents.{more_definitions_shape, document_shape, document_kind}
 use Rattle.graphql_ast.specs.lemmas.Definitions.{excluded_after_definition, definition_first_tokens, a_brace, definition_parts}
 use Rattle.graphql_ast.specs.lemmas.Definitions.{definition_part, definition_reader, definition_is_read, first_definition_tokens}
-use Rattle.graphql_ast.specs.lemmas.Definitions.{first_definition_told, first_definition_written}
+use Rattle.graphql_ast.specs.lemmas.Definitions.{definition_laws, first_definition_told, first_definition_written}
+use Rattle.graphql_text.specs.declared.ill_formed.SideCondition.TheVariants.{HasDefinition}
+use Rattle.graphql_text.specs.kinds.Flaws.{flaw_unless}
+use Rattle.graphql_text.proofs.kinds.FlawsTold.{all_tell, both_tell, unless_tells}
 
 -- DEFINITIONS BEHIND THE FIRST
 
@@ -116,4 +119,7 @@ document_laws = laws {tokens = document_tokens} (record {
   written = λ front definitions holds. document_written front definitions holds [] refl;
   once = λ definitions other tokens d e. (one_reading (document_is_read _ definitions) (document_is_read _ other) d e refl refl).0;
   obeyed = document_obeyed;
+  tells = λ definitions.
+      both_tell (flaw_unless (has_some definitions) HasDefinition None) (flat_map definition_kind.flaws definitions)
+      (unless_tells (has_some definitions) HasDefinition None) (all_tell definition_kind.flaws definition_laws.tells definitions);
 })

@@ -1,5 +1,6 @@
 //! Definitions are printed, each as its kind says.
 ghost use Rattle.std.specs.Prelude.{◌≡◌, Some};
+ghost use Rattle.graphql_text.specs.code.IllFormed.{IsFirstFlaw};
 ghost use Rattle.graphql_text.specs.kinds.Printing.{IsDefaultPrint, default_bytes};
 ghost use Rattle.graphql_ast.specs.AstStacks.{definition_list_depth};
 ghost use Rattle.graphql_ast.specs.AstTrees.{definition_tree};
@@ -8,9 +9,35 @@ ghost use Rattle.graphql_ast.specs.lemmas.Definitions.{definition_laws};
 
 use crate::definition::Definition;
 use graphql_text::engine::{Serialize, Syntax, SyntaxTree};
+use graphql_text::ill_formed::IllFormed;
 use graphql_text::writers::{Depths, Start, Target};
 use std::alloc::AllocError;
 use std::fmt;
+
+/// The first flaw of what a definition is a node of.
+fn find_ill_formed_in(definition: &Definition) -> Option<IllFormed<'_>>
+    ensures { IsFirstFlaw (definition_kind.flaws (definition_tree definition.now)) result }
+{
+    match definition {
+        Definition::OperationDefinition(operation) => operation.find_ill_formed(),
+        Definition::FragmentDefinition(fragment) => fragment.find_ill_formed(),
+        Definition::DirectiveDefinition(directive) => directive.find_ill_formed(),
+        Definition::SchemaDefinition(schema) => schema.find_ill_formed(),
+        Definition::ScalarTypeDefinition(scalar) => scalar.find_ill_formed(),
+        Definition::ObjectTypeDefinition(object) => object.find_ill_formed(),
+        Definition::InterfaceTypeDefinition(interface) => interface.find_ill_formed(),
+        Definition::UnionTypeDefinition(union_type) => union_type.find_ill_formed(),
+        Definition::EnumTypeDefinition(enum_type) => enum_type.find_ill_formed(),
+        Definition::InputObjectTypeDefinition(input) => input.find_ill_formed(),
+        Definition::SchemaExtension(schema) => schema.find_ill_formed(),
+        Definition::ScalarTypeExtension(scalar) => scalar.find_ill_formed(),
+        Definition::ObjectTypeExtension(object) => object.find_ill_formed(),
+        Definition::InterfaceTypeExtension(interface) => interface.find_ill_formed(),
+        Definition::UnionTypeExtension(union_type) => union_type.find_ill_formed(),
+        Definition::EnumTypeExtension(enum_type) => enum_type.find_ill_formed(),
+        Definition::InputObjectTypeExtension(input) => input.find_ill_formed(),
+    }
+}
 
 impl Definition {
     /// The definition in the default layout, for `print_to`, `to_text` or another layout.
@@ -20,29 +47,19 @@ impl Definition {
         Serialize::new(self)
     }
 
+    /// The first flaw of the operation, the fragment, the definition or the extension.
+    pub fn find_ill_formed(&self) -> Option<IllFormed<'_>>
+        ensures { IsFirstFlaw (definition_kind.flaws (definition_tree self.now)) result }
+    {
+        let found = find_ill_formed_in(self)?;
+        Some(found.within(self.location()))
+    }
+
     /// Whether the operation, the fragment, the definition or the extension is well formed.
     pub fn is_well_formed(&self) -> bool
         ensures { result ≡ definition_kind.obeys (definition_tree self.now) }
     {
-        match self {
-            Definition::OperationDefinition(operation) => operation.is_well_formed(),
-            Definition::FragmentDefinition(fragment) => fragment.is_well_formed(),
-            Definition::DirectiveDefinition(directive) => directive.is_well_formed(),
-            Definition::SchemaDefinition(schema) => schema.is_well_formed(),
-            Definition::ScalarTypeDefinition(scalar) => scalar.is_well_formed(),
-            Definition::ObjectTypeDefinition(object) => object.is_well_formed(),
-            Definition::InterfaceTypeDefinition(interface) => interface.is_well_formed(),
-            Definition::UnionTypeDefinition(union_type) => union_type.is_well_formed(),
-            Definition::EnumTypeDefinition(enum_type) => enum_type.is_well_formed(),
-            Definition::InputObjectTypeDefinition(input) => input.is_well_formed(),
-            Definition::SchemaExtension(schema) => schema.is_well_formed(),
-            Definition::ScalarTypeExtension(scalar) => scalar.is_well_formed(),
-            Definition::ObjectTypeExtension(object) => object.is_well_formed(),
-            Definition::InterfaceTypeExtension(interface) => interface.is_well_formed(),
-            Definition::UnionTypeExtension(union_type) => union_type.is_well_formed(),
-            Definition::EnumTypeExtension(enum_type) => enum_type.is_well_formed(),
-            Definition::InputObjectTypeExtension(input) => input.is_well_formed(),
-        }
+        SyntaxTree::is_well_formed(self)
     }
 }
 
@@ -55,8 +72,8 @@ impl SyntaxTree for Definition {
 
     ghost list_depth = { definition_list_depth };
 
-    fn is_well_formed(&self) -> bool {
-        Definition::is_well_formed(self)
+    fn find_ill_formed(&self) -> Option<IllFormed<'_>> {
+        Definition::find_ill_formed(self)
     }
 
     fn find_depths(&self) -> Option<Depths> {

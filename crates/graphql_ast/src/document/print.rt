@@ -1,6 +1,7 @@
 //! Documents are printed: the writer of definitions in a row, and the `Syntax` of a document.
 ghost use Rattle.std.specs.Prelude.{◌≡◌, ◌≤◌, if◌then◌else◌, IfOk, IsOk, Some};
-ghost use Rattle.std.specs.List.{list_all, list_any};
+ghost use Rattle.std.specs.List.{flat_map, list_any, position};
+ghost use Rattle.graphql_text.specs.code.IllFormed.{IsFirstFlaw};
 ghost use Rattle.graphql_text.specs.parts.Greatest.{greatest};
 ghost use Rattle.graphql_text.specs.layout.Layout.{is_front};
 ghost use Rattle.graphql_text.specs.layout.Levels.{AreDepths, Fits, HasDepths};
@@ -9,6 +10,7 @@ ghost use Rattle.graphql_text.specs.kinds.Printing.{IsDefaultPrint, default_byte
 ghost use Rattle.graphql_text.specs.code.Writing.{Writes};
 ghost use Rattle.graphql_text.specs.declared.place.Place.{Place};
 ghost use Rattle.graphql_ast.specs.AstStacks.{CanWriteAst, definition_list_depth, has_selections, selection_depth};
+ghost use Rattle.graphql_ast.specs.DocumentQueries.{is_ill_formed};
 ghost use Rattle.graphql_ast.specs.AstTrees.{definition_trees, document_tree};
 ghost use Rattle.graphql_ast.specs.Definitions.{definition_kind};
 ghost use Rattle.graphql_ast.specs.Documents.{document_kind, document_shape};
@@ -19,23 +21,26 @@ use crate::definition::write::{has_selections, write_definition, write_first_def
 use crate::document::Document;
 use graphql_executable::writers::ExecutableStacks;
 use graphql_text::engine::{Serialize, Syntax, SyntaxTree};
+use graphql_text::ill_formed::{IllFormed, SideCondition};
 use graphql_text::writers::{
-    Depths, Place, Stack, Start, Target, write_blank, write_finish, write_first_indent,
+    Depths, Place, Stack, Start, Target, ill_formed_unless, write_blank, write_finish,
+    write_first_indent,
 };
 use graphql_values::writers::Stacks;
 use std::alloc::{AllocError, Global};
 use std::fmt;
 
-/// Whether each definition is well formed.
-fn are_definitions_well_formed(definitions: &[Definition]) -> bool
-    ensures { result ≡ list_all definition_kind.obeys (definition_trees definitions.now) }
+/// Where definitions aren't well formed: the first of their flaws.
+fn find_ill_formed_definition(definitions: &[Definition]) -> Option<IllFormed<'_>>
+    ensures { IsFirstFlaw
+        (flat_map definition_kind.flaws (definition_trees definitions.now)) result }
 {
     for definition in definitions {
-        if !definition.is_well_formed() {
-            return false;
+        if let Some(found) = definition.find_ill_formed() {
+            return Some(found);
         }
     }
-    true
+    None
 }
 
 /// The depths of definitions: of each the greatest. `None` if the nesting depth is above `usize::MAX`.
@@ -128,11 +133,34 @@ impl Document {
         Serialize::new(self)
     }
 
+    /// That there is no definition, or the first flaw of the definitions, in the order of print.
+    #[tactic(auto, using(graphql_text::proofs::kinds::FlawsTold::flaw_steps))]
+    pub fn find_ill_formed(&self) -> Option<IllFormed<'_>>
+        ensures { IsFirstFlaw (document_kind.flaws (document_tree self.now)) result }
+    {
+        let has_definition = !self.definitions.is_empty();
+        let found = ill_formed_unless(has_definition, SideCondition::HasDefinition, None);
+        if found.is_some() {
+            return found;
+        }
+        find_ill_formed_definition(&self.definitions)
+    }
+
+    /// The index of the definition that the first flaw is in: the first that isn't well formed. `None` also where there
+    /// is no definition.
+    pub fn find_ill_formed_index(&self) -> Option<usize>
+        ensures { result ≡ position is_ill_formed self.now.definitions.items }
+    {
+        self.definitions
+            .iter()
+            .position(|definition| !definition.is_well_formed())
+    }
+
     /// Whether there is a definition, and each is well formed.
     pub fn is_well_formed(&self) -> bool
         ensures { result ≡ document_kind.obeys (document_tree self.now) }
     {
-        !self.definitions.is_empty() && are_definitions_well_formed(&self.definitions)
+        SyntaxTree::is_well_formed(self)
     }
 }
 
@@ -145,8 +173,8 @@ impl SyntaxTree for Document {
 
     ghost list_depth = { greatest definition_list_depth };
 
-    fn is_well_formed(&self) -> bool {
-        Document::is_well_formed(self)
+    fn find_ill_formed(&self) -> Option<IllFormed<'_>> {
+        Document::find_ill_formed(self)
     }
 
     fn find_depths(&self) -> Option<Depths> {

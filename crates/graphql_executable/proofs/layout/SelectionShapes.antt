@@ -1,5 +1,5 @@
 -- The trees of selections, fields and inline fragments, and what their nesting and their side conditions are.
-use Rattle.std.proofs.Common.{arith, ◌≡◌, ◌==◌, max, not, ◌&&◌, List, [], ◌∷◌, ◌++◌, false, length, refl, ap, sym, append-nil, ◌∙◌}
+use Rattle.std.proofs.Common.{arith, ◌≡◌, ◌==◌, max, not, List, [], ◌∷◌, ◌++◌, false, length, refl, ap, sym, append-nil, ◌∙◌}
 use Rattle.std.proofs.lemmas.Bool.{true≢false}
 use Rattle.std.proofs.Math.Dec.{eqb-suc-zero}
 use Rattle.std.specs.Option.{option_map}
@@ -14,16 +14,16 @@ use Rattle.graphql_values.specs.declared.argument.Argument.{Argument}
 use Rattle.graphql_values.specs.declared.directive.Directive.{Directive}
 use Rattle.graphql_executable.specs.trees.ExecutableTrees.{field_tree, field_tree_step, fragment_spread_tree, inline_fragment_tree}
 use Rattle.graphql_executable.specs.trees.ExecutableTrees.{inline_fragment_tree_step, selection_tree, selection_tree_step, selection_trees}
-use Rattle.graphql_executable.specs.kinds.Fields.{FieldTree, selection_of_field}
+use Rattle.graphql_executable.specs.kinds.Fields.{FieldTree, field_kind, selection_of_field}
 use Rattle.graphql_executable.specs.kinds.FragmentSpreads.{fragment_spread_kind, fragment_spread_shape}
-use Rattle.graphql_executable.specs.kinds.InlineFragments.{InlineFragmentTree, selection_of_inline_fragment}
-use Rattle.graphql_executable.specs.kinds.SelectionHeads.{FieldHeadTree, InlineFragmentHeadTree, field_head_nesting, field_head_obeys}
-use Rattle.graphql_executable.specs.kinds.SelectionHeads.{field_head_shape, inline_fragment_head_nesting, inline_fragment_head_obeys}
+use Rattle.graphql_executable.specs.kinds.InlineFragments.{InlineFragmentTree, inline_fragment_kind, selection_of_inline_fragment}
+use Rattle.graphql_executable.specs.kinds.SelectionHeads.{FieldHeadTree, InlineFragmentHeadTree, field_head_nesting}
+use Rattle.graphql_executable.specs.kinds.SelectionHeads.{field_head_shape, inline_fragment_head_nesting}
 use Rattle.graphql_executable.specs.kinds.SelectionHeads.{inline_fragment_head_shape}
 use Rattle.graphql_executable.specs.code.SelectionWalk.{has_set}
 use Rattle.graphql_executable.specs.kinds.Selections.{SelectionTree, SelectionTrees, field_selection, has_selections, inline_selection}
-use Rattle.graphql_executable.specs.kinds.Selections.{more_selections, no_selections, selection_nesting, selection_obeys, selection_shape}
-use Rattle.graphql_executable.specs.kinds.Selections.{selection_set_nesting, selection_set_obeys, selections_obey, spread_selection}
+use Rattle.graphql_executable.specs.kinds.Selections.{more_selections, no_selections, selection_flaws, selection_nesting, selection_shape}
+use Rattle.graphql_executable.specs.kinds.Selections.{selection_set_nesting, spread_selection}
 use Rattle.graphql_executable.specs.declared.field.Field.{Field, fold_out-Field}
 use Rattle.graphql_executable.specs.declared.fragment_spread.FragmentSpread.{FragmentSpread}
 use Rattle.graphql_executable.specs.declared.inline_fragment.InlineFragment.{InlineFragment, fold_out-InlineFragment}
@@ -83,7 +83,7 @@ selection_is_inline n =
     ∙ fold-roll-Selection SelectionTree FieldTree InlineFragmentTree selection_tree_step field_tree_step inline_fragment_tree_step
     (layer.InlineFragment n)
 
--- THEIR NESTING AND THEIR SIDE CONDITIONS
+-- THEIR NESTING AND THEIR FLAWS
 
 pub nesting_field : (n : Node Field) →
     selection_nesting (selection_tree (variant.Field n))
@@ -132,26 +132,17 @@ plain_spread_nesting n d = nesting_spread n ∙ spread_without n.value.directive
 
 pub ruleset plain_selection_steps = (plain_field_nesting, plain_spread_nesting)
 
-pub obeys_field : (n : Node Field) →
-    selection_obeys (selection_tree (variant.Field n))
-    ≡ (field_head_obeys (field_tree n.value).head && selections_obey (selection_trees n.value.selection_set.items))
-obeys_field n =
-    ap selection_obeys (selection_is_field n)
-    ∙ ap (λ set. field_head_obeys (field_tree n.value).head && selections_obey set) (field_selections_are n.value)
+pub flaws_field : (n : Node Field) → selection_flaws (selection_tree (variant.Field n)) ≡ field_kind.flaws (field_tree n.value)
+flaws_field n = ap selection_flaws (selection_is_field n)
 
-pub obeys_spread : (n : Node FragmentSpread) →
-    selection_obeys (selection_tree (variant.FragmentSpread n)) ≡ fragment_spread_kind.obeys (fragment_spread_tree n.value)
-obeys_spread n = ap selection_obeys (selection_is_spread n)
+pub flaws_spread : (n : Node FragmentSpread) →
+    selection_flaws (selection_tree (variant.FragmentSpread n)) ≡ fragment_spread_kind.flaws (fragment_spread_tree n.value)
+flaws_spread n = ap selection_flaws (selection_is_spread n)
 
-pub obeys_inline : (n : Node InlineFragment) →
-    selection_obeys (selection_tree (variant.InlineFragment n))
-    ≡ (inline_fragment_head_obeys (inline_fragment_tree n.value).head
-    && selection_set_obeys (selection_trees n.value.selection_set.items))
-obeys_inline n =
-    ap selection_obeys (selection_is_inline n)
-    ∙ ap (λ set. inline_fragment_head_obeys (inline_fragment_tree n.value).head && selection_set_obeys set) (inline_selections_are n.value)
+pub flaws_inline : (n : Node InlineFragment) →
+    selection_flaws (selection_tree (variant.InlineFragment n)) ≡ inline_fragment_kind.flaws (inline_fragment_tree n.value)
+flaws_inline n = ap selection_flaws (selection_is_inline n)
 
--- whether there is a selection, by the length of their list
 pub has_selections_is : (selections : List Selection) → has_selections (selection_trees selections) ≡ not (length selections == 0)
 has_selections_is [] = refl
 has_selections_is (selection ∷ more) = rw (eqb-suc-zero (length more)) refl
@@ -198,7 +189,9 @@ empty_inline_shape n none =
     ∙ empty_inline (inline_fragment_tree n.value).head (inline_fragment_tree n.value).selections (rw (selection_is_inline n) at none)
 
 -- what the walk over selections cites
-pub ruleset selection_obeys_steps = (obeys_field, obeys_spread, obeys_inline)
+pub ruleset selection_flaws_steps = (flaws_field, flaws_spread, flaws_inline)
+
+pub ruleset inline_fragment_steps = (inline_selections_are, inline_fragment_head_is)
 
 pub ruleset selection_nesting_steps = (nesting_field, nesting_spread, nesting_inline)
 

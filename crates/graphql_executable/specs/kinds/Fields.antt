@@ -18,6 +18,7 @@ field_kind = record {
   Tree = FieldTree;
   form = λ field. selection_kind.form (selection_of_field field);
   obeys = λ field. selection_kind.obeys (selection_of_field field);
+  flaws = λ field. selection_kind.flaws (selection_of_field field);
   shape = λ broken front field. selection_kind.shape broken front (selection_of_field field);
   nesting = λ field. selection_kind.nesting (selection_of_field field);
 }

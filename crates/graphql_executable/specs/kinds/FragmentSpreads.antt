@@ -1,5 +1,5 @@
 -- Fragment spreads: FragmentSpread, section 2.8.
-use Rattle.std.specs.Prelude.{ℕ, List, ◌∷◌, ◌&&◌}
+use Rattle.std.specs.Prelude.{ℕ, List, ◌∷◌, ◌&&◌, Some, ◌++◌}
 use Rattle.graphql_text.specs.lexical.Literals.{NameText}
 use Rattle.graphql_text.specs.lexical.Tokens.{spread, Punctuation, Name}
 use Rattle.graphql_text.specs.grammar.Forms.{token, ◌⨟◌, name_except}
@@ -8,6 +8,9 @@ use Rattle.graphql_text.specs.layout.Layout.{Item, Word}
 use Rattle.graphql_values.specs.kinds.Directives.{DirectiveTree, directives_form, directives_shape, directives_nesting, directives_obey}
 use Rattle.graphql_values.specs.kinds.Values.{NonConst}
 use Rattle.graphql_executable.specs.kinds.FragmentNames.{not_fragment_names, is_fragment_name}
+use Rattle.graphql_text.specs.declared.ill_formed.SideCondition.TheVariants.{IsNotOn}
+use Rattle.graphql_text.specs.kinds.Flaws.{flaw_unless}
+use Rattle.graphql_values.specs.kinds.Directives.{directives_flaws}
 
 -- A fragment spread without locations.
 pub record FragmentSpreadTree : Type 0 where
@@ -29,6 +32,8 @@ fragment_spread_kind = record {
   form = λ fragment. token (Punctuation spread) ⨟ name_except not_fragment_names fragment.name ⨟ directives_form NonConst fragment.directives;
   -- the side conditions: it isn't named `on`, and its directives obey theirs
   obeys = λ fragment. is_fragment_name fragment.name.text && directives_obey NonConst fragment.directives;
+  flaws = λ fragment.
+      flaw_unless (is_fragment_name fragment.name.text) IsNotOn (Some fragment.name) ++ directives_flaws NonConst fragment.directives;
   shape = λ broken front. fragment_spread_shape;
   nesting = fragment_spread_nesting;
 }

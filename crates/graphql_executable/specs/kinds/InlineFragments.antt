@@ -18,6 +18,7 @@ inline_fragment_kind = record {
   Tree = InlineFragmentTree;
   form = λ fragment. selection_kind.form (selection_of_inline_fragment fragment);
   obeys = λ fragment. selection_kind.obeys (selection_of_inline_fragment fragment);
+  flaws = λ fragment. selection_kind.flaws (selection_of_inline_fragment fragment);
   shape = λ broken front fragment. selection_kind.shape broken front (selection_of_inline_fragment fragment);
   nesting = λ fragment. selection_kind.nesting (selection_of_inline_fragment fragment);
 }

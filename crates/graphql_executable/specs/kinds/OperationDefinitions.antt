@@ -15,6 +15,9 @@ use Rattle.graphql_executable.specs.kinds.Selections.{SelectionTrees, selection_
 use Rattle.graphql_executable.specs.kinds.VariableDefinitions.{variable_definition_kind, variable_definitions_form}
 use Rattle.graphql_executable.specs.kinds.VariableDefinitions.{variable_definitions_shape, variable_definitions_nesting}
 use Rattle.graphql_executable.specs.kinds.VariableDefinitions.{variable_definitions_obey}
+use Rattle.graphql_values.specs.kinds.Directives.{directives_flaws}
+use Rattle.graphql_executable.specs.kinds.Selections.{selection_set_flaws}
+use Rattle.graphql_executable.specs.kinds.VariableDefinitions.{variable_definitions_flaws}
 
 -- An operation without its description and without locations.
 pub record OperationDefinitionTree : Type 0 where
@@ -39,6 +42,9 @@ operation_definition_body = record {
   obeys = λ operation.
       variable_definitions_obey operation.variables
       && (directives_obey NonConst operation.directives && selection_set_obeys operation.selections);
+  flaws = λ operation.
+      variable_definitions_flaws operation.variables
+      ++ (directives_flaws NonConst operation.directives ++ selection_set_flaws operation.name operation.selections);
   -- the layout of an operation, behind its description and not in shorthand
   shape = λ broken front operation.
       operation_type_shape operation.operation_type
@@ -80,6 +86,7 @@ operation_definition_kind = record {
   Tree = full_operation_kind.Tree;
   form = operation_form;
   obeys = full_operation_kind.obeys;
+  flaws = full_operation_kind.flaws;
   shape = operation_shape;
   nesting = full_operation_kind.nesting;
 }

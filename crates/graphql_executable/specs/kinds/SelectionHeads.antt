@@ -9,6 +9,9 @@ use Rattle.graphql_values.specs.kinds.Arguments.{ArgumentTree, arguments_form, a
 use Rattle.graphql_values.specs.kinds.Directives.{DirectiveTree, directives_form, directives_shape, directives_nesting, directives_obey}
 use Rattle.graphql_values.specs.kinds.Values.{NonConst}
 use Rattle.graphql_executable.specs.kinds.FragmentNames.{type_condition_form, type_condition_shape}
+use Rattle.graphql_text.specs.kinds.Flaws.{Flaw}
+use Rattle.graphql_values.specs.kinds.Arguments.{arguments_flaws}
+use Rattle.graphql_values.specs.kinds.Directives.{directives_flaws}
 
 -- FIELDS
 
@@ -42,6 +45,9 @@ field_head_nesting field = max (arguments_nesting field.arguments) (directives_n
 abbrev pub field_head_obeys : FieldHeadTree → Bool
 field_head_obeys field = arguments_obey NonConst field.arguments && directives_obey NonConst field.directives
 
+abbrev pub field_head_flaws : FieldHeadTree → List Flaw
+field_head_flaws field = arguments_flaws NonConst field.arguments ++ directives_flaws NonConst field.directives
+
 -- INLINE FRAGMENTS
 
 -- An inline fragment without its selection set and without locations.
@@ -64,3 +70,6 @@ inline_fragment_head_nesting fragment = directives_nesting fragment.directives
 
 abbrev pub inline_fragment_head_obeys : InlineFragmentHeadTree → Bool
 inline_fragment_head_obeys fragment = directives_obey NonConst fragment.directives
+
+abbrev pub inline_fragment_head_flaws : InlineFragmentHeadTree → List Flaw
+inline_fragment_head_flaws fragment = directives_flaws NonConst fragment.directives

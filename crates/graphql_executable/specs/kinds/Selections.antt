@@ -1,5 +1,5 @@
 -- Selections and their sets: SelectionSet and Selection, section 2.4; Field, section 2.5; FragmentSpread and InlineFragment, section 2.8.
-use Rattle.std.specs.Prelude.{ℕ, max, List, [], ◌∷◌, ◌++◌, Bool, true, false, ◌&&◌, IsTrue}
+use Rattle.std.specs.Prelude.{ℕ, max, List, [], ◌∷◌, ◌++◌, Bool, true, false, ◌&&◌, IsTrue, Option}
 use Rattle.graphql_text.specs.lexical.Tokens.{lbrace, rbrace, Punctuation}
 use Rattle.graphql_text.specs.grammar.Forms.{Form, token, no_tokens, ◌⨟◌, only_if}
 use Rattle.graphql_text.specs.kinds.Kinds.{Kind}
@@ -10,6 +10,10 @@ use Rattle.graphql_executable.specs.kinds.SelectionHeads.{FieldHeadTree, field_h
 use Rattle.graphql_executable.specs.kinds.SelectionHeads.{field_head_obeys, InlineFragmentHeadTree, inline_fragment_head_form}
 use Rattle.graphql_executable.specs.kinds.SelectionHeads.{inline_fragment_head_shape, inline_fragment_head_nesting}
 use Rattle.graphql_executable.specs.kinds.SelectionHeads.{inline_fragment_head_obeys}
+use Rattle.graphql_text.specs.declared.ill_formed.SideCondition.TheVariants.{HasSelection}
+use Rattle.graphql_text.specs.kinds.Flaws.{Flaw, flaw_unless}
+use Rattle.graphql_executable.specs.kinds.SelectionHeads.{field_head_flaws, inline_fragment_head_flaws}
+use Rattle.graphql_text.specs.lexical.Literals.{NameText}
 
 -- A selection without locations. The selections of a set stand in order, repeated ones too; a field has an empty set where it has none.
 mutual
@@ -87,11 +91,24 @@ abbrev mutual
   selections_obey no_selections = true
   selections_obey (more_selections selection more) = selection_obeys selection && selections_obey more
 
+-- What breaks them, in the order of print. What an inline fragment is of may be named by its type condition.
+abbrev mutual
+  pub selection_flaws : SelectionTree → List Flaw
+  selection_flaws (field_selection head set) = field_head_flaws head ++ selections_flaws set
+  selection_flaws (spread_selection fragment) = fragment_spread_kind.flaws fragment
+  selection_flaws (inline_selection head set) =
+      inline_fragment_head_flaws head ++ (flaw_unless (has_selections set) HasSelection head.type_condition ++ selections_flaws set)
+
+  pub selections_flaws : SelectionTrees → List Flaw
+  selections_flaws no_selections = []
+  selections_flaws (more_selections selection more) = selection_flaws selection ++ selections_flaws more
+
 abbrev pub selection_kind : Kind
 selection_kind = record {
   Tree = SelectionTree;
   form = selection_form;
   obeys = selection_obeys;
+  flaws = selection_flaws;
   shape = λ broken front. selection_shape;
   nesting = selection_nesting;
 }
@@ -108,3 +125,7 @@ selection_set_nesting set = group_nesting (selections_nestings set)
 
 abbrev pub selection_set_obeys : SelectionTrees → Bool
 selection_set_obeys set = has_selections set && selections_obey set
+
+-- the flaws of the selection set of what has this name, if it has one
+abbrev pub selection_set_flaws : Option NameText → SelectionTrees → List Flaw
+selection_set_flaws name set = flaw_unless (has_selections set) HasSelection name ++ selections_flaws set

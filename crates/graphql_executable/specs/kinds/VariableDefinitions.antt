@@ -1,6 +1,6 @@
 -- Variable definitions: VariableDefinition and VariableDefinitions, section 2.10; they may have a description.
 use Rattle.std.specs.Prelude.{ℕ, max, List, [], ◌∷◌, ◌++◌, Bool, false, ◌&&◌, Option, is_some}
-use Rattle.std.specs.List.{list_all}
+use Rattle.std.specs.List.{list_all, flat_map}
 use Rattle.graphql_text.specs.lexical.Literals.{NameText}
 use Rattle.graphql_text.specs.lexical.Tokens.{dollar, colon, Punctuation, Name}
 use Rattle.graphql_text.specs.parts.Descriptions.{described}
@@ -13,6 +13,9 @@ use Rattle.graphql_values.specs.kinds.DefaultValues.{default_value_form, default
 use Rattle.graphql_values.specs.kinds.Directives.{DirectiveTree, directives_form, directives_shape, directives_nesting, directives_obey}
 use Rattle.graphql_values.specs.kinds.TypeReferences.{TypeTree, type_form, type_shape, list_depth}
 use Rattle.graphql_values.specs.kinds.Values.{Const, ValueTree}
+use Rattle.graphql_text.specs.kinds.Flaws.{Flaw}
+use Rattle.graphql_values.specs.kinds.Directives.{directives_flaws}
+use Rattle.graphql_values.specs.kinds.DefaultValues.{default_value_flaws}
 
 -- A variable definition without its description and without locations.
 pub record VariableDefinitionTree : Type 0 where
@@ -30,6 +33,7 @@ variable_definition_body = record {
       ⨟ default_value_form variable.default_value ⨟ directives_form Const variable.directives;
   -- the side conditions are those of the default value and the directives, both in const contexts
   obeys = λ variable. default_value_obeys variable.default_value && directives_obey Const variable.directives;
+  flaws = λ variable. default_value_flaws variable.default_value ++ directives_flaws Const variable.directives;
   -- the layout of a variable definition, behind its description
   shape = λ broken front variable.
       Word (Punctuation dollar) ∷ Word (Name variable.name.text) ∷ Word (Punctuation colon) ∷ Space
@@ -60,6 +64,9 @@ variable_definitions_nesting = parentheses_nesting variable_definition_kind.nest
 
 abbrev pub variable_definitions_obey : List variable_definition_kind.Tree → Bool
 variable_definitions_obey = list_all variable_definition_kind.obeys
+
+abbrev pub variable_definitions_flaws : List variable_definition_kind.Tree → List Flaw
+variable_definitions_flaws = flat_map variable_definition_kind.flaws
 
 -- the list depth of the type that has the most lists
 abbrev pub variables_list_depth : List variable_definition_kind.Tree → ℕ

@@ -29,6 +29,7 @@ use Rattle.graphql_executable.specs.kinds.VariableDefinitions.{variable_definiti
 use Rattle.graphql_executable.specs.lemmas.Heads.{type_condition_part}
 use Rattle.graphql_executable.specs.lemmas.Selections.{selection_set_part}
 use Rattle.graphql_executable.specs.lemmas.VariableDefinitions.{variable_definitions_part}
+use Rattle.graphql_executable.specs.lemmas.FlawsTold.{fragment_definition_tells, operation_definition_tells}
 
 -- FRAGMENT DEFINITIONS
 
@@ -45,7 +46,7 @@ unfoldable pub fragment_definition_part : KindPart fragment_definition_kind [] (
 fragment_definition_part = described_part fragment_definition_body fragment_definition_body_part refl
 
 pub fragment_definition_laws : Laws fragment_definition_kind
-fragment_definition_laws = part_laws fragment_definition_part (λ broken front fragment. refl)
+fragment_definition_laws = part_laws fragment_definition_part (λ broken front fragment. refl) fragment_definition_tells
 
 -- OPERATIONS IN FULL
 
@@ -170,6 +171,7 @@ operation_definition_laws = laws_of {tokens = operation_tokens}
     (λ k. operation_is_read)
     (λ front operation holds. operation_written operation (front && is_bare_query operation) (at_front front (is_bare_query operation)) holds [])
     operation_obeyed
+    operation_definition_tells
 
 -- the words and strings of its layout derive an operation, in shorthand at the front and in full behind something else
 pub operation_derives : KindTokensDeriveBefore operation_definition_kind []

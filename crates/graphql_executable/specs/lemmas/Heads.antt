@@ -22,6 +22,7 @@ use Rattle.graphql_executable.specs.kinds.SelectionHeads.{alias_form, alias_shap
 use Rattle.graphql_executable.specs.kinds.SelectionHeads.{field_head_obeys, InlineFragmentHeadTree, inline_fragment_head_form}
 use Rattle.graphql_executable.specs.kinds.SelectionHeads.{inline_fragment_head_shape, inline_fragment_head_nesting}
 use Rattle.graphql_executable.specs.kinds.SelectionHeads.{inline_fragment_head_obeys}
+use Rattle.graphql_executable.specs.lemmas.FlawsTold.{fragment_spread_tells}
 
 -- FRAGMENT SPREADS
 
@@ -39,7 +40,7 @@ unfolding fragment_spread_shape
 fragment_spread_part = mark_then spread refl spread_rest_part
 
 pub fragment_spread_laws : Laws fragment_spread_kind
-fragment_spread_laws = part_laws fragment_spread_part (λ broken front fragment. refl)
+fragment_spread_laws = part_laws fragment_spread_part (λ broken front fragment. refl) fragment_spread_tells
 
 -- INLINE FRAGMENTS WITHOUT THEIR SELECTION SETS
 

@@ -23,6 +23,7 @@ use Rattle.graphql_executable.specs.kinds.Selections.{selections_shapes, selecti
 use Rattle.graphql_executable.specs.kinds.Selections.{selections_obey, selection_kind, selection_set_form, selection_set_shape}
 use Rattle.graphql_executable.specs.kinds.Selections.{selection_set_nesting, selection_set_obeys}
 use Rattle.graphql_executable.specs.lemmas.Heads.{spread_rest_part, fragment_spread_part, inline_fragment_rest_part, inline_fragment_head_part, field_head_part}
+use Rattle.graphql_executable.specs.lemmas.FlawsTold.{field_tells, inline_fragment_tells, selection_tells}
 
 -- THE TOKENS OF SELECTIONS AS THEY ARE PRINTED, IN FRONT OF THOSE THAT FOLLOW
 
@@ -280,10 +281,10 @@ inline_fragment_part = retold (λ x. record { head = x.0; selections = x.1 }) (�
 -- THE LAWS
 
 pub selection_laws : Laws selection_kind
-selection_laws = part_laws selection_part (λ broken front selection. refl)
+selection_laws = part_laws selection_part (λ broken front selection. refl) selection_tells
 
 pub field_laws : Laws field_kind
-field_laws = part_laws field_part (λ broken front field. refl)
+field_laws = part_laws field_part (λ broken front field. refl) field_tells
 
 pub inline_fragment_laws : Laws inline_fragment_kind
-inline_fragment_laws = part_laws inline_fragment_part (λ broken front fragment. refl)
+inline_fragment_laws = part_laws inline_fragment_part (λ broken front fragment. refl) inline_fragment_tells

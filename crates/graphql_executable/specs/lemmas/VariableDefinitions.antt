@@ -13,6 +13,7 @@ use Rattle.graphql_values.specs.lemmas.Types.{type_part}
 use Rattle.graphql_executable.specs.kinds.VariableDefinitions.{variable_definition_body, variable_definition_kind}
 use Rattle.graphql_executable.specs.kinds.VariableDefinitions.{variable_definitions_form, variable_definitions_shape}
 use Rattle.graphql_executable.specs.kinds.VariableDefinitions.{variable_definitions_nesting, variable_definitions_obey, wants_lines}
+use Rattle.graphql_executable.specs.lemmas.FlawsTold.{variable_definition_tells}
 
 -- VariableDefinition, section 2.10, behind its description
 unfoldable pub variable_definition_body_part : KindPart variable_definition_body excluded_after_input_value_definition (a_punctuator dollar ∷ []) false [] true
@@ -28,7 +29,7 @@ unfoldable pub variable_definition_part :
 variable_definition_part = described_part variable_definition_body variable_definition_body_part refl
 
 pub variable_definition_laws : Laws variable_definition_kind
-variable_definition_laws = part_laws variable_definition_part (λ broken front variable. refl)
+variable_definition_laws = part_laws variable_definition_part (λ broken front variable. refl) variable_definition_tells
 
 -- VariableDefinitions, section 2.10
 unfoldable pub variable_definitions_part :

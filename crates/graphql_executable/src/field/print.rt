@@ -1,6 +1,7 @@
 //! Fields are printed.
 ghost use Rattle.std.specs.Prelude.{◌≡◌, Some, option_copied};
 ghost use Rattle.std.specs.Option.{option_map};
+ghost use Rattle.graphql_text.specs.code.IllFormed.{IsFirstFlaw};
 ghost use Rattle.graphql_text.specs.trees.Leaves.{name_tree};
 ghost use Rattle.graphql_text.specs.layout.Levels.{IsCount};
 ghost use Rattle.graphql_text.specs.parts.Optional.{optional_shape};
@@ -10,34 +11,38 @@ ghost use Rattle.graphql_text.specs.code.Stack.{CanWrite, IsKept};
 ghost use Rattle.graphql_text.specs.code.Writing.{Writes, WritesAnywhere};
 ghost use Rattle.graphql_executable.specs.trees.ExecutableTrees.{field_tree};
 ghost use Rattle.graphql_executable.specs.kinds.Fields.{field_kind};
-ghost use Rattle.graphql_executable.specs.kinds.SelectionHeads.{alias_shape, field_head_nesting, field_head_obeys, field_head_shape};
+ghost use Rattle.graphql_executable.specs.kinds.SelectionHeads.{alias_shape, field_head_nesting, field_head_flaws, field_head_shape};
 ghost use Rattle.graphql_executable.specs.lemmas.Selections.{field_laws};
 
 use crate::field::Field;
 use crate::optional_parts::{write_optional_arguments, write_optional_directives};
 use crate::selection::print::{
-    are_selections_well_formed, find_selection_set_nesting, finish_sets, open_field,
+    find_ill_formed_in_field, find_selection_set_nesting, finish_sets, open_field,
 };
 use crate::stacks::ExecutableStacks;
 use graphql_base::name::Name;
 use graphql_text::engine::{Serialize, Syntax, SyntaxTree};
+use graphql_text::ill_formed::IllFormed;
 use graphql_text::writers::{
     Depths, Place, Stack, Start, Target, Written, write_name, write_name_then, write_whole,
 };
 use graphql_values::writers::{
-    Constness, ValueEntry, are_arguments_well_formed, are_directives_well_formed,
-    find_arguments_nesting, find_directives_nesting,
+    Constness, ValueEntry, find_arguments_nesting, find_directives_nesting,
+    find_ill_formed_argument, find_ill_formed_directive,
 };
 use std::alloc::AllocError;
 use std::fmt;
 
-/// Whether the arguments and the directives of a field are well formed.
-#[tactic(auto, using(crate::proofs::layout::SelectionShapes::field_head_is))]
-pub(crate) fn is_field_head_well_formed(field: &Field) -> bool
-    ensures { result ≡ field_head_obeys (field_tree field.now).head }
+/// Where the arguments and the directives of a field aren't well formed.
+#[tactic(auto, using(crate::proofs::layout::SelectionShapes::field_head_is, graphql_text::proofs::kinds::FlawsTold::flaw_steps))]
+pub(crate) fn find_ill_formed_field_head(field: &Field) -> Option<IllFormed<'_>>
+    ensures { IsFirstFlaw (field_head_flaws (field_tree field.now).head) result }
 {
-    are_arguments_well_formed(&field.arguments, Constness::NonConst)
-        && are_directives_well_formed(&field.directives, Constness::NonConst)
+    let found = find_ill_formed_argument(&field.arguments, Constness::NonConst);
+    if found.is_some() {
+        return found;
+    }
+    find_ill_formed_directive(&field.directives, Constness::NonConst)
 }
 
 /// How deep the groups in the arguments and the directives of a field stand in one another. `None` if it is above
@@ -96,13 +101,19 @@ impl Field {
         Serialize::new(self)
     }
 
+    /// The first flaw of its arguments, its directives or its selections. Variables are allowed.
+    pub fn find_ill_formed(&self) -> Option<IllFormed<'_>>
+        ensures { IsFirstFlaw (field_kind.flaws (field_tree self.now)) result }
+    {
+        find_ill_formed_in_field(self)
+    }
+
     /// Whether no fragment spread in it is named `on`, each inline fragment in it has a selection, and no enum value in
     /// its arguments and directives is `true`, `false` or `null`. Variables are allowed.
-    #[tactic(auto, using(crate::proofs::layout::SelectionShapes::field_selections_are))]
     pub fn is_well_formed(&self) -> bool
         ensures { result ≡ field_kind.obeys (field_tree self.now) }
     {
-        is_field_head_well_formed(self) && are_selections_well_formed(&self.selection_set)
+        SyntaxTree::is_well_formed(self)
     }
 }
 
@@ -115,8 +126,8 @@ impl SyntaxTree for Field {
 
     ghost list_depth = { no_types };
 
-    fn is_well_formed(&self) -> bool {
-        Field::is_well_formed(self)
+    fn find_ill_formed(&self) -> Option<IllFormed<'_>> {
+        Field::find_ill_formed(self)
     }
 
     #[tactic(auto, using(crate::proofs::layout::SelectionShapes::field_selections_are))]

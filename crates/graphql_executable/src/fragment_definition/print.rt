@@ -1,5 +1,6 @@
 //! Fragment definitions are printed.
 ghost use Rattle.std.specs.Prelude.{◌≡◌, Some};
+ghost use Rattle.graphql_text.specs.code.IllFormed.{IsFirstFlaw};
 ghost use Rattle.graphql_text.specs.kinds.PrintedKinds.{no_types};
 ghost use Rattle.graphql_text.specs.kinds.Printing.{IsDefaultPrint, default_bytes};
 ghost use Rattle.graphql_executable.specs.trees.ExecutableTrees.{fragment_definition_tree};
@@ -9,15 +10,16 @@ ghost use Rattle.graphql_executable.specs.lemmas.Definitions.{fragment_definitio
 use crate::fragment_definition::FragmentDefinition;
 use crate::fragment_spread::print::is_fragment_name;
 use crate::selection::print::{
-    find_selection_set_nesting, is_selection_set_well_formed, write_selection_set,
+    find_ill_formed_set, find_selection_set_nesting, write_selection_set,
 };
 use crate::stacks::ExecutableStacks;
 use graphql_text::engine::{Serialize, Syntax, SyntaxTree};
+use graphql_text::ill_formed::{IllFormed, SideCondition};
 use graphql_text::writers::{
-    Depths, Place, Start, Target, Written, write_leading_description, write_name, write_whole,
-    write_words,
+    Depths, Place, Start, Target, Written, ill_formed_unless, write_leading_description,
+    write_name, write_whole, write_words,
 };
-use graphql_values::writers::{Constness, are_directives_well_formed, find_directives_nesting};
+use graphql_values::writers::{Constness, find_directives_nesting, find_ill_formed_directive};
 use std::alloc::AllocError;
 use std::fmt;
 
@@ -29,13 +31,30 @@ impl FragmentDefinition {
         Serialize::new(self)
     }
 
+    /// That it is named `on`, or the first flaw of its directives, or else that it has no selection, or the first flaw
+    /// of its selections.
+    #[tactic(auto, using(graphql_text::proofs::kinds::FlawsTold::flaw_steps))]
+    pub fn find_ill_formed(&self) -> Option<IllFormed<'_>>
+        ensures { IsFirstFlaw
+            (fragment_definition_kind.flaws (fragment_definition_tree self.now)) result }
+    {
+        let is_free = is_fragment_name(self.name.as_str());
+        let found = ill_formed_unless(is_free, SideCondition::IsNotOn, Some(&self.name));
+        if found.is_some() {
+            return found;
+        }
+        let found = find_ill_formed_directive(&self.directives, Constness::NonConst);
+        if found.is_some() {
+            return found;
+        }
+        find_ill_formed_set(Some(&self.name), &self.selection_set)
+    }
+
     /// Whether it isn't named `on`, it has a selection, and its directives and selections are well formed.
     pub fn is_well_formed(&self) -> bool
         ensures { result ≡ fragment_definition_kind.obeys (fragment_definition_tree self.now) }
     {
-        is_fragment_name(self.name.as_str())
-            && are_directives_well_formed(&self.directives, Constness::NonConst)
-            && is_selection_set_well_formed(&self.selection_set)
+        SyntaxTree::is_well_formed(self)
     }
 }
 
@@ -48,8 +67,8 @@ impl SyntaxTree for FragmentDefinition {
 
     ghost list_depth = { no_types };
 
-    fn is_well_formed(&self) -> bool {
-        FragmentDefinition::is_well_formed(self)
+    fn find_ill_formed(&self) -> Option<IllFormed<'_>> {
+        FragmentDefinition::find_ill_formed(self)
     }
 
     fn find_depths(&self) -> Option<Depths> {

@@ -1,5 +1,6 @@
 //! Fragment spreads are printed.
 ghost use Rattle.std.specs.Prelude.{◌≡◌, Some};
+ghost use Rattle.graphql_text.specs.code.IllFormed.{IsFirstFlaw};
 ghost use Rattle.graphql_text.specs.kinds.PrintedKinds.{no_types};
 ghost use Rattle.graphql_text.specs.kinds.Printing.{IsDefaultPrint, default_bytes};
 ghost use Rattle.graphql_executable.specs.trees.ExecutableTrees.{fragment_spread_tree};
@@ -10,10 +11,12 @@ ghost use Rattle.graphql_executable.specs.lemmas.Heads.{fragment_spread_laws};
 use crate::fragment_spread::FragmentSpread;
 use crate::optional_parts::write_optional_directives;
 use graphql_text::engine::{Serialize, Syntax, SyntaxTree};
+use graphql_text::ill_formed::{IllFormed, SideCondition};
 use graphql_text::writers::{
-    Depths, Place, Stack, Start, Target, Written, write_name, write_whole, write_words,
+    Depths, Place, Stack, Start, Target, Written, ill_formed_unless, write_name, write_whole,
+    write_words,
 };
-use graphql_values::writers::{Constness, ValueEntry, are_directives_well_formed};
+use graphql_values::writers::{Constness, ValueEntry, find_ill_formed_directive};
 use std::alloc::AllocError;
 use std::fmt;
 
@@ -32,13 +35,25 @@ impl FragmentSpread {
         Serialize::new(self)
     }
 
+    /// That it is named `on`, or the first flaw of its directives. Variables are allowed.
+    #[tactic(auto, using(graphql_text::proofs::kinds::FlawsTold::flaw_steps))]
+    pub fn find_ill_formed(&self) -> Option<IllFormed<'_>>
+        ensures { IsFirstFlaw (fragment_spread_kind.flaws (fragment_spread_tree self.now)) result }
+    {
+        let is_free = is_fragment_name(self.fragment_name.as_str());
+        let found = ill_formed_unless(is_free, SideCondition::IsNotOn, Some(&self.fragment_name));
+        if found.is_some() {
+            return found;
+        }
+        find_ill_formed_directive(&self.directives, Constness::NonConst)
+    }
+
     /// Whether it isn't named `on`, and no enum value in its directives is `true`, `false` or `null`. Variables are
     /// allowed.
     pub fn is_well_formed(&self) -> bool
         ensures { result ≡ fragment_spread_kind.obeys (fragment_spread_tree self.now) }
     {
-        is_fragment_name(self.fragment_name.as_str())
-            && are_directives_well_formed(&self.directives, Constness::NonConst)
+        SyntaxTree::is_well_formed(self)
     }
 }
 
@@ -51,8 +66,8 @@ impl SyntaxTree for FragmentSpread {
 
     ghost list_depth = { no_types };
 
-    fn is_well_formed(&self) -> bool {
-        FragmentSpread::is_well_formed(self)
+    fn find_ill_formed(&self) -> Option<IllFormed<'_>> {
+        FragmentSpread::find_ill_formed(self)
     }
 
     fn find_depths(&self) -> Option<Depths> {

@@ -1,6 +1,7 @@
 //! Inline fragments are printed.
 ghost use Rattle.std.specs.Prelude.{◌≡◌, Some, option_copied};
 ghost use Rattle.std.specs.Option.{option_map};
+ghost use Rattle.graphql_text.specs.code.IllFormed.{IsFirstFlaw};
 ghost use Rattle.graphql_text.specs.trees.Leaves.{name_tree};
 ghost use Rattle.graphql_text.specs.layout.Levels.{IsCount};
 ghost use Rattle.graphql_text.specs.parts.Optional.{optional_shape};
@@ -11,32 +12,37 @@ ghost use Rattle.graphql_text.specs.code.Writing.{Writes, WritesAnywhere};
 ghost use Rattle.graphql_executable.specs.trees.ExecutableTrees.{inline_fragment_tree};
 ghost use Rattle.graphql_executable.specs.kinds.FragmentNames.{type_condition_shape};
 ghost use Rattle.graphql_executable.specs.kinds.InlineFragments.{inline_fragment_kind};
-ghost use Rattle.graphql_executable.specs.kinds.SelectionHeads.{inline_fragment_head_nesting, inline_fragment_head_obeys, inline_fragment_head_shape};
+ghost use Rattle.graphql_executable.specs.kinds.SelectionHeads.{inline_fragment_head_nesting, inline_fragment_head_flaws, inline_fragment_head_shape};
 ghost use Rattle.graphql_executable.specs.lemmas.Selections.{inline_fragment_laws};
 
 use crate::inline_fragment::InlineFragment;
 use crate::optional_parts::write_optional_directives;
 use crate::selection::print::{
-    find_selection_set_nesting, finish_sets, is_selection_set_well_formed, open_inline_fragment,
+    find_ill_formed_in_inline_fragment, find_selection_set_nesting, finish_sets,
+    open_inline_fragment,
 };
 use crate::stacks::ExecutableStacks;
 use graphql_base::name::NamedType;
 use graphql_text::engine::{Serialize, Syntax, SyntaxTree};
+use graphql_text::ill_formed::IllFormed;
 use graphql_text::writers::{
     Depths, Place, Stack, Start, Target, Written, write_name, write_whole, write_words,
 };
 use graphql_values::writers::{
-    Constness, ValueEntry, are_directives_well_formed, find_directives_nesting,
+    Constness, ValueEntry, find_directives_nesting, find_ill_formed_directive,
 };
 use std::alloc::AllocError;
 use std::fmt;
 
-/// Whether the directives of an inline fragment are well formed.
+/// Where the directives of an inline fragment aren't well formed.
 #[tactic(auto, using(crate::proofs::layout::SelectionShapes::inline_fragment_head_is))]
-pub(crate) fn is_inline_fragment_head_well_formed(fragment: &InlineFragment) -> bool
-    ensures { result ≡ inline_fragment_head_obeys (inline_fragment_tree fragment.now).head }
+pub(crate) fn find_ill_formed_inline_fragment_head(
+    fragment: &InlineFragment,
+) -> Option<IllFormed<'_>>
+    ensures { IsFirstFlaw
+        (inline_fragment_head_flaws (inline_fragment_tree fragment.now).head) result }
 {
-    are_directives_well_formed(&fragment.directives, Constness::NonConst)
+    find_ill_formed_directive(&fragment.directives, Constness::NonConst)
 }
 
 /// How deep the groups in the directives of an inline fragment stand in one another. `None` if it is above
@@ -93,14 +99,20 @@ impl InlineFragment {
         Serialize::new(self)
     }
 
+    /// The first flaw of its directives, or else that it has no selection, or the first flaw of its selections.
+    /// Variables are allowed.
+    pub fn find_ill_formed(&self) -> Option<IllFormed<'_>>
+        ensures { IsFirstFlaw (inline_fragment_kind.flaws (inline_fragment_tree self.now)) result }
+    {
+        find_ill_formed_in_inline_fragment(self)
+    }
+
     /// Whether it has a selection, and so has each inline fragment in it; no fragment spread in it is named `on`; and
     /// no enum value in its arguments and directives is `true`, `false` or `null`. Variables are allowed.
-    #[tactic(auto, using(crate::proofs::layout::SelectionShapes::inline_selections_are))]
     pub fn is_well_formed(&self) -> bool
         ensures { result ≡ inline_fragment_kind.obeys (inline_fragment_tree self.now) }
     {
-        is_inline_fragment_head_well_formed(self)
-            && is_selection_set_well_formed(&self.selection_set)
+        SyntaxTree::is_well_formed(self)
     }
 }
 
@@ -113,8 +125,8 @@ impl SyntaxTree for InlineFragment {
 
     ghost list_depth = { no_types };
 
-    fn is_well_formed(&self) -> bool {
-        InlineFragment::is_well_formed(self)
+    fn find_ill_formed(&self) -> Option<IllFormed<'_>> {
+        InlineFragment::find_ill_formed(self)
     }
 
     #[tactic(auto, using(crate::proofs::layout::SelectionShapes::inline_selections_are))]

@@ -1,6 +1,7 @@
 //! Operations are printed.
 ghost use Rattle.std.specs.Prelude.{◌≡◌, ◌&&◌, Some, option_copied};
 ghost use Rattle.std.specs.Option.{option_map};
+ghost use Rattle.graphql_text.specs.code.IllFormed.{IsFirstFlaw};
 ghost use Rattle.graphql_text.specs.layout.Layout.{is_front};
 ghost use Rattle.graphql_text.specs.trees.Leaves.{name_tree};
 ghost use Rattle.graphql_text.specs.parts.Optional.{optional_shape};
@@ -16,19 +17,20 @@ ghost use Rattle.graphql_executable.specs.lemmas.Definitions.{operation_definiti
 use crate::operation_definition::OperationDefinition;
 use crate::optional_parts::write_optional_directives;
 use crate::selection::print::{
-    find_selection_set_nesting, is_selection_set_well_formed, write_selection_set,
+    find_ill_formed_set, find_selection_set_nesting, write_selection_set,
 };
 use crate::stacks::ExecutableStacks;
 use crate::variable_definition::print::some_variables_want_lines;
 use graphql_base::name::Name;
 use graphql_text::engine::{Serialize, Syntax, SyntaxTree};
+use graphql_text::ill_formed::IllFormed;
 use graphql_text::writers::{
-    Depths, Place, Start, Target, Written, are_parts_well_formed, find_parts_depths,
+    Depths, Place, Start, Target, Written, find_ill_formed_part, find_parts_depths,
     write_first_indent, write_leading_description, write_name, write_words,
 };
 use graphql_values::operation_type::OperationType;
 use graphql_values::writers::{
-    Constness, are_directives_well_formed, find_directives_nesting, write_parameters,
+    Constness, find_directives_nesting, find_ill_formed_directive, write_parameters,
 };
 use std::alloc::AllocError;
 use std::fmt;
@@ -105,14 +107,30 @@ impl OperationDefinition {
         Serialize::new(self)
     }
 
+    /// The first flaw of its variables, or else of its directives, or else that it has no selection, or the first flaw
+    /// of its selections.
+    #[tactic(auto, using(graphql_text::proofs::kinds::FlawsTold::flaw_steps))]
+    pub fn find_ill_formed(&self) -> Option<IllFormed<'_>>
+        ensures { IsFirstFlaw
+            (operation_definition_kind.flaws (operation_definition_tree self.now)) result }
+    {
+        let found = find_ill_formed_part(&self.variables);
+        if found.is_some() {
+            return found;
+        }
+        let found = find_ill_formed_directive(&self.directives, Constness::NonConst);
+        if found.is_some() {
+            return found;
+        }
+        find_ill_formed_set(self.name.as_ref(), &self.selection_set)
+    }
+
     /// Whether it has a selection, no variable stands in the default value or the directives of one, and its variables,
     /// directives and selections are well formed.
     pub fn is_well_formed(&self) -> bool
         ensures { result ≡ operation_definition_kind.obeys (operation_definition_tree self.now) }
     {
-        are_parts_well_formed(&self.variables)
-            && are_directives_well_formed(&self.directives, Constness::NonConst)
-            && is_selection_set_well_formed(&self.selection_set)
+        SyntaxTree::is_well_formed(self)
     }
 }
 
@@ -125,8 +143,8 @@ impl SyntaxTree for OperationDefinition {
 
     ghost list_depth = { λ operation. variables_list_depth operation.body.variables };
 
-    fn is_well_formed(&self) -> bool {
-        OperationDefinition::is_well_formed(self)
+    fn find_ill_formed(&self) -> Option<IllFormed<'_>> {
+        OperationDefinition::find_ill_formed(self)
     }
 
     fn find_depths(&self) -> Option<Depths> {

@@ -1,5 +1,7 @@
 //! Selections are printed, and selection sets.
-ghost use Rattle.std.specs.Prelude.{◌≡◌, ◌+◌, ◌≤◌, ◌^◌, ◌∷◌, IsTrue, Some, false};
+ghost use Rattle.std.specs.Prelude.{◌≡◌, ◌+◌, ◌≤◌, ◌^◌, ◌∷◌, IsTrue, Some, false, option_copied};
+ghost use Rattle.std.specs.Option.{option_map};
+ghost use Rattle.graphql_text.specs.code.IllFormed.{IsFirstFlaw};
 ghost use Rattle.graphql_text.specs.code.Groups.{curly_rest};
 ghost use Rattle.graphql_text.specs.layout.Layout.{Space};
 ghost use Rattle.graphql_text.specs.layout.Levels.{Fits, IsCount};
@@ -8,67 +10,108 @@ ghost use Rattle.graphql_text.specs.kinds.PrintedKinds.{no_types};
 ghost use Rattle.graphql_text.specs.kinds.Printing.{IsDefaultPrint, default_bytes};
 ghost use Rattle.graphql_text.specs.code.Stack.{CanWrite, IsKept, IsReady, stack_entries, stack_room};
 ghost use Rattle.graphql_text.specs.code.Writing.{Writes, WritesBeginning};
+ghost use Rattle.graphql_text.specs.trees.Leaves.{name_tree};
 ghost use Rattle.graphql_executable.specs.code.ExecutableStacks.{AreAllKept, CanWriteExecutable};
 ghost use Rattle.graphql_executable.specs.trees.ExecutableTrees.{field_tree, inline_fragment_tree, selection_tree, selection_trees};
-ghost use Rattle.graphql_executable.specs.kinds.Fields.{selection_of_field};
-ghost use Rattle.graphql_executable.specs.kinds.InlineFragments.{selection_of_inline_fragment};
+ghost use Rattle.graphql_executable.specs.kinds.Fields.{field_kind, selection_of_field};
+ghost use Rattle.graphql_executable.specs.kinds.InlineFragments.{inline_fragment_kind, selection_of_inline_fragment};
 ghost use Rattle.graphql_executable.specs.code.SelectionWalk.{CanFinish, CanGoOn, CanOpen, Finishes, GoesOn, LoseNoRoom, Opens, OpensSelection, has_set, need_with, set_level, stack_items};
-ghost use Rattle.graphql_executable.specs.kinds.Selections.{optional_braced_shape, selection_kind, selection_nesting, selection_obeys, selection_set_nesting, selection_set_obeys, selection_set_shape, selection_shape, selections_obey, selections_shapes};
+ghost use Rattle.graphql_executable.specs.kinds.Selections.{optional_braced_shape, selection_flaws, selection_kind, selection_nesting, selection_set_flaws, selection_set_nesting, selection_set_shape, selection_shape, selections_flaws, selections_shapes};
 ghost use Rattle.graphql_executable.specs.lemmas.Selections.{selection_laws};
 
 use crate::field::Field;
-use crate::field::print::{find_field_head_nesting, is_field_head_well_formed, write_field_head};
+use crate::field::print::{find_field_head_nesting, find_ill_formed_field_head, write_field_head};
 use crate::inline_fragment::InlineFragment;
 use crate::inline_fragment::print::{
-    find_inline_fragment_head_nesting, is_inline_fragment_head_well_formed,
+    find_ill_formed_inline_fragment_head, find_inline_fragment_head_nesting,
     write_inline_fragment_head,
 };
 use crate::selection::Selection;
 use crate::stacks::{ExecutableStacks, SelectionEntry};
+use graphql_base::name::Name;
 use graphql_text::engine::{Serialize, Syntax, SyntaxTree};
+use graphql_text::ill_formed::{IllFormed, SideCondition};
 use graphql_text::writers::{
-    Depths, Place, Stack, Start, Target, Written, write_soft, write_whole, write_words,
+    Depths, Place, Stack, Start, Target, Written, ill_formed_unless, write_soft, write_whole,
+    write_words,
 };
 use graphql_values::writers::{ValueEntry, find_directives_nesting};
 use std::alloc::{AllocError, Global};
 use std::fmt;
 
-/// Whether a selection is well formed: no fragment spread in it is named `on`, each inline fragment in it has a
-/// selection, and no enum value in its arguments and directives is `true`, `false` or `null`.
-#[cycle(selection_is_well_formed)]
-#[tactic(auto, using(crate::proofs::layout::SelectionShapes::selection_obeys_steps))]
-fn is_selection_well_formed(selection: &Selection) -> bool
-    ensures { result ≡ selection_obeys (selection_tree selection.now) }
+/// Where a selection isn't well formed: a fragment spread in it is named `on`, an inline fragment in it has no
+/// selection, or an enum value in its arguments and directives is `true`, `false` or `null`.
+#[cycle(find_ill_formed_selection)]
+#[tactic(auto, using(crate::proofs::layout::SelectionShapes::selection_flaws_steps))]
+fn find_ill_formed_in(selection: &Selection) -> Option<IllFormed<'_>>
+    ensures { IsFirstFlaw (selection_flaws (selection_tree selection.now)) result }
 {
-    match selection {
-        Selection::Field(field) => is_field_head_well_formed(field)
-            && are_selections_well_formed(&field.selection_set),
-        Selection::FragmentSpread(spread) => spread.is_well_formed(),
-        Selection::InlineFragment(fragment) => is_inline_fragment_head_well_formed(fragment)
-            && is_selection_set_well_formed(&fragment.selection_set),
-    }
+    let found = match selection {
+        Selection::Field(field) => find_ill_formed_in_field(field),
+        Selection::FragmentSpread(spread) => spread.find_ill_formed(),
+        Selection::InlineFragment(fragment) => find_ill_formed_in_inline_fragment(fragment),
+    };
+    Some(found?.within(selection.location()))
 }
 
-/// Whether each selection is well formed.
-#[cycle(selection_is_well_formed)]
-pub(crate) fn are_selections_well_formed(selections: &[Selection]) -> bool
-    ensures { result ≡ selections_obey (selection_trees selections.now) }
+/// Where a field isn't well formed: the first flaw of its arguments, its directives or its selections.
+#[cycle(find_ill_formed_selection)]
+#[tactic(auto, using(crate::proofs::layout::SelectionShapes::field_selections_are, graphql_text::proofs::kinds::FlawsTold::flaw_steps))]
+pub(crate) fn find_ill_formed_in_field(field: &Field) -> Option<IllFormed<'_>>
+    ensures { IsFirstFlaw (field_kind.flaws (field_tree field.now)) result }
+{
+    let found = find_ill_formed_field_head(field);
+    if found.is_some() {
+        return found;
+    }
+    find_ill_formed_selection(&field.selection_set)
+}
+
+/// Where an inline fragment isn't well formed: the first flaw of its directives, or else of its selection set.
+#[cycle(find_ill_formed_selection)]
+#[tactic(auto, using(crate::proofs::layout::SelectionShapes::inline_fragment_steps, graphql_text::proofs::kinds::FlawsTold::flaw_steps))]
+pub(crate) fn find_ill_formed_in_inline_fragment(fragment: &InlineFragment) -> Option<IllFormed<'_>>
+    ensures { IsFirstFlaw (inline_fragment_kind.flaws (inline_fragment_tree fragment.now)) result }
+{
+    let found = find_ill_formed_inline_fragment_head(fragment);
+    if found.is_some() {
+        return found;
+    }
+    find_ill_formed_set(fragment.type_condition.as_ref(), &fragment.selection_set)
+}
+
+/// Where selections aren't well formed: the first of their flaws.
+#[cycle(find_ill_formed_selection)]
+#[tactic(auto, using(graphql_text::proofs::kinds::FlawsTold::flaw_steps))]
+pub(crate) fn find_ill_formed_selection(selections: &[Selection]) -> Option<IllFormed<'_>>
+    ensures { IsFirstFlaw (selections_flaws (selection_trees selections.now)) result }
 {
     for selection in selections {
-        if !is_selection_well_formed(selection) {
-            return false;
+        let found = find_ill_formed_in(selection);
+        if found.is_some() {
+            return found;
         }
     }
-    true
+    None
 }
 
-/// Whether there is a selection, and each is well formed.
-#[cycle(selection_is_well_formed)]
-#[tactic(auto, using(crate::proofs::layout::SelectionShapes::has_selections_is))]
-pub(crate) fn is_selection_set_well_formed(selections: &[Selection]) -> bool
-    ensures { result ≡ selection_set_obeys (selection_trees selections.now) }
+/// Where the selection set of what has this name isn't well formed: it has no selection, or one that isn't.
+#[cycle(find_ill_formed_selection)]
+#[tactic(auto, using(crate::proofs::layout::SelectionShapes::has_selections_is, graphql_text::proofs::kinds::FlawsTold::flaw_steps))]
+pub(crate) fn find_ill_formed_set<'a>(
+    name: Option<&'a Name>,
+    selections: &'a [Selection],
+) -> Option<IllFormed<'a>>
+    ensures { IsFirstFlaw
+        (selection_set_flaws (option_map name_tree (option_copied name.entry))
+        (selection_trees selections.now)) result }
 {
-    !selections.is_empty() && are_selections_well_formed(selections)
+    let has_selections = !selections.is_empty();
+    let found = ill_formed_unless(has_selections, SideCondition::HasSelection, name);
+    if found.is_some() {
+        return found;
+    }
+    find_ill_formed_selection(selections)
 }
 
 /// Whether a selection is a field or a fragment spread alone, without arguments, directives and selections: most are.
@@ -414,12 +457,20 @@ impl Selection {
         Serialize::new(self)
     }
 
+    /// The first fragment spread in it that is named `on`, inline fragment that has no selection, or enum value in its
+    /// arguments and directives that is `true`, `false` or `null`. Variables are allowed.
+    pub fn find_ill_formed(&self) -> Option<IllFormed<'_>>
+        ensures { IsFirstFlaw (selection_kind.flaws (selection_tree self.now)) result }
+    {
+        find_ill_formed_in(self)
+    }
+
     /// Whether no fragment spread in it is named `on`, each inline fragment in it has a selection, and no enum value in
     /// its arguments and directives is `true`, `false` or `null`. Variables are allowed.
     pub fn is_well_formed(&self) -> bool
         ensures { result ≡ selection_kind.obeys (selection_tree self.now) }
     {
-        is_selection_well_formed(self)
+        SyntaxTree::is_well_formed(self)
     }
 
     /// The allocator of its directives.
@@ -441,8 +492,8 @@ impl SyntaxTree for Selection {
 
     ghost list_depth = { no_types };
 
-    fn is_well_formed(&self) -> bool {
-        Selection::is_well_formed(self)
+    fn find_ill_formed(&self) -> Option<IllFormed<'_>> {
+        Selection::find_ill_formed(self)
     }
 
     fn find_depths(&self) -> Option<Depths> {

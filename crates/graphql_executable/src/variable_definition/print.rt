@@ -1,6 +1,7 @@
 //! Variable definitions are printed.
 ghost use Rattle.std.specs.Prelude.{◌≡◌, Some};
 ghost use Rattle.std.specs.List.{list_any};
+ghost use Rattle.graphql_text.specs.code.IllFormed.{IsFirstFlaw};
 ghost use Rattle.graphql_text.specs.kinds.Printing.{IsDefaultPrint, default_bytes};
 ghost use Rattle.graphql_values.specs.kinds.TypeReferences.{list_depth};
 ghost use Rattle.graphql_executable.specs.trees.ExecutableTrees.{variable_definition_tree, variable_definition_trees};
@@ -11,13 +12,14 @@ use crate::optional_parts::write_optional_directives;
 use crate::variable_definition::VariableDefinition;
 use graphql_base::node::Node;
 use graphql_text::engine::{Serialize, Syntax, SyntaxTree};
+use graphql_text::ill_formed::IllFormed;
 use graphql_text::writers::{
     Depths, Place, Start, Target, Written, write_leading_description, write_name_then, write_whole,
     write_words,
 };
 use graphql_values::writers::{
-    Constness, Stacks, are_directives_well_formed, find_default_value_nesting,
-    find_directives_nesting, find_list_depth, is_default_value_well_formed, write_default_value,
+    Constness, Stacks, find_default_value_nesting, find_directives_nesting,
+    find_ill_formed_default_value, find_ill_formed_directive, find_list_depth, write_default_value,
     write_type,
 };
 use std::alloc::AllocError;
@@ -44,13 +46,26 @@ impl VariableDefinition {
         Serialize::new(self)
     }
 
+    /// The first enum value in the default value and the directives that is `true`, `false` or `null`, or variable in
+    /// them: both are constant.
+    #[tactic(auto, using(graphql_text::proofs::kinds::FlawsTold::flaw_steps))]
+    pub fn find_ill_formed(&self) -> Option<IllFormed<'_>>
+        ensures { IsFirstFlaw
+            (variable_definition_kind.flaws (variable_definition_tree self.now)) result }
+    {
+        let found = find_ill_formed_default_value(self.default_value.as_ref());
+        if found.is_some() {
+            return found;
+        }
+        find_ill_formed_directive(&self.directives, Constness::Const)
+    }
+
     /// Whether no enum value in the default value and the directives is `true`, `false` or `null`, and no variable
     /// stands in them: both are constant.
     pub fn is_well_formed(&self) -> bool
         ensures { result ≡ variable_definition_kind.obeys (variable_definition_tree self.now) }
     {
-        is_default_value_well_formed(self.default_value.as_ref())
-            && are_directives_well_formed(&self.directives, Constness::Const)
+        SyntaxTree::is_well_formed(self)
     }
 }
 
@@ -63,8 +78,8 @@ impl SyntaxTree for VariableDefinition {
 
     ghost list_depth = { λ variable. list_depth variable.body.type };
 
-    fn is_well_formed(&self) -> bool {
-        VariableDefinition::is_well_formed(self)
+    fn find_ill_formed(&self) -> Option<IllFormed<'_>> {
+        VariableDefinition::find_ill_formed(self)
     }
 
     fn find_depths(&self) -> Option<Depths> {

@@ -1,8 +1,9 @@
--- The laws of a kind, from five facts: its shape spells its tokens, its brackets fit its marks and nest as deep as the
--- tree, its tokens derive it, one token list derives one tree, and what is derived obeys the side conditions.
+-- The laws of a kind, from six facts: its shape spells its tokens, its brackets fit its marks and nest as deep as the
+-- tree, its tokens derive it, one token list derives one tree, what is derived obeys the side conditions, and flaws tell them.
 use Rattle.std.proofs.Common.{ℕ, ◌≡◌, Bool, true, false, Some, List, [], Option, IsTrue, refl, sym, ap, ◌∙◌, subst, encode_utf8_all}
 use Rattle.std.proofs.lemmas.Str.{encodes_same}
 use Rattle.graphql_text.specs.lexical.Tokens.{Token}
+use Rattle.graphql_text.specs.kinds.Flaws.{TellsFlaws}
 use Rattle.graphql_text.specs.kinds.Kinds.{Kind, layout_of}
 use Rattle.graphql_text.specs.layout.Layout.{IsBlankMode, is_broken, is_front}
 use Rattle.graphql_text.proofs.parts.PartTokens.{Tail}
@@ -26,6 +27,7 @@ pub record Facts (kind : Kind) (tokens : Bool → kind.Tree → Tail) : Type 0 w
   pub once : (tree other : kind.Tree) (ts : List Token) → kind.form tree ts [] → kind.form other ts [] →
       tree ≡ other
   pub obeyed : (tree : kind.Tree) (ts : List Token) → kind.form tree ts [] → IsTrue (kind.obeys tree)
+  pub tells : TellsFlaws kind.obeys kind.flaws
 
 module _ {kind : Kind} {tokens : Bool → kind.Tree → Tail} where
   gives : Facts kind tokens → (broken front : Bool) (tree : kind.Tree) →
@@ -68,6 +70,7 @@ module _ {kind : Kind} {tokens : Bool → kind.Tree → Tail} where
     one_tree = one facts;
     one_tree_of_bytes = one_of_bytes facts;
     read_obeys = λ text tree r. facts.obeyed tree r.1 r.3;
+    tells = facts.tells;
     same_text = λ tree other mode level obeys obeys' blank. (
       (λ same.
           one facts (layout_of kind mode level tree) tree other (back facts tree mode level obeys blank)
@@ -92,11 +95,12 @@ pub laws_of : {kind : Kind} {tokens : Bool → kind.Tree → Tail} {parser : Par
     ((broken front : Bool) (tree : kind.Tree) → Told 0 (kind.shape broken front tree) (tokens front tree) false (kind.nesting tree)) →
     ((k : ℕ) (tree : kind.Tree) → Reads k parser tree (kind.form tree) excluded first empty) →
     ((front : Bool) (tree : kind.Tree) → IsTrue (kind.obeys tree) → kind.form tree (tokens front tree []) []) →
-    ((tree : kind.Tree) (ts rest : List Token) → kind.form tree ts rest → IsTrue (kind.obeys tree)) → Laws kind
-laws_of {kind} {tokens} told is_read written obeyed = laws {tokens = tokens} (record {
+    ((tree : kind.Tree) (ts rest : List Token) → kind.form tree ts rest → IsTrue (kind.obeys tree)) → TellsFlaws kind.obeys kind.flaws → Laws kind
+laws_of {kind} {tokens} told is_read written obeyed tells = laws {tokens = tokens} (record {
   spelt = λ broken front tree. let is = told broken front tree in is.spelt;
   bracketed = λ broken front tree. let is = told broken front tree in whole is.bracketed;
   written = written;
   once = λ tree other ts x y. (one_reading (is_read _ tree) (is_read _ other) x y refl refl).0;
   obeyed = λ tree ts x. obeyed tree ts [] x;
+  tells = tells;
 })

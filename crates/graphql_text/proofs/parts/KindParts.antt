@@ -1,15 +1,18 @@
 -- Kinds, put together of parts: a kind by itself, one that is described, and an extension.
 use Rattle.std.proofs.Common.{ℕ, refl, subst, codes, ◌≡◌, Bool, true, false, List, [], ◌∷◌, ◌++◌, Option, Some, None}
-use Rattle.graphql_text.specs.lexical.Literals.{StringText}
+use Rattle.graphql_text.specs.lexical.Literals.{NameText, StringText}
 use Rattle.graphql_text.specs.lexical.Tokens.{Token, StringValue}
 use Rattle.graphql_text.specs.parts.Descriptions.{description_form, description_shape, described}
 use Rattle.graphql_text.specs.parts.Extensions.{extension}
 use Rattle.graphql_text.specs.grammar.Forms.{TokenClass, a_keyword, a_string_value, token, no_tokens, ◌⨟◌}
+use Rattle.graphql_text.specs.declared.ill_formed.SideCondition.TheVariants.{AddsSomething}
+use Rattle.graphql_text.specs.kinds.Flaws.{TellsFlaws, flaw_unless}
 use Rattle.graphql_text.specs.kinds.Kinds.{Kind}
 use Rattle.graphql_text.specs.layout.Layout.{Item, AsDescription}
 use Rattle.graphql_text.specs.grammar.OneReading.{IsReadOneWay}
 use Rattle.graphql_text.specs.kinds.Reading.{Laws}
 use Rattle.graphql_text.proofs.lexical.CheckedTexts.{checked_text, checked_text_found}
+use Rattle.graphql_text.proofs.kinds.FlawsTold.{both_tell, unless_tells}
 use Rattle.graphql_text.proofs.kinds.KindLaws.{laws_of}
 use Rattle.graphql_text.proofs.grammar.FormParsers.{Parser, Reads, ◌>>=◌, pure, seq, last, leaf, leaf_reads, parse_maybe, maybe_reads, fits, joined}
 use Rattle.graphql_text.proofs.parts.Parts.{Part, KindPart, word_then, space_then, under, part_one_way}
@@ -18,8 +21,8 @@ use Rattle.graphql_text.proofs.parts.ToldShapes.{Told, told_nothing, told_string
 
 -- a kind is a part that stands alone
 pub part_laws : {kind : Kind} {F L : List TokenClass} {b : Bool} {S : List TokenClass} {opens : Bool} → KindPart kind F L b S opens →
-    ((broken front : Bool) (tree : kind.Tree) → kind.shape broken false tree ≡ kind.shape broken front tree) → Laws kind
-part_laws {kind} p same = laws_of {tokens = λ front. p.tokens} told (p.read) (λ front tree holds. p.written tree holds [] refl) (p.obeyed)
+    ((broken front : Bool) (tree : kind.Tree) → kind.shape broken false tree ≡ kind.shape broken front tree) → TellsFlaws kind.obeys kind.flaws → Laws kind
+part_laws {kind} p same tells = laws_of {tokens = λ front. p.tokens} told (p.read) (λ front tree holds. p.written tree holds [] refl) (p.obeyed) tells
   where
     told : (broken front : Bool) (tree : kind.Tree) → Told 0 (kind.shape broken front tree) (p.tokens tree) false (kind.nesting tree)
     told broken front tree = subst (λ items. Told 0 items (p.tokens tree) false (kind.nesting tree)) (same broken front tree) (told_weaker (p.told broken tree))
@@ -86,8 +89,8 @@ described_part body p e = record {
 }
 
 pub described_laws : (body : Kind) {F L S : List TokenClass} {b opens : Bool} → KindPart body F L b S opens →
-    fits (a_string_value ∷ []) L b F ≡ true → Laws (described body)
-described_laws body p e = part_laws (described_part body p e) (λ broken front tree. refl)
+    fits (a_string_value ∷ []) L b F ≡ true → TellsFlaws body.obeys body.flaws → Laws (described body)
+described_laws body p e tells = part_laws (described_part body p e) (λ broken front tree. refl) (λ tree. tells tree.body)
 
 pub described_one_way : (body : Kind) {F L S : List TokenClass} {b opens : Bool} → KindPart body F L b S opens →
     fits (a_string_value ∷ []) L b F ≡ true → IsReadOneWay (described body).form F
@@ -97,15 +100,17 @@ described_one_way body p e = part_one_way (described_part body p e)
 
 -- the extensions of a kind
 unfoldable pub extension_part :
-    (body : Kind) (adds : body.Tree → Bool) {F L : List TokenClass} {b : Bool} {S : List TokenClass} {opens : Bool} →
+    (body : Kind) (adds : body.Tree → Bool) (name : body.Tree → Option NameText) {F L : List TokenClass} {b : Bool} {S : List TokenClass} {opens : Bool} →
     KindPart body F L b S opens →
-    KindPart (extension body adds) F (a_keyword (codes "extend") ∷ []) false S false
-extension_part body adds p = under adds (word_then (codes "extend") refl (space_then p))
+    KindPart (extension body adds name) F (a_keyword (codes "extend") ∷ []) false S false
+extension_part body adds name p = under adds (word_then (codes "extend") refl (space_then p))
 
-pub extension_laws : (body : Kind) (adds : body.Tree → Bool) {F L S : List TokenClass} {b opens : Bool} → KindPart body F L b S opens →
-    Laws (extension body adds)
-extension_laws body adds p = part_laws (extension_part body adds p) (λ broken front tree. refl)
+pub extension_laws : (body : Kind) (adds : body.Tree → Bool) (name : body.Tree → Option NameText) {F L S : List TokenClass} {b opens : Bool} →
+    KindPart body F L b S opens → TellsFlaws body.obeys body.flaws → Laws (extension body adds name)
+extension_laws body adds name p tells =
+    part_laws (extension_part body adds name p) (λ broken front tree. refl)
+    (λ tree. both_tell (flaw_unless (adds tree) AddsSomething (name tree)) (body.flaws tree) (unless_tells (adds tree) AddsSomething (name tree)) (tells tree))
 
-pub extension_one_way : (body : Kind) (adds : body.Tree → Bool) {F L S : List TokenClass} {b opens : Bool} → KindPart body F L b S opens →
-    IsReadOneWay (extension body adds).form F
-extension_one_way body adds p = part_one_way (extension_part body adds p)
+pub extension_one_way : (body : Kind) (adds : body.Tree → Bool) (name : body.Tree → Option NameText) {F L S : List TokenClass} {b opens : Bool} →
+    KindPart body F L b S opens → IsReadOneWay (extension body adds name).form F
+extension_one_way body adds name p = part_one_way (extension_part body adds name p)

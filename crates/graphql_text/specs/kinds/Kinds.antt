@@ -1,6 +1,7 @@
 -- Kinds of trees: what is printed, how it is laid out, and the grammar that reads it.
 use Rattle.std.specs.Prelude.{ℕ, List, Bool, Option}
 use Rattle.graphql_text.specs.grammar.Forms.{Form}
+use Rattle.graphql_text.specs.kinds.Flaws.{Flaw}
 use Rattle.graphql_text.specs.layout.Layout.{Item, is_broken, is_front, layout}
 
 -- A kind of trees.
@@ -11,6 +12,8 @@ pub record Kind : Type 1 where
   pub form : Tree → Form
   -- the side conditions
   pub obeys : Tree → Bool
+  -- what breaks them, in the order of print
+  pub flaws : Tree → List Flaw
   -- the items of a tree: told whether the layout is broken, and whether no prefix is written before the tree
   pub shape : Bool → Bool → Tree → List Item
   -- the nesting depth of a tree's groups

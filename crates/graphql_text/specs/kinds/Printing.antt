@@ -49,6 +49,7 @@ pub record IsKind {T : Type 0} (kind : Kind) (tree_of : T → kind.Tree) (other 
   pub printed : (s : Serialize T) → print_bytes kind tree_of s ≡ print_bytes other other_tree s
   pub read : (bytes : List ℕ) (t : T) → ReadsAlone kind bytes (tree_of t) ↔ ReadsAlone other bytes (other_tree t)
   pub obeyed : (t : T) → kind.obeys (tree_of t) ≡ other.obeys (other_tree t)
+  pub flawed : (t : T) → kind.flaws (tree_of t) ≡ other.flaws (other_tree t)
   pub nested : (t : T) → kind.nesting (tree_of t) ≡ other.nesting (other_tree t)
 
 -- If the tree obeys the side conditions, something was put out, and it is read as the tree, and as no other.

@@ -3,6 +3,7 @@ use Rattle.std.specs.Prelude.{ℕ, ◌≡◌, ◌↔◌, Bool, true, List, [], O
 use Rattle.graphql_text.specs.lexical.Characters.{IsSourceText}
 use Rattle.graphql_text.specs.lexical.Tokens.{Token, Lexes}
 use Rattle.graphql_text.specs.grammar.Forms.{Form}
+use Rattle.graphql_text.specs.kinds.Flaws.{TellsFlaws}
 use Rattle.graphql_text.specs.kinds.Kinds.{Kind, layout_of}
 use Rattle.graphql_text.specs.layout.Layout.{IsBlankMode, is_broken, is_front, lowers, raises}
 use Rattle.graphql_text.specs.strings.BlockStringValue.{is_blank}
@@ -42,6 +43,8 @@ pub record Laws (kind : Kind) : Type 0 where
       BytesReadAs kind.form bytes tree → BytesReadAs kind.form bytes other → tree ≡ other
   -- a tree as which a text is read obeys the side conditions
   pub read_obeys : (text : List ℕ) (tree : kind.Tree) → ReadsAs kind.form text tree → IsTrue (kind.obeys tree)
+  -- it does exactly if it has no flaw
+  pub tells : TellsFlaws kind.obeys kind.flaws
   -- two trees are the same exactly if their texts under one layout are
   pub same_text : (tree other : kind.Tree) (mode : Option (List ℕ)) (level : ℕ) → IsTrue (kind.obeys tree) → IsTrue (kind.obeys other) → IsBlankMode mode →
       (layout_of kind mode level tree ≡ layout_of kind mode level other) ↔ (tree ≡ other)

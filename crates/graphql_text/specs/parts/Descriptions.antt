@@ -26,6 +26,7 @@ described body = record {
   Tree = Described body.Tree;
   form = λ tree. description_form tree.description ⨟ body.form tree.body;
   obeys = λ tree. body.obeys tree.body;
+  flaws = λ tree. body.flaws tree.body;
   shape = λ broken front tree. description_shape tree.description ++ body.shape broken false tree.body;
   nesting = λ tree. body.nesting tree.body;
 }

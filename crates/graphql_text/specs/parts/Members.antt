@@ -1,8 +1,9 @@
 -- Members: parts of one kind between braces, as the fields of a type are. They may be left out, or one at least is required.
 use Rattle.std.specs.Prelude.{ℕ, List, [], ◌∷◌, map, length, Bool, not, ◌&&◌, ◌==◌, false}
-use Rattle.std.specs.List.{list_all}
+use Rattle.std.specs.List.{list_all, flat_map}
 use Rattle.graphql_text.specs.lexical.Tokens.{lbrace, rbrace, Punctuation}
 use Rattle.graphql_text.specs.grammar.Forms.{Form, ◌⨟◌, token, nonempty_list_of, optional_braces}
+use Rattle.graphql_text.specs.kinds.Flaws.{Flaw}
 use Rattle.graphql_text.specs.kinds.Kinds.{Kind}
 use Rattle.graphql_text.specs.layout.Layout.{Item, Space, curly_group}
 use Rattle.graphql_text.specs.layout.Nesting.{group_nesting}
@@ -33,3 +34,6 @@ members_obey kind = list_all kind.obeys
 
 abbrev pub required_members_obey : (kind : Kind) → List kind.Tree → Bool
 required_members_obey kind members = has_some members && members_obey kind members
+
+abbrev pub members_flaws : (kind : Kind) → List kind.Tree → List Flaw
+members_flaws kind = flat_map kind.flaws

@@ -9,6 +9,8 @@ use Rattle.graphql_text.specs.layout.Layout.{Item, Word}
 use Rattle.graphql_text.specs.parts.Members.{has_some, members_form, members_shape, members_nesting, members_obey}
 use Rattle.graphql_values.specs.kinds.Directives.{DirectiveTree, directives_form, directives_shape, directives_nesting, directives_obey}
 use Rattle.graphql_values.specs.kinds.Values.{Const}
+use Rattle.graphql_text.specs.parts.Members.{members_flaws}
+use Rattle.graphql_values.specs.kinds.Directives.{directives_flaws}
 
 -- A type without its description and without locations.
 pub record BracedTypeTree (Member : Type 0) : Type 0 where
@@ -32,6 +34,7 @@ module _ (member : Kind) where
     form = λ type. name_except [] type.name ⨟ directives_form Const type.directives ⨟ members_form member type.members;
     -- the side conditions are those of the directives, in a const context, and of the members
     obeys = λ type. directives_obey Const type.directives && members_obey member type.members;
+    flaws = λ type. directives_flaws Const type.directives ++ members_flaws member type.members;
     shape = λ broken front. braced_type_shape broken;
     nesting = braced_type_nesting;
   }

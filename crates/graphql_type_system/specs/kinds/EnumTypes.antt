@@ -1,5 +1,5 @@
 -- Enum types: EnumTypeDefinition and EnumTypeExtension, section 3.9.
-use Rattle.std.specs.Prelude.{codes}
+use Rattle.std.specs.Prelude.{codes, Some}
 use Rattle.graphql_text.specs.parts.Descriptions.{described}
 use Rattle.graphql_text.specs.parts.Extensions.{extension}
 use Rattle.graphql_text.specs.kinds.Kinds.{Kind}
@@ -15,4 +15,4 @@ abbrev pub enum_type_definition_kind : Kind
 enum_type_definition_kind = described enum_type_body
 
 abbrev pub enum_type_extension_kind : Kind
-enum_type_extension_kind = extension enum_type_body (braced_type_adds enum_value_definition_kind)
+enum_type_extension_kind = extension enum_type_body (braced_type_adds enum_value_definition_kind) (λ type. Some type.name)

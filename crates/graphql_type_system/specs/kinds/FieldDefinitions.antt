@@ -12,6 +12,8 @@ use Rattle.graphql_values.specs.kinds.Directives.{DirectiveTree, directives_form
 use Rattle.graphql_values.specs.kinds.InputValueDefinitions.{input_value_definition_kind}
 use Rattle.graphql_values.specs.kinds.TypeReferences.{TypeTree, type_form, type_shape, list_depth}
 use Rattle.graphql_values.specs.kinds.Values.{Const}
+use Rattle.graphql_values.specs.kinds.ArgumentsDefinitions.{arguments_definition_flaws}
+use Rattle.graphql_values.specs.kinds.Directives.{directives_flaws}
 
 -- A definition without its description and without locations.
 pub record FieldDefinitionTree : Type 0 where
@@ -33,6 +35,7 @@ field_definition_body = record {
       ⨟ directives_form Const field.directives;
   -- the side conditions are those of its arguments and of its directives, in const contexts
   obeys = λ field. arguments_definition_obeys field.arguments && directives_obey Const field.directives;
+  flaws = λ field. arguments_definition_flaws field.arguments ++ directives_flaws Const field.directives;
   -- the layout of a definition, behind its description. Its arguments have the mode around it.
   shape = λ broken front field.
       Word (Name field.name.text) ∷ (arguments_definition_shape broken field.arguments

@@ -12,6 +12,8 @@ use Rattle.graphql_text.specs.parts.Members.{has_some, members_form, members_sha
 use Rattle.graphql_values.specs.kinds.Directives.{DirectiveTree, directives_form, directives_shape, directives_nesting, directives_obey}
 use Rattle.graphql_values.specs.kinds.Values.{Const}
 use Rattle.graphql_type_system.specs.kinds.FieldDefinitions.{field_definition_kind, field_definition_list_depth}
+use Rattle.graphql_text.specs.parts.Members.{members_flaws}
+use Rattle.graphql_values.specs.kinds.Directives.{directives_flaws}
 
 -- A type without its description and without locations.
 pub record ImplementingTypeTree : Type 0 where
@@ -41,6 +43,7 @@ implementing_type = record {
       ⨟ members_form field_definition_kind type.fields;
   -- the side conditions are those of the directives, in a const context, and of the fields
   obeys = λ type. directives_obey Const type.directives && members_obey field_definition_kind type.fields;
+  flaws = λ type. directives_flaws Const type.directives ++ members_flaws field_definition_kind type.fields;
   -- the layout of a type, behind its keyword
   shape = λ broken front type.
       Word (Name type.name.text) ∷ (joined_names_shape (Name (codes "implements")) amp (λ name. name.text) type.interfaces

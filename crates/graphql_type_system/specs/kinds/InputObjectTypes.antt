@@ -1,5 +1,5 @@
 -- Input object types: InputObjectTypeDefinition and InputObjectTypeExtension, section 3.10.
-use Rattle.std.specs.Prelude.{codes}
+use Rattle.std.specs.Prelude.{codes, Some}
 use Rattle.graphql_text.specs.parts.Descriptions.{described}
 use Rattle.graphql_text.specs.parts.Extensions.{extension}
 use Rattle.graphql_text.specs.kinds.Kinds.{Kind}
@@ -15,4 +15,4 @@ abbrev pub input_object_type_definition_kind : Kind
 input_object_type_definition_kind = described input_object_type_body
 
 abbrev pub input_object_type_extension_kind : Kind
-input_object_type_extension_kind = extension input_object_type_body (braced_type_adds input_value_definition_kind)
+input_object_type_extension_kind = extension input_object_type_body (braced_type_adds input_value_definition_kind) (λ type. Some type.name)

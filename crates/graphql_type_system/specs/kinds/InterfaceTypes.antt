@@ -1,5 +1,5 @@
 -- Interface types: InterfaceTypeDefinition and InterfaceTypeExtension, section 3.7.
-use Rattle.std.specs.Prelude.{codes}
+use Rattle.std.specs.Prelude.{codes, Some}
 use Rattle.graphql_text.specs.parts.Descriptions.{described}
 use Rattle.graphql_text.specs.parts.Extensions.{extension}
 use Rattle.graphql_text.specs.kinds.Kinds.{Kind}
@@ -14,4 +14,4 @@ abbrev pub interface_type_definition_kind : Kind
 interface_type_definition_kind = described interface_type_body
 
 abbrev pub interface_type_extension_kind : Kind
-interface_type_extension_kind = extension interface_type_body implementing_type_adds
+interface_type_extension_kind = extension interface_type_body implementing_type_adds (λ type. Some type.name)

@@ -11,6 +11,7 @@ after_keyword word body = record {
   Tree = body.Tree;
   form = λ tree. keyword word ⨟ body.form tree;
   obeys = body.obeys;
+  flaws = body.flaws;
   shape = λ broken front tree. Word (Name word) ∷ Space ∷ body.shape broken false tree;
   nesting = body.nesting;
 }

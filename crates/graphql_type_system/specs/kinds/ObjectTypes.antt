@@ -1,5 +1,5 @@
 -- Object types: ObjectTypeDefinition and ObjectTypeExtension, section 3.6.
-use Rattle.std.specs.Prelude.{codes}
+use Rattle.std.specs.Prelude.{codes, Some}
 use Rattle.graphql_text.specs.parts.Descriptions.{described}
 use Rattle.graphql_text.specs.parts.Extensions.{extension}
 use Rattle.graphql_text.specs.kinds.Kinds.{Kind}
@@ -14,4 +14,4 @@ abbrev pub object_type_definition_kind : Kind
 object_type_definition_kind = described object_type_body
 
 abbrev pub object_type_extension_kind : Kind
-object_type_extension_kind = extension object_type_body implementing_type_adds
+object_type_extension_kind = extension object_type_body implementing_type_adds (λ type. Some type.name)

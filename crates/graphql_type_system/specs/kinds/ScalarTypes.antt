@@ -1,5 +1,5 @@
 -- Scalar types: ScalarTypeDefinition and ScalarTypeExtension, section 3.5.
-use Rattle.std.specs.Prelude.{ℕ, List, [], ◌∷◌, codes}
+use Rattle.std.specs.Prelude.{ℕ, List, [], ◌∷◌, codes, Some}
 use Rattle.graphql_text.specs.lexical.Literals.{NameText}
 use Rattle.graphql_text.specs.lexical.Tokens.{Name}
 use Rattle.graphql_text.specs.parts.Descriptions.{described}
@@ -11,6 +11,7 @@ use Rattle.graphql_text.specs.parts.Members.{has_some}
 use Rattle.graphql_values.specs.kinds.Directives.{DirectiveTree, directives_form, directives_shape, directives_nesting, directives_obey}
 use Rattle.graphql_values.specs.kinds.Values.{Const}
 use Rattle.graphql_type_system.specs.kinds.Keywords.{after_keyword}
+use Rattle.graphql_values.specs.kinds.Directives.{directives_flaws}
 
 -- A scalar type without its description and without locations.
 pub record ScalarTypeTree : Type 0 where
@@ -28,6 +29,7 @@ scalar_type = record {
   form = λ scalar. name_except [] scalar.name ⨟ directives_form Const scalar.directives;
   -- the side conditions are those of the directives, in a const context
   obeys = λ scalar. directives_obey Const scalar.directives;
+  flaws = λ scalar. directives_flaws Const scalar.directives;
   -- the layout of a scalar type, behind `scalar`
   shape = λ broken front scalar. Word (Name scalar.name.text) ∷ directives_shape scalar.directives;
   nesting = scalar_type_nesting;
@@ -42,4 +44,4 @@ scalar_type_definition_kind = described scalar_type_body
 
 -- An extension adds a directive.
 abbrev pub scalar_type_extension_kind : Kind
-scalar_type_extension_kind = extension scalar_type_body (λ scalar. has_some scalar.directives)
+scalar_type_extension_kind = extension scalar_type_body (λ scalar. has_some scalar.directives) (λ scalar. Some scalar.name)

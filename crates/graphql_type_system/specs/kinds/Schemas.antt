@@ -1,5 +1,5 @@
 -- Schemas: SchemaDefinition and SchemaExtension, section 3.3.
-use Rattle.std.specs.Prelude.{ℕ, max, List, [], ◌∷◌, ◌++◌, codes, true, ◌&&◌, ◌||◌}
+use Rattle.std.specs.Prelude.{ℕ, max, List, [], ◌∷◌, ◌++◌, codes, true, ◌&&◌, ◌||◌, None, Option, Bool}
 use Rattle.graphql_text.specs.lexical.Literals.{NameText}
 use Rattle.graphql_text.specs.lexical.Tokens.{colon, Punctuation, Name}
 use Rattle.graphql_text.specs.parts.Descriptions.{described}
@@ -11,6 +11,9 @@ use Rattle.graphql_text.specs.parts.Members.{has_some, members_form, members_sha
 use Rattle.graphql_values.specs.kinds.Directives.{DirectiveTree, directives_form, directives_shape, directives_nesting, directives_obey}
 use Rattle.graphql_values.specs.kinds.OperationTypes.{OperationTypeTree, operation_type_name, operation_type_form}
 use Rattle.graphql_values.specs.kinds.Values.{Const}
+use Rattle.graphql_text.specs.declared.ill_formed.SideCondition.TheVariants.{HasRootOperation}
+use Rattle.graphql_text.specs.kinds.Flaws.{flaw_unless}
+use Rattle.graphql_values.specs.kinds.Directives.{directives_flaws}
 
 -- ROOT OPERATIONS
 
@@ -26,6 +29,7 @@ root_operation_kind = record {
   -- the grammar of RootOperationTypeDefinition, section 3.3
   form = λ root. operation_type_form root.operation_type ⨟ token (Punctuation colon) ⨟ name_except [] root.type;
   obeys = λ root. true;
+  flaws = λ root. [];
   -- the layout of a root operation
   shape = λ broken front root.
       Word (Name (operation_type_name root.operation_type)) ∷ Word (Punctuation colon) ∷ Space ∷ Word (Name root.type.text) ∷ [];
@@ -51,6 +55,7 @@ schema_body = record {
       keyword (codes "schema") ⨟ directives_form Const schema.directives ⨟ required_members_form root_operation_kind schema.root_operations;
   -- the side conditions: the directives obey theirs, in a const context, and there is a root operation
   obeys = λ schema. directives_obey Const schema.directives && has_some schema.root_operations;
+  flaws = λ schema. directives_flaws Const schema.directives ++ flaw_unless (has_some schema.root_operations) HasRootOperation None;
   -- the layout of a definition, behind its description
   shape = λ broken front schema.
       Word (Name (codes "schema")) ∷ (directives_shape schema.directives ++ required_members_shape root_operation_kind broken schema.root_operations);
@@ -70,6 +75,7 @@ extended_schema_body = record {
   form = λ schema. keyword (codes "schema") ⨟ directives_form Const schema.directives ⨟ members_form root_operation_kind schema.root_operations;
   -- the side conditions are those of the directives
   obeys = λ schema. directives_obey Const schema.directives;
+  flaws = λ schema. directives_flaws Const schema.directives;
   -- the layout of an extension, behind `extend`
   shape = λ broken front schema.
       Word (Name (codes "schema")) ∷ (directives_shape schema.directives ++ members_shape root_operation_kind broken schema.root_operations);
@@ -77,5 +83,12 @@ extended_schema_body = record {
 }
 
 -- An extension adds a directive or a root operation.
+abbrev pub extended_schema_adds : SchemaTree → Bool
+extended_schema_adds schema = has_some schema.directives || has_some schema.root_operations
+
+-- a schema has no name
+abbrev pub extended_schema_name : SchemaTree → Option NameText
+extended_schema_name schema = None
+
 abbrev pub schema_extension_kind : Kind
-schema_extension_kind = extension extended_schema_body (λ schema. has_some schema.directives || has_some schema.root_operations)
+schema_extension_kind = extension extended_schema_body extended_schema_adds extended_schema_name

@@ -1,5 +1,5 @@
 -- Union types: UnionTypeDefinition and UnionTypeExtension, section 3.8.
-use Rattle.std.specs.Prelude.{ℕ, List, [], ◌∷◌, ◌++◌, codes, ◌||◌}
+use Rattle.std.specs.Prelude.{ℕ, List, [], ◌∷◌, ◌++◌, codes, ◌||◌, Some, Bool}
 use Rattle.graphql_text.specs.lexical.Literals.{NameText}
 use Rattle.graphql_text.specs.lexical.Tokens.{bar, equals, Punctuation, Name}
 use Rattle.graphql_text.specs.parts.Descriptions.{described}
@@ -12,6 +12,7 @@ use Rattle.graphql_text.specs.parts.Members.{has_some}
 use Rattle.graphql_values.specs.kinds.Directives.{DirectiveTree, directives_form, directives_shape, directives_nesting, directives_obey}
 use Rattle.graphql_values.specs.kinds.Values.{Const}
 use Rattle.graphql_type_system.specs.kinds.Keywords.{after_keyword}
+use Rattle.graphql_values.specs.kinds.Directives.{directives_flaws}
 
 -- A union type without its description and without locations.
 pub record UnionTypeTree : Type 0 where
@@ -34,6 +35,7 @@ union_type = record {
   form = λ union. name_except [] union.name ⨟ directives_form Const union.directives ⨟ union_members_form union.members;
   -- the side conditions are those of the directives, in a const context
   obeys = λ union. directives_obey Const union.directives;
+  flaws = λ union. directives_flaws Const union.directives;
   -- the layout of a union type, behind `union`
   shape = λ broken front union.
       Word (Name union.name.text)
@@ -49,5 +51,8 @@ abbrev pub union_type_definition_kind : Kind
 union_type_definition_kind = described union_type_body
 
 -- An extension adds a directive or a member.
+abbrev pub union_type_adds : UnionTypeTree → Bool
+union_type_adds union = has_some union.directives || has_some union.members
+
 abbrev pub union_type_extension_kind : Kind
-union_type_extension_kind = extension union_type_body (λ union. has_some union.directives || has_some union.members)
+union_type_extension_kind = extension union_type_body union_type_adds (λ union. Some union.name)

@@ -1,5 +1,6 @@
 //! Enum types are printed.
 ghost use Rattle.std.specs.Prelude.{◌≡◌, Some};
+ghost use Rattle.graphql_text.specs.code.IllFormed.{IsFirstFlaw};
 ghost use Rattle.graphql_text.specs.kinds.PrintedKinds.{no_types};
 ghost use Rattle.graphql_text.specs.kinds.Printing.{IsDefaultPrint, default_bytes};
 ghost use Rattle.graphql_type_system.specs.kinds.EnumTypes.{enum_type_definition_kind, enum_type_extension_kind};
@@ -9,11 +10,12 @@ ghost use Rattle.graphql_type_system.specs.lemmas.Kinds.{enum_type_definition_la
 use crate::enum_type::{EnumTypeDefinition, EnumTypeExtension};
 use crate::members::write_directives_and_members;
 use graphql_text::engine::{Serialize, Syntax, SyntaxTree};
+use graphql_text::ill_formed::{IllFormed, SideCondition};
 use graphql_text::writers::{
-    Depths, Place, Start, Target, Written, are_parts_well_formed, find_parts_depths,
-    write_leading_description, write_name, write_whole, write_words,
+    Depths, Place, Start, Target, Written, find_ill_formed_part, find_parts_depths,
+    ill_formed_unless, write_leading_description, write_name, write_whole, write_words,
 };
-use graphql_values::writers::{Constness, Stacks, are_directives_well_formed};
+use graphql_values::writers::{Constness, Stacks, find_ill_formed_directive};
 use std::alloc::AllocError;
 use std::fmt;
 
@@ -25,12 +27,24 @@ impl EnumTypeDefinition {
         Serialize::new(self)
     }
 
+    /// The first flaw of its directives, or else of its values.
+    #[tactic(auto, using(graphql_text::proofs::kinds::FlawsTold::flaw_steps))]
+    pub fn find_ill_formed(&self) -> Option<IllFormed<'_>>
+        ensures { IsFirstFlaw
+            (enum_type_definition_kind.flaws (enum_type_definition_tree self.now)) result }
+    {
+        let found = find_ill_formed_directive(&self.directives, Constness::Const);
+        if found.is_some() {
+            return found;
+        }
+        find_ill_formed_part(&self.values)
+    }
+
     /// Whether the directives and the values are well formed, each in a const context.
     pub fn is_well_formed(&self) -> bool
         ensures { result ≡ enum_type_definition_kind.obeys (enum_type_definition_tree self.now) }
     {
-        are_directives_well_formed(&self.directives, Constness::Const)
-            && are_parts_well_formed(&self.values)
+        SyntaxTree::is_well_formed(self)
     }
 }
 
@@ -43,8 +57,8 @@ impl SyntaxTree for EnumTypeDefinition {
 
     ghost list_depth = { no_types };
 
-    fn is_well_formed(&self) -> bool {
-        EnumTypeDefinition::is_well_formed(self)
+    fn find_ill_formed(&self) -> Option<IllFormed<'_>> {
+        EnumTypeDefinition::find_ill_formed(self)
     }
 
     #[tactic(auto, using(crate::proofs::CanWriteWithoutTypes::no_lists))]
@@ -96,13 +110,29 @@ impl EnumTypeExtension {
         Serialize::new(self)
     }
 
+    /// That it adds nothing, or the first flaw of its directives, or else of its values.
+    #[tactic(auto, using(graphql_text::proofs::kinds::FlawsTold::flaw_steps))]
+    pub fn find_ill_formed(&self) -> Option<IllFormed<'_>>
+        ensures { IsFirstFlaw
+            (enum_type_extension_kind.flaws (enum_type_extension_tree self.now)) result }
+    {
+        let adds = !self.directives.is_empty() || !self.values.is_empty();
+        let found = ill_formed_unless(adds, SideCondition::AddsSomething, Some(&self.name));
+        if found.is_some() {
+            return found;
+        }
+        let found = find_ill_formed_directive(&self.directives, Constness::Const);
+        if found.is_some() {
+            return found;
+        }
+        find_ill_formed_part(&self.values)
+    }
+
     /// Whether it adds something, and the directives and the values are well formed, each in a const context.
     pub fn is_well_formed(&self) -> bool
         ensures { result ≡ enum_type_extension_kind.obeys (enum_type_extension_tree self.now) }
     {
-        (!self.directives.is_empty() || !self.values.is_empty())
-            && are_directives_well_formed(&self.directives, Constness::Const)
-            && are_parts_well_formed(&self.values)
+        SyntaxTree::is_well_formed(self)
     }
 }
 
@@ -115,8 +145,8 @@ impl SyntaxTree for EnumTypeExtension {
 
     ghost list_depth = { no_types };
 
-    fn is_well_formed(&self) -> bool {
-        EnumTypeExtension::is_well_formed(self)
+    fn find_ill_formed(&self) -> Option<IllFormed<'_>> {
+        EnumTypeExtension::find_ill_formed(self)
     }
 
     #[tactic(auto, using(crate::proofs::CanWriteWithoutTypes::no_lists))]

@@ -1,5 +1,6 @@
 //! Definitions of enum values are printed.
 ghost use Rattle.std.specs.Prelude.{◌≡◌, Some};
+ghost use Rattle.graphql_text.specs.code.IllFormed.{IsFirstFlaw};
 ghost use Rattle.graphql_text.specs.kinds.PrintedKinds.{no_types};
 ghost use Rattle.graphql_text.specs.kinds.Printing.{IsDefaultPrint, default_bytes};
 ghost use Rattle.graphql_type_system.specs.kinds.EnumValueDefinitions.{enum_value_definition_kind};
@@ -8,10 +9,12 @@ ghost use Rattle.graphql_type_system.specs.lemmas.Kinds.{enum_value_definition_l
 
 use crate::enum_value_definition::EnumValueDefinition;
 use graphql_text::engine::{Serialize, Syntax, SyntaxTree};
+use graphql_text::ill_formed::{IllFormed, SideCondition};
 use graphql_text::writers::{
-    Depths, Place, Start, Target, Written, write_leading_description, write_name, write_whole,
+    Depths, Place, Start, Target, Written, ill_formed_unless, write_leading_description,
+    write_name, write_whole,
 };
-use graphql_values::writers::{Constness, Stacks, are_directives_well_formed, is_enum_name};
+use graphql_values::writers::{Constness, Stacks, find_ill_formed_directive, is_enum_name};
 use std::alloc::AllocError;
 use std::fmt;
 
@@ -23,13 +26,26 @@ impl EnumValueDefinition {
         Serialize::new(self)
     }
 
+    /// That the value is `true`, `false` or `null`, or the first flaw of its directives.
+    #[tactic(auto, using(graphql_text::proofs::kinds::FlawsTold::flaw_steps))]
+    pub fn find_ill_formed(&self) -> Option<IllFormed<'_>>
+        ensures { IsFirstFlaw
+            (enum_value_definition_kind.flaws (enum_value_definition_tree self.now)) result }
+    {
+        let is_free = is_enum_name(self.value.as_str());
+        let found = ill_formed_unless(is_free, SideCondition::IsNotReserved, Some(&self.value));
+        if found.is_some() {
+            return found;
+        }
+        find_ill_formed_directive(&self.directives, Constness::Const)
+    }
+
     /// Whether the value is none of `true`, `false` and `null`, and the same holds of the enum values in the arguments
     /// of its directives, where no variable stands.
     pub fn is_well_formed(&self) -> bool
         ensures { result ≡ enum_value_definition_kind.obeys (enum_value_definition_tree self.now) }
     {
-        is_enum_name(self.value.as_str())
-            && are_directives_well_formed(&self.directives, Constness::Const)
+        SyntaxTree::is_well_formed(self)
     }
 }
 
@@ -42,8 +58,8 @@ impl SyntaxTree for EnumValueDefinition {
 
     ghost list_depth = { no_types };
 
-    fn is_well_formed(&self) -> bool {
-        EnumValueDefinition::is_well_formed(self)
+    fn find_ill_formed(&self) -> Option<IllFormed<'_>> {
+        EnumValueDefinition::find_ill_formed(self)
     }
 
     fn find_depths(&self) -> Option<Depths> {

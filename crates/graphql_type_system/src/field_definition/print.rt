@@ -1,5 +1,6 @@
 //! Definitions of fields are printed.
 ghost use Rattle.std.specs.Prelude.{◌≡◌, Some};
+ghost use Rattle.graphql_text.specs.code.IllFormed.{IsFirstFlaw};
 ghost use Rattle.graphql_text.specs.kinds.Printing.{IsDefaultPrint, default_bytes};
 ghost use Rattle.graphql_type_system.specs.kinds.FieldDefinitions.{field_definition_kind, field_definition_list_depth};
 ghost use Rattle.graphql_type_system.specs.trees.TypeSystemTrees.{field_definition_tree};
@@ -7,12 +8,13 @@ ghost use Rattle.graphql_type_system.specs.lemmas.Kinds.{field_definition_laws};
 
 use crate::field_definition::FieldDefinition;
 use graphql_text::engine::{Serialize, Syntax, SyntaxTree};
+use graphql_text::ill_formed::IllFormed;
 use graphql_text::writers::{
-    Depths, Place, Start, Target, Written, are_parts_well_formed, find_parts_depths,
+    Depths, Place, Start, Target, Written, find_ill_formed_part, find_parts_depths,
     write_leading_description, write_name, write_whole, write_words,
 };
 use graphql_values::writers::{
-    Constness, Stacks, are_directives_well_formed, find_directives_nesting, find_list_depth,
+    Constness, Stacks, find_directives_nesting, find_ill_formed_directive, find_list_depth,
     some_want_lines, write_parameters, write_type,
 };
 use std::alloc::AllocError;
@@ -26,13 +28,25 @@ impl FieldDefinition {
         Serialize::new(self)
     }
 
+    /// The first flaw of its arguments, or else of its directives.
+    #[tactic(auto, using(graphql_text::proofs::kinds::FlawsTold::flaw_steps))]
+    pub fn find_ill_formed(&self) -> Option<IllFormed<'_>>
+        ensures { IsFirstFlaw
+            (field_definition_kind.flaws (field_definition_tree self.now)) result }
+    {
+        let found = find_ill_formed_part(&self.arguments);
+        if found.is_some() {
+            return found;
+        }
+        find_ill_formed_directive(&self.directives, Constness::Const)
+    }
+
     /// Whether its arguments are well formed, no variable stands in the arguments of its directives, and no enum value
     /// there is `true`, `false` or `null`.
     pub fn is_well_formed(&self) -> bool
         ensures { result ≡ field_definition_kind.obeys (field_definition_tree self.now) }
     {
-        are_parts_well_formed(&self.arguments)
-            && are_directives_well_formed(&self.directives, Constness::Const)
+        SyntaxTree::is_well_formed(self)
     }
 }
 
@@ -45,8 +59,8 @@ impl SyntaxTree for FieldDefinition {
 
     ghost list_depth = { λ field. field_definition_list_depth field.body };
 
-    fn is_well_formed(&self) -> bool {
-        FieldDefinition::is_well_formed(self)
+    fn find_ill_formed(&self) -> Option<IllFormed<'_>> {
+        FieldDefinition::find_ill_formed(self)
     }
 
     fn find_depths(&self) -> Option<Depths> {

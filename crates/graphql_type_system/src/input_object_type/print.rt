@@ -1,19 +1,23 @@
 //! Input object types are printed.
 ghost use Rattle.std.specs.Prelude.{◌≡◌, Some};
+ghost use Rattle.graphql_text.specs.code.IllFormed.{IsFirstFlaw};
 ghost use Rattle.graphql_text.specs.kinds.Printing.{IsDefaultPrint, default_bytes};
+ghost use Rattle.graphql_type_system.specs.kinds.BracedTypes.{braced_type_adds};
 ghost use Rattle.graphql_type_system.specs.kinds.InputObjectTypes.{input_object_type_definition_kind, input_object_type_extension_kind};
 ghost use Rattle.graphql_type_system.specs.trees.TypeSystemTrees.{input_object_type_definition_tree, input_object_type_extension_tree};
 ghost use Rattle.graphql_type_system.specs.lemmas.Kinds.{input_object_type_definition_laws, input_object_type_extension_laws};
 ghost use Rattle.graphql_values.specs.kinds.ArgumentsDefinitions.{arguments_list_depth};
+ghost use Rattle.graphql_values.specs.kinds.InputValueDefinitions.{input_value_definition_kind};
 
 use crate::input_object_type::{InputObjectTypeDefinition, InputObjectTypeExtension};
 use crate::members::write_directives_and_members;
 use graphql_text::engine::{Serialize, Syntax, SyntaxTree};
+use graphql_text::ill_formed::{IllFormed, SideCondition};
 use graphql_text::writers::{
-    Depths, Place, Start, Target, Written, are_parts_well_formed, find_parts_depths,
-    write_leading_description, write_name, write_whole, write_words,
+    Depths, Place, Start, Target, Written, find_ill_formed_part, find_parts_depths,
+    ill_formed_unless, write_leading_description, write_name, write_whole, write_words,
 };
-use graphql_values::writers::{Constness, Stacks, are_directives_well_formed};
+use graphql_values::writers::{Constness, Stacks, find_ill_formed_directive};
 use std::alloc::AllocError;
 use std::fmt;
 
@@ -25,13 +29,26 @@ impl InputObjectTypeDefinition {
         Serialize::new(self)
     }
 
+    /// The first flaw of its directives, or else of its fields.
+    #[tactic(auto, using(graphql_text::proofs::kinds::FlawsTold::flaw_steps))]
+    pub fn find_ill_formed(&self) -> Option<IllFormed<'_>>
+        ensures { IsFirstFlaw
+            (input_object_type_definition_kind.flaws
+            (input_object_type_definition_tree self.now)) result }
+    {
+        let found = find_ill_formed_directive(&self.directives, Constness::Const);
+        if found.is_some() {
+            return found;
+        }
+        find_ill_formed_part(&self.fields)
+    }
+
     /// Whether the directives and the fields are well formed, each in a const context.
     pub fn is_well_formed(&self) -> bool
         ensures { result
             ≡ input_object_type_definition_kind.obeys (input_object_type_definition_tree self.now) }
     {
-        are_directives_well_formed(&self.directives, Constness::Const)
-            && are_parts_well_formed(&self.fields)
+        SyntaxTree::is_well_formed(self)
     }
 }
 
@@ -44,8 +61,8 @@ impl SyntaxTree for InputObjectTypeDefinition {
 
     ghost list_depth = { λ input. arguments_list_depth input.body.members };
 
-    fn is_well_formed(&self) -> bool {
-        InputObjectTypeDefinition::is_well_formed(self)
+    fn find_ill_formed(&self) -> Option<IllFormed<'_>> {
+        InputObjectTypeDefinition::find_ill_formed(self)
     }
 
     fn find_depths(&self) -> Option<Depths> {
@@ -97,14 +114,38 @@ impl InputObjectTypeExtension {
         Serialize::new(self)
     }
 
+    /// That it adds nothing, or the first flaw of its directives, or else of its fields.
+    #[tactic(auto, using(graphql_text::proofs::kinds::FlawsTold::flaw_steps))]
+    pub fn find_ill_formed(&self) -> Option<IllFormed<'_>>
+        ensures { IsFirstFlaw
+            (input_object_type_extension_kind.flaws
+            (input_object_type_extension_tree self.now)) result }
+    {
+        let adds = self.adds_something();
+        let found = ill_formed_unless(adds, SideCondition::AddsSomething, Some(&self.name));
+        if found.is_some() {
+            return found;
+        }
+        let found = find_ill_formed_directive(&self.directives, Constness::Const);
+        if found.is_some() {
+            return found;
+        }
+        find_ill_formed_part(&self.fields)
+    }
+
+    fn adds_something(&self) -> bool
+        ensures { result ≡ braced_type_adds input_value_definition_kind
+            (input_object_type_extension_tree self.now) }
+    {
+        !self.directives.is_empty() || !self.fields.is_empty()
+    }
+
     /// Whether it adds something, and the directives and the fields are well formed, each in a const context.
     pub fn is_well_formed(&self) -> bool
         ensures { result
             ≡ input_object_type_extension_kind.obeys (input_object_type_extension_tree self.now) }
     {
-        (!self.directives.is_empty() || !self.fields.is_empty())
-            && are_directives_well_formed(&self.directives, Constness::Const)
-            && are_parts_well_formed(&self.fields)
+        SyntaxTree::is_well_formed(self)
     }
 }
 
@@ -117,8 +158,8 @@ impl SyntaxTree for InputObjectTypeExtension {
 
     ghost list_depth = { λ input. arguments_list_depth input.members };
 
-    fn is_well_formed(&self) -> bool {
-        InputObjectTypeExtension::is_well_formed(self)
+    fn find_ill_formed(&self) -> Option<IllFormed<'_>> {
+        InputObjectTypeExtension::find_ill_formed(self)
     }
 
     fn find_depths(&self) -> Option<Depths> {

@@ -1,5 +1,6 @@
 //! Interface types are printed.
 ghost use Rattle.std.specs.Prelude.{◌≡◌, Some};
+ghost use Rattle.graphql_text.specs.code.IllFormed.{IsFirstFlaw};
 ghost use Rattle.graphql_text.specs.kinds.Printing.{IsDefaultPrint, default_bytes};
 ghost use Rattle.graphql_type_system.specs.kinds.ImplementingTypes.{fields_list_depth};
 ghost use Rattle.graphql_type_system.specs.kinds.InterfaceTypes.{interface_type_definition_kind, interface_type_extension_kind};
@@ -10,11 +11,12 @@ use crate::interface_type::{InterfaceTypeDefinition, InterfaceTypeExtension};
 use crate::joined_names::write_joined_names;
 use crate::members::write_directives_and_members;
 use graphql_text::engine::{Serialize, Syntax, SyntaxTree};
+use graphql_text::ill_formed::{IllFormed, SideCondition};
 use graphql_text::writers::{
-    Depths, Place, Start, Target, Written, are_parts_well_formed, find_parts_depths,
-    write_leading_description, write_name, write_whole, write_words,
+    Depths, Place, Start, Target, Written, find_ill_formed_part, find_parts_depths,
+    ill_formed_unless, write_leading_description, write_name, write_whole, write_words,
 };
-use graphql_values::writers::{Constness, Stacks, are_directives_well_formed};
+use graphql_values::writers::{Constness, Stacks, find_ill_formed_directive};
 use std::alloc::AllocError;
 use std::fmt;
 
@@ -26,13 +28,26 @@ impl InterfaceTypeDefinition {
         Serialize::new(self)
     }
 
+    /// The first flaw of its directives, or else of its fields.
+    #[tactic(auto, using(graphql_text::proofs::kinds::FlawsTold::flaw_steps))]
+    pub fn find_ill_formed(&self) -> Option<IllFormed<'_>>
+        ensures { IsFirstFlaw
+            (interface_type_definition_kind.flaws
+            (interface_type_definition_tree self.now)) result }
+    {
+        let found = find_ill_formed_directive(&self.directives, Constness::Const);
+        if found.is_some() {
+            return found;
+        }
+        find_ill_formed_part(&self.fields)
+    }
+
     /// Whether the directives and the fields are well formed, each in a const context.
     pub fn is_well_formed(&self) -> bool
         ensures { result
             ≡ interface_type_definition_kind.obeys (interface_type_definition_tree self.now) }
     {
-        are_directives_well_formed(&self.directives, Constness::Const)
-            && are_parts_well_formed(&self.fields)
+        SyntaxTree::is_well_formed(self)
     }
 }
 
@@ -45,8 +60,8 @@ impl SyntaxTree for InterfaceTypeDefinition {
 
     ghost list_depth = { λ interface. fields_list_depth interface.body.fields };
 
-    fn is_well_formed(&self) -> bool {
-        InterfaceTypeDefinition::is_well_formed(self)
+    fn find_ill_formed(&self) -> Option<IllFormed<'_>> {
+        InterfaceTypeDefinition::find_ill_formed(self)
     }
 
     fn find_depths(&self) -> Option<Depths> {
@@ -100,16 +115,32 @@ impl InterfaceTypeExtension {
         Serialize::new(self)
     }
 
+    /// That it adds nothing, or the first flaw of its directives, or else of its fields.
+    #[tactic(auto, using(graphql_text::proofs::kinds::FlawsTold::flaw_steps))]
+    pub fn find_ill_formed(&self) -> Option<IllFormed<'_>>
+        ensures { IsFirstFlaw
+            (interface_type_extension_kind.flaws (interface_type_extension_tree self.now)) result }
+    {
+        let adds = !self.implements_interfaces.is_empty()
+            || !self.directives.is_empty()
+            || !self.fields.is_empty();
+        let found = ill_formed_unless(adds, SideCondition::AddsSomething, Some(&self.name));
+        if found.is_some() {
+            return found;
+        }
+        let found = find_ill_formed_directive(&self.directives, Constness::Const);
+        if found.is_some() {
+            return found;
+        }
+        find_ill_formed_part(&self.fields)
+    }
+
     /// Whether it adds something, and the directives and the fields are well formed, each in a const context.
     pub fn is_well_formed(&self) -> bool
         ensures { result
             ≡ interface_type_extension_kind.obeys (interface_type_extension_tree self.now) }
     {
-        (!self.implements_interfaces.is_empty()
-            || !self.directives.is_empty()
-            || !self.fields.is_empty())
-            && are_directives_well_formed(&self.directives, Constness::Const)
-            && are_parts_well_formed(&self.fields)
+        SyntaxTree::is_well_formed(self)
     }
 }
 
@@ -122,8 +153,8 @@ impl SyntaxTree for InterfaceTypeExtension {
 
     ghost list_depth = { λ interface. fields_list_depth interface.fields };
 
-    fn is_well_formed(&self) -> bool {
-        InterfaceTypeExtension::is_well_formed(self)
+    fn find_ill_formed(&self) -> Option<IllFormed<'_>> {
+        InterfaceTypeExtension::find_ill_formed(self)
     }
 
     fn find_depths(&self) -> Option<Depths> {

@@ -1,5 +1,6 @@
 //! Object types are printed.
 ghost use Rattle.std.specs.Prelude.{◌≡◌, Some};
+ghost use Rattle.graphql_text.specs.code.IllFormed.{IsFirstFlaw};
 ghost use Rattle.graphql_text.specs.kinds.Printing.{IsDefaultPrint, default_bytes};
 ghost use Rattle.graphql_type_system.specs.kinds.ImplementingTypes.{fields_list_depth};
 ghost use Rattle.graphql_type_system.specs.kinds.ObjectTypes.{object_type_definition_kind, object_type_extension_kind};
@@ -10,11 +11,12 @@ use crate::joined_names::write_joined_names;
 use crate::members::write_directives_and_members;
 use crate::object_type::{ObjectTypeDefinition, ObjectTypeExtension};
 use graphql_text::engine::{Serialize, Syntax, SyntaxTree};
+use graphql_text::ill_formed::{IllFormed, SideCondition};
 use graphql_text::writers::{
-    Depths, Place, Start, Target, Written, are_parts_well_formed, find_parts_depths,
-    write_leading_description, write_name, write_whole, write_words,
+    Depths, Place, Start, Target, Written, find_ill_formed_part, find_parts_depths,
+    ill_formed_unless, write_leading_description, write_name, write_whole, write_words,
 };
-use graphql_values::writers::{Constness, Stacks, are_directives_well_formed};
+use graphql_values::writers::{Constness, Stacks, find_ill_formed_directive};
 use std::alloc::AllocError;
 use std::fmt;
 
@@ -26,13 +28,25 @@ impl ObjectTypeDefinition {
         Serialize::new(self)
     }
 
+    /// The first flaw of its directives, or else of its fields.
+    #[tactic(auto, using(graphql_text::proofs::kinds::FlawsTold::flaw_steps))]
+    pub fn find_ill_formed(&self) -> Option<IllFormed<'_>>
+        ensures { IsFirstFlaw
+            (object_type_definition_kind.flaws (object_type_definition_tree self.now)) result }
+    {
+        let found = find_ill_formed_directive(&self.directives, Constness::Const);
+        if found.is_some() {
+            return found;
+        }
+        find_ill_formed_part(&self.fields)
+    }
+
     /// Whether the directives and the fields are well formed, each in a const context.
     pub fn is_well_formed(&self) -> bool
         ensures { result
             ≡ object_type_definition_kind.obeys (object_type_definition_tree self.now) }
     {
-        are_directives_well_formed(&self.directives, Constness::Const)
-            && are_parts_well_formed(&self.fields)
+        SyntaxTree::is_well_formed(self)
     }
 }
 
@@ -45,8 +59,8 @@ impl SyntaxTree for ObjectTypeDefinition {
 
     ghost list_depth = { λ object. fields_list_depth object.body.fields };
 
-    fn is_well_formed(&self) -> bool {
-        ObjectTypeDefinition::is_well_formed(self)
+    fn find_ill_formed(&self) -> Option<IllFormed<'_>> {
+        ObjectTypeDefinition::find_ill_formed(self)
     }
 
     fn find_depths(&self) -> Option<Depths> {
@@ -99,15 +113,31 @@ impl ObjectTypeExtension {
         Serialize::new(self)
     }
 
+    /// That it adds nothing, or the first flaw of its directives, or else of its fields.
+    #[tactic(auto, using(graphql_text::proofs::kinds::FlawsTold::flaw_steps))]
+    pub fn find_ill_formed(&self) -> Option<IllFormed<'_>>
+        ensures { IsFirstFlaw
+            (object_type_extension_kind.flaws (object_type_extension_tree self.now)) result }
+    {
+        let adds = !self.implements_interfaces.is_empty()
+            || !self.directives.is_empty()
+            || !self.fields.is_empty();
+        let found = ill_formed_unless(adds, SideCondition::AddsSomething, Some(&self.name));
+        if found.is_some() {
+            return found;
+        }
+        let found = find_ill_formed_directive(&self.directives, Constness::Const);
+        if found.is_some() {
+            return found;
+        }
+        find_ill_formed_part(&self.fields)
+    }
+
     /// Whether it adds something, and the directives and the fields are well formed, each in a const context.
     pub fn is_well_formed(&self) -> bool
         ensures { result ≡ object_type_extension_kind.obeys (object_type_extension_tree self.now) }
     {
-        (!self.implements_interfaces.is_empty()
-            || !self.directives.is_empty()
-            || !self.fields.is_empty())
-            && are_directives_well_formed(&self.directives, Constness::Const)
-            && are_parts_well_formed(&self.fields)
+        SyntaxTree::is_well_formed(self)
     }
 }
 
@@ -120,8 +150,8 @@ impl SyntaxTree for ObjectTypeExtension {
 
     ghost list_depth = { λ object. fields_list_depth object.fields };
 
-    fn is_well_formed(&self) -> bool {
-        ObjectTypeExtension::is_well_formed(self)
+    fn find_ill_formed(&self) -> Option<IllFormed<'_>> {
+        ObjectTypeExtension::find_ill_formed(self)
     }
 
     fn find_depths(&self) -> Option<Depths> {

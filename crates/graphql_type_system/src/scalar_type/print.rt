@@ -1,5 +1,6 @@
 //! Scalar types are printed.
 ghost use Rattle.std.specs.Prelude.{◌≡◌, Some};
+ghost use Rattle.graphql_text.specs.code.IllFormed.{IsFirstFlaw};
 ghost use Rattle.graphql_text.specs.kinds.PrintedKinds.{no_types};
 ghost use Rattle.graphql_text.specs.kinds.Printing.{IsDefaultPrint, default_bytes};
 ghost use Rattle.graphql_type_system.specs.kinds.ScalarTypes.{scalar_type_definition_kind, scalar_type_extension_kind};
@@ -8,11 +9,12 @@ ghost use Rattle.graphql_type_system.specs.lemmas.Kinds.{scalar_type_definition_
 
 use crate::scalar_type::{ScalarTypeDefinition, ScalarTypeExtension};
 use graphql_text::engine::{Serialize, Syntax, SyntaxTree};
+use graphql_text::ill_formed::{IllFormed, SideCondition};
 use graphql_text::writers::{
-    Depths, Place, Start, Target, Written, write_leading_description, write_name, write_whole,
-    write_words,
+    Depths, Place, Start, Target, Written, ill_formed_unless, write_leading_description,
+    write_name, write_whole, write_words,
 };
-use graphql_values::writers::{Constness, Stacks, are_directives_well_formed};
+use graphql_values::writers::{Constness, Stacks, find_ill_formed_directive};
 use std::alloc::AllocError;
 use std::fmt;
 
@@ -24,13 +26,21 @@ impl ScalarTypeDefinition {
         Serialize::new(self)
     }
 
+    /// The first enum value in the arguments of its directives that is `true`, `false` or `null`, or variable there.
+    pub fn find_ill_formed(&self) -> Option<IllFormed<'_>>
+        ensures { IsFirstFlaw
+            (scalar_type_definition_kind.flaws (scalar_type_definition_tree self.now)) result }
+    {
+        find_ill_formed_directive(&self.directives, Constness::Const)
+    }
+
     /// Whether no variable stands in the arguments of its directives, and no enum value there is
     /// `true`, `false` or `null`.
     pub fn is_well_formed(&self) -> bool
         ensures { result
             ≡ scalar_type_definition_kind.obeys (scalar_type_definition_tree self.now) }
     {
-        are_directives_well_formed(&self.directives, Constness::Const)
+        SyntaxTree::is_well_formed(self)
     }
 }
 
@@ -43,8 +53,8 @@ impl SyntaxTree for ScalarTypeDefinition {
 
     ghost list_depth = { no_types };
 
-    fn is_well_formed(&self) -> bool {
-        ScalarTypeDefinition::is_well_formed(self)
+    fn find_ill_formed(&self) -> Option<IllFormed<'_>> {
+        ScalarTypeDefinition::find_ill_formed(self)
     }
 
     fn find_depths(&self) -> Option<Depths> {
@@ -93,13 +103,27 @@ impl ScalarTypeExtension {
         Serialize::new(self)
     }
 
+    /// That it adds nothing, or the first enum value in the arguments of its directives that is `true`, `false` or
+    /// `null`, or variable there.
+    #[tactic(auto, using(graphql_text::proofs::kinds::FlawsTold::flaw_steps))]
+    pub fn find_ill_formed(&self) -> Option<IllFormed<'_>>
+        ensures { IsFirstFlaw
+            (scalar_type_extension_kind.flaws (scalar_type_extension_tree self.now)) result }
+    {
+        let adds = !self.directives.is_empty();
+        let found = ill_formed_unless(adds, SideCondition::AddsSomething, Some(&self.name));
+        if found.is_some() {
+            return found;
+        }
+        find_ill_formed_directive(&self.directives, Constness::Const)
+    }
+
     /// Whether it adds something, and no variable stands in the arguments of its directives, and no enum value there
     /// is `true`, `false` or `null`.
     pub fn is_well_formed(&self) -> bool
         ensures { result ≡ scalar_type_extension_kind.obeys (scalar_type_extension_tree self.now) }
     {
-        !self.directives.is_empty()
-            && are_directives_well_formed(&self.directives, Constness::Const)
+        SyntaxTree::is_well_formed(self)
     }
 }
 
@@ -112,8 +136,8 @@ impl SyntaxTree for ScalarTypeExtension {
 
     ghost list_depth = { no_types };
 
-    fn is_well_formed(&self) -> bool {
-        ScalarTypeExtension::is_well_formed(self)
+    fn find_ill_formed(&self) -> Option<IllFormed<'_>> {
+        ScalarTypeExtension::find_ill_formed(self)
     }
 
     fn find_depths(&self) -> Option<Depths> {

@@ -1,5 +1,6 @@
 //! Schemas are printed.
 ghost use Rattle.std.specs.Prelude.{◌≡◌, Some};
+ghost use Rattle.graphql_text.specs.code.IllFormed.{IsFirstFlaw};
 ghost use Rattle.graphql_text.specs.kinds.PrintedKinds.{no_types};
 ghost use Rattle.graphql_text.specs.kinds.Printing.{IsDefaultPrint, default_bytes};
 ghost use Rattle.graphql_type_system.specs.kinds.Schemas.{schema_definition_kind, schema_extension_kind};
@@ -10,11 +11,13 @@ use crate::members::{write_directives_and_members, write_required_members};
 use crate::root_operation::root_operations_nesting;
 use crate::schema::{SchemaDefinition, SchemaExtension};
 use graphql_text::engine::{Serialize, Syntax, SyntaxTree};
+use graphql_text::ill_formed::{IllFormed, SideCondition};
 use graphql_text::writers::{
-    Depths, Place, Start, Target, Written, write_leading_description, write_whole, write_words,
+    Depths, Place, Start, Target, Written, ill_formed_unless, write_leading_description,
+    write_whole, write_words,
 };
 use graphql_values::writers::{
-    Constness, Stacks, are_directives_well_formed, find_directives_nesting,
+    Constness, Stacks, find_directives_nesting, find_ill_formed_directive,
 };
 use std::alloc::AllocError;
 use std::fmt;
@@ -27,13 +30,27 @@ impl SchemaDefinition {
         Serialize::new(self)
     }
 
+    /// The first enum value in the arguments of its directives that is `true`, `false` or `null`, or variable there; or
+    /// else that there is no root operation.
+    #[tactic(auto, using(graphql_text::proofs::kinds::FlawsTold::flaw_steps))]
+    pub fn find_ill_formed(&self) -> Option<IllFormed<'_>>
+        ensures { IsFirstFlaw
+            (schema_definition_kind.flaws (schema_definition_tree self.now)) result }
+    {
+        let found = find_ill_formed_directive(&self.directives, Constness::Const);
+        if found.is_some() {
+            return found;
+        }
+        let has_root = !self.root_operations.is_empty();
+        ill_formed_unless(has_root, SideCondition::HasRootOperation, None)
+    }
+
     /// Whether there is a root operation, no variable stands in the arguments of its directives, and no
     /// enum value there is `true`, `false` or `null`.
     pub fn is_well_formed(&self) -> bool
         ensures { result ≡ schema_definition_kind.obeys (schema_definition_tree self.now) }
     {
-        !self.root_operations.is_empty()
-            && are_directives_well_formed(&self.directives, Constness::Const)
+        SyntaxTree::is_well_formed(self)
     }
 }
 
@@ -46,8 +63,8 @@ impl SyntaxTree for SchemaDefinition {
 
     ghost list_depth = { no_types };
 
-    fn is_well_formed(&self) -> bool {
-        SchemaDefinition::is_well_formed(self)
+    fn find_ill_formed(&self) -> Option<IllFormed<'_>> {
+        SchemaDefinition::find_ill_formed(self)
     }
 
     fn find_depths(&self) -> Option<Depths> {
@@ -98,13 +115,27 @@ impl SchemaExtension {
         Serialize::new(self)
     }
 
+    /// That it adds nothing, or the first enum value in the arguments of its directives that is `true`, `false` or
+    /// `null`, or variable there.
+    #[tactic(auto, using(graphql_text::proofs::kinds::FlawsTold::flaw_steps))]
+    pub fn find_ill_formed(&self) -> Option<IllFormed<'_>>
+        ensures { IsFirstFlaw
+            (schema_extension_kind.flaws (schema_extension_tree self.now)) result }
+    {
+        let adds = !self.directives.is_empty() || !self.root_operations.is_empty();
+        let found = ill_formed_unless(adds, SideCondition::AddsSomething, None);
+        if found.is_some() {
+            return found;
+        }
+        find_ill_formed_directive(&self.directives, Constness::Const)
+    }
+
     /// Whether it adds something, and no variable stands in the arguments of its directives, and no enum value there
     /// is `true`, `false` or `null`.
     pub fn is_well_formed(&self) -> bool
         ensures { result ≡ schema_extension_kind.obeys (schema_extension_tree self.now) }
     {
-        (!self.directives.is_empty() || !self.root_operations.is_empty())
-            && are_directives_well_formed(&self.directives, Constness::Const)
+        SyntaxTree::is_well_formed(self)
     }
 }
 
@@ -117,8 +148,8 @@ impl SyntaxTree for SchemaExtension {
 
     ghost list_depth = { no_types };
 
-    fn is_well_formed(&self) -> bool {
-        SchemaExtension::is_well_formed(self)
+    fn find_ill_formed(&self) -> Option<IllFormed<'_>> {
+        SchemaExtension::find_ill_formed(self)
     }
 
     fn find_depths(&self) -> Option<Depths> {

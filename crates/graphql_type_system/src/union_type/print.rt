@@ -1,5 +1,6 @@
 //! Union types are printed.
 ghost use Rattle.std.specs.Prelude.{◌≡◌, Some};
+ghost use Rattle.graphql_text.specs.code.IllFormed.{IsFirstFlaw};
 ghost use Rattle.graphql_text.specs.kinds.PrintedKinds.{no_types};
 ghost use Rattle.graphql_text.specs.kinds.Printing.{IsDefaultPrint, default_bytes};
 ghost use Rattle.graphql_type_system.specs.trees.TypeSystemTrees.{union_type_definition_tree, union_type_extension_tree};
@@ -9,11 +10,12 @@ ghost use Rattle.graphql_type_system.specs.lemmas.Kinds.{union_type_definition_l
 use crate::joined_names::write_joined_names;
 use crate::union_type::{UnionTypeDefinition, UnionTypeExtension};
 use graphql_text::engine::{Serialize, Syntax, SyntaxTree};
+use graphql_text::ill_formed::{IllFormed, SideCondition};
 use graphql_text::writers::{
-    Depths, Place, Start, Target, Written, write_leading_description, write_name, write_whole,
-    write_words,
+    Depths, Place, Start, Target, Written, ill_formed_unless, write_leading_description,
+    write_name, write_whole, write_words,
 };
-use graphql_values::writers::{Constness, Stacks, are_directives_well_formed};
+use graphql_values::writers::{Constness, Stacks, find_ill_formed_directive};
 use std::alloc::AllocError;
 use std::fmt;
 
@@ -25,12 +27,20 @@ impl UnionTypeDefinition {
         Serialize::new(self)
     }
 
+    /// The first enum value in the arguments of its directives that is `true`, `false` or `null`, or variable there.
+    pub fn find_ill_formed(&self) -> Option<IllFormed<'_>>
+        ensures { IsFirstFlaw
+            (union_type_definition_kind.flaws (union_type_definition_tree self.now)) result }
+    {
+        find_ill_formed_directive(&self.directives, Constness::Const)
+    }
+
     /// Whether no variable stands in the arguments of its directives, and no enum value there is
     /// `true`, `false` or `null`.
     pub fn is_well_formed(&self) -> bool
         ensures { result ≡ union_type_definition_kind.obeys (union_type_definition_tree self.now) }
     {
-        are_directives_well_formed(&self.directives, Constness::Const)
+        SyntaxTree::is_well_formed(self)
     }
 }
 
@@ -43,8 +53,8 @@ impl SyntaxTree for UnionTypeDefinition {
 
     ghost list_depth = { no_types };
 
-    fn is_well_formed(&self) -> bool {
-        UnionTypeDefinition::is_well_formed(self)
+    fn find_ill_formed(&self) -> Option<IllFormed<'_>> {
+        UnionTypeDefinition::find_ill_formed(self)
     }
 
     fn find_depths(&self) -> Option<Depths> {
@@ -95,13 +105,27 @@ impl UnionTypeExtension {
         Serialize::new(self)
     }
 
+    /// That it adds nothing, or the first enum value in the arguments of its directives that is `true`, `false` or
+    /// `null`, or variable there.
+    #[tactic(auto, using(graphql_text::proofs::kinds::FlawsTold::flaw_steps))]
+    pub fn find_ill_formed(&self) -> Option<IllFormed<'_>>
+        ensures { IsFirstFlaw
+            (union_type_extension_kind.flaws (union_type_extension_tree self.now)) result }
+    {
+        let adds = !self.directives.is_empty() || !self.members.is_empty();
+        let found = ill_formed_unless(adds, SideCondition::AddsSomething, Some(&self.name));
+        if found.is_some() {
+            return found;
+        }
+        find_ill_formed_directive(&self.directives, Constness::Const)
+    }
+
     /// Whether it adds something, and no variable stands in the arguments of its directives, and no enum value there
     /// is `true`, `false` or `null`.
     pub fn is_well_formed(&self) -> bool
         ensures { result ≡ union_type_extension_kind.obeys (union_type_extension_tree self.now) }
     {
-        (!self.directives.is_empty() || !self.members.is_empty())
-            && are_directives_well_formed(&self.directives, Constness::Const)
+        SyntaxTree::is_well_formed(self)
     }
 }
 
@@ -114,8 +138,8 @@ impl SyntaxTree for UnionTypeExtension {
 
     ghost list_depth = { no_types };
 
-    fn is_well_formed(&self) -> bool {
-        UnionTypeExtension::is_well_formed(self)
+    fn find_ill_formed(&self) -> Option<IllFormed<'_>> {
+        UnionTypeExtension::find_ill_formed(self)
     }
 
     fn find_depths(&self) -> Option<Depths> {

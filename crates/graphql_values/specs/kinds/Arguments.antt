@@ -1,13 +1,14 @@
 -- Arguments: Argument and Arguments, section 2.6.
 use Rattle.std.specs.Prelude.{ℕ, List, [], ◌∷◌, Bool, false}
-use Rattle.std.specs.List.{list_all}
+use Rattle.std.specs.List.{list_all, flat_map}
 use Rattle.graphql_text.specs.lexical.Literals.{NameText}
 use Rattle.graphql_text.specs.lexical.Tokens.{colon, Punctuation, Name}
 use Rattle.graphql_text.specs.grammar.Forms.{Form, token, ◌⨟◌, name_except}
+use Rattle.graphql_text.specs.kinds.Flaws.{Flaw}
 use Rattle.graphql_text.specs.kinds.Kinds.{Kind}
 use Rattle.graphql_text.specs.layout.Layout.{Item, Word, Space, flat}
 use Rattle.graphql_text.specs.parts.Parentheses.{parentheses_form, flat_parentheses_shape, parentheses_nesting}
-use Rattle.graphql_values.specs.kinds.Values.{Constness, NonConst, ValueTree, value_form, value_shape, value_nesting, value_obeys}
+use Rattle.graphql_values.specs.kinds.Values.{Constness, NonConst, ValueTree, value_form, value_shape, value_nesting, value_obeys, value_flaws}
 
 -- An argument without locations.
 pub record ArgumentTree : Type 0 where
@@ -34,11 +35,15 @@ argument_nesting argument = value_nesting argument.value
 abbrev pub argument_obeys : Constness → ArgumentTree → Bool
 argument_obeys c argument = value_obeys c argument.value
 
+abbrev pub argument_flaws : Constness → ArgumentTree → List Flaw
+argument_flaws c argument = value_flaws c argument.value
+
 abbrev pub argument_kind : Kind
 argument_kind = record {
   Tree = ArgumentTree;
   form = argument_form NonConst;
   obeys = argument_obeys NonConst;
+  flaws = argument_flaws NonConst;
   shape = λ broken front. argument_shape;
   nesting = argument_nesting;
 }
@@ -56,3 +61,6 @@ arguments_nesting = parentheses_nesting argument_nesting
 
 abbrev pub arguments_obey : Constness → List ArgumentTree → Bool
 arguments_obey c = list_all (argument_obeys c)
+
+abbrev pub arguments_flaws : Constness → List ArgumentTree → List Flaw
+arguments_flaws c = flat_map (argument_flaws c)

@@ -1,7 +1,8 @@
 -- Arguments definitions of fields and directives: ArgumentsDefinition, section 3.6.1.
 use Rattle.std.specs.Prelude.{ℕ, List, Bool, false, ◌||◌, is_some}
-use Rattle.std.specs.List.{list_all}
+use Rattle.std.specs.List.{list_all, flat_map}
 use Rattle.graphql_text.specs.grammar.Forms.{Form}
+use Rattle.graphql_text.specs.kinds.Flaws.{Flaw}
 use Rattle.graphql_text.specs.parts.Greatest.{greatest}
 use Rattle.graphql_text.specs.layout.Layout.{Item}
 use Rattle.graphql_text.specs.parts.Members.{has_some}
@@ -27,6 +28,9 @@ arguments_definition_nesting = parentheses_nesting input_value_definition_kind.n
 
 abbrev pub arguments_definition_obeys : List input_value_definition_kind.Tree → Bool
 arguments_definition_obeys = list_all input_value_definition_kind.obeys
+
+abbrev pub arguments_definition_flaws : List input_value_definition_kind.Tree → List Flaw
+arguments_definition_flaws = flat_map input_value_definition_kind.flaws
 
 -- the list depth of the type that has the most lists
 abbrev pub arguments_list_depth : List input_value_definition_kind.Tree → ℕ

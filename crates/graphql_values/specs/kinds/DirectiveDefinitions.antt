@@ -1,15 +1,18 @@
 -- Directive definitions: DirectiveDefinition, section 3.13.
-use Rattle.std.specs.Prelude.{List, [], ◌∷◌, ◌++◌, codes, Bool, true, false, ◌&&◌}
+use Rattle.std.specs.Prelude.{List, [], ◌∷◌, ◌++◌, codes, Bool, true, false, ◌&&◌, Some}
 use Rattle.graphql_text.specs.lexical.Literals.{NameText}
 use Rattle.graphql_text.specs.lexical.Tokens.{at, bar, Punctuation, Name}
 use Rattle.graphql_text.specs.parts.Descriptions.{described}
 use Rattle.graphql_text.specs.grammar.Forms.{Form, token, no_tokens, never, ◌⨟◌, keyword, name_except, joined_by}
 use Rattle.graphql_text.specs.parts.JoinedNames.{joined_names_shape}
+use Rattle.graphql_text.specs.declared.ill_formed.SideCondition.TheVariants.{HasLocation}
+use Rattle.graphql_text.specs.kinds.Flaws.{flaw_unless}
 use Rattle.graphql_text.specs.kinds.Kinds.{Kind}
 use Rattle.graphql_text.specs.layout.Layout.{Item, Word, Space}
 use Rattle.graphql_text.specs.parts.Members.{has_some}
 use Rattle.graphql_values.specs.kinds.ArgumentsDefinitions.{arguments_definition_form, arguments_definition_shape}
 use Rattle.graphql_values.specs.kinds.ArgumentsDefinitions.{arguments_definition_nesting, arguments_definition_obeys}
+use Rattle.graphql_values.specs.kinds.ArgumentsDefinitions.{arguments_definition_flaws}
 use Rattle.graphql_values.specs.kinds.DirectiveLocations.{DirectiveLocationTree, location_name, location_form}
 use Rattle.graphql_values.specs.kinds.InputValueDefinitions.{input_value_definition_kind}
 
@@ -47,6 +50,8 @@ directive_definition_body = record {
       ⨟ repeatable_form definition.repeatable ⨟ directive_locations_form definition.locations;
   -- the side conditions: its arguments obey theirs, and it has a location
   obeys = λ definition. arguments_definition_obeys definition.arguments && has_some definition.locations;
+  flaws = λ definition.
+      arguments_definition_flaws definition.arguments ++ flaw_unless (has_some definition.locations) HasLocation (Some definition.name);
   -- the layout of a directive definition, behind its description
   shape = λ broken front definition.
       Word (Name (codes "directive")) ∷ Space ∷ Word (Punctuation at) ∷ Word (Name definition.name.text)

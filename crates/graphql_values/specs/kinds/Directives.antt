@@ -1,14 +1,15 @@
 -- Directives: Directive and Directives, section 2.12.
 use Rattle.std.specs.Prelude.{ℕ, List, [], ◌∷◌, ◌++◌, Bool}
-use Rattle.std.specs.List.{list_all}
+use Rattle.std.specs.List.{list_all, flat_map}
 use Rattle.graphql_text.specs.lexical.Literals.{NameText}
 use Rattle.graphql_text.specs.lexical.Tokens.{at, Punctuation, Name}
 use Rattle.graphql_text.specs.grammar.Forms.{Form, token, ◌⨟◌, list_of, name_except}
 use Rattle.graphql_text.specs.parts.Greatest.{greatest}
+use Rattle.graphql_text.specs.kinds.Flaws.{Flaw}
 use Rattle.graphql_text.specs.kinds.Kinds.{Kind}
 use Rattle.graphql_text.specs.layout.Layout.{Item, Word, Space}
 use Rattle.graphql_values.specs.kinds.Values.{Constness, NonConst}
-use Rattle.graphql_values.specs.kinds.Arguments.{ArgumentTree, arguments_form, arguments_shape, arguments_nesting, arguments_obey}
+use Rattle.graphql_values.specs.kinds.Arguments.{ArgumentTree, arguments_form, arguments_shape, arguments_nesting, arguments_obey, arguments_flaws}
 
 -- A directive without locations.
 pub record DirectiveTree : Type 0 where
@@ -31,12 +32,16 @@ directive_nesting directive = arguments_nesting directive.arguments
 abbrev pub directive_obeys : Constness → DirectiveTree → Bool
 directive_obeys c directive = arguments_obey c directive.arguments
 
+abbrev pub directive_flaws : Constness → DirectiveTree → List Flaw
+directive_flaws c directive = arguments_flaws c directive.arguments
+
 -- A directive by itself isn't in a const context.
 abbrev pub directive_kind : Kind
 directive_kind = record {
   Tree = DirectiveTree;
   form = directive_form NonConst;
   obeys = directive_obeys NonConst;
+  flaws = directive_flaws NonConst;
   shape = λ broken front. directive_shape;
   nesting = directive_nesting;
 }
@@ -57,12 +62,16 @@ directives_nesting = greatest directive_nesting
 abbrev pub directives_obey : Constness → List DirectiveTree → Bool
 directives_obey c = list_all (directive_obeys c)
 
+abbrev pub directives_flaws : Constness → List DirectiveTree → List Flaw
+directives_flaws c = flat_map (directive_flaws c)
+
 -- A list by itself isn't in a const context, and may be empty.
 abbrev pub directives_kind : Kind
 directives_kind = record {
   Tree = List DirectiveTree;
   form = directives_form NonConst;
   obeys = directives_obey NonConst;
+  flaws = directives_flaws NonConst;
   shape = λ broken front. directives_shape;
   nesting = directives_nesting;
 }

@@ -9,7 +9,9 @@ use Rattle.graphql_text.specs.layout.Layout.{Word, Space}
 use Rattle.graphql_values.specs.kinds.Values.{Const, ValueTree}
 use Rattle.graphql_values.specs.kinds.TypeReferences.{TypeTree, type_form, type_shape}
 use Rattle.graphql_values.specs.kinds.Directives.{DirectiveTree, directives_form, directives_shape, directives_nesting, directives_obey}
+use Rattle.graphql_values.specs.kinds.Directives.{directives_flaws}
 use Rattle.graphql_values.specs.kinds.DefaultValues.{default_value_form, default_value_shape, default_value_nesting, default_value_obeys}
+use Rattle.graphql_values.specs.kinds.DefaultValues.{default_value_flaws}
 
 -- A definition without its description and without locations.
 pub record InputValueDefinitionTree : Type 0 where
@@ -27,6 +29,7 @@ input_value_definition_body = record {
       ⨟ directives_form Const input.directives;
   -- the side conditions are those of the default value and the directives, both in const contexts
   obeys = λ input. default_value_obeys input.default_value && directives_obey Const input.directives;
+  flaws = λ input. default_value_flaws input.default_value ++ directives_flaws Const input.directives;
   -- the layout of a definition, behind its description
   shape = λ broken front input.
       Word (Name input.name.text) ∷ Word (Punctuation colon) ∷ Space

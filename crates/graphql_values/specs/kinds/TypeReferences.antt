@@ -32,12 +32,13 @@ list_depth (non_null_named_type name) = 0
 list_depth (list_type item) = list_depth item + 1
 list_depth (non_null_list_type item) = list_depth item + 1
 
--- The brackets of a type are no group, and there are no side conditions.
+-- The brackets of a type are no group, and there are no side conditions, and no flaws.
 abbrev pub type_kind : Kind
 type_kind = record {
   Tree = TypeTree;
   form = type_form;
   obeys = λ type. true;
+  flaws = λ type. [];
   shape = λ broken front. type_shape;
   nesting = λ type. 0;
 }

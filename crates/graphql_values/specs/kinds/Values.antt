@@ -1,7 +1,9 @@
 -- Values: Value, section 2.9, with Variable, section 2.10.
-use Rattle.std.specs.Prelude.{ℕ, ◌≡◌, List, [], ◌∷◌, Bool, true, false, not, ◌&&◌, codes}
+use Rattle.std.specs.Prelude.{ℕ, ◌≡◌, List, [], ◌∷◌, Bool, true, false, not, ◌&&◌, ◌++◌, codes, Some}
 use Rattle.graphql_text.specs.lexical.Literals.{NameText, IntText, FloatText, StringText}
 use Rattle.graphql_text.specs.lexical.Tokens.{dollar, colon, lbracket, rbracket, lbrace, rbrace, Punctuation, Name, IntValue, FloatValue, StringValue}
+use Rattle.graphql_text.specs.declared.ill_formed.SideCondition.TheVariants.{IsConstant, IsNotReserved}
+use Rattle.graphql_text.specs.kinds.Flaws.{Flaw, flaw_unless}
 use Rattle.graphql_text.specs.kinds.Kinds.{Kind}
 use Rattle.graphql_text.specs.grammar.Forms.{Form, token, no_tokens, ◌⨟◌, name_except, only_if, is_one_of, keyword}
 use Rattle.graphql_text.specs.layout.Nesting.{group_nesting}
@@ -137,12 +139,30 @@ abbrev mutual
   object_fields_obey c no_fields = true
   object_fields_obey c (more_fields name value more) = value_obeys c value && object_fields_obey c more
 
+-- What breaks them, in the order of print.
+abbrev mutual
+  pub value_flaws : Constness → ValueTree → List Flaw
+  value_flaws c (enum_value name) = flaw_unless (is_enum_name name.text) IsNotReserved (Some name)
+  value_flaws c (variable name) = flaw_unless (admits_variables c) IsConstant (Some name)
+  value_flaws c (list_value items) = values_flaws c items
+  value_flaws c (object_value fields) = object_fields_flaws c fields
+  value_flaws c _ = []
+
+  pub values_flaws : Constness → ValueTrees → List Flaw
+  values_flaws c no_values = []
+  values_flaws c (more_values value more) = value_flaws c value ++ values_flaws c more
+
+  pub object_fields_flaws : Constness → ObjectFieldTrees → List Flaw
+  object_fields_flaws c no_fields = []
+  object_fields_flaws c (more_fields name value more) = value_flaws c value ++ object_fields_flaws c more
+
 -- A value by itself isn't in a const context.
 abbrev pub value_kind : Kind
 value_kind = record {
   Tree = ValueTree;
   form = value_form NonConst;
   obeys = value_obeys NonConst;
+  flaws = value_flaws NonConst;
   shape = λ broken front. value_shape broken;
   nesting = value_nesting;
 }

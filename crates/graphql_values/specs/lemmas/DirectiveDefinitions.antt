@@ -26,6 +26,7 @@ use Rattle.graphql_values.specs.declared.directive_location.DirectiveLocation.Th
 use Rattle.graphql_values.specs.declared.directive_location.DirectiveLocation.TheVariants.{ArgumentDefinition, Interface, Union, Enum}
 use Rattle.graphql_values.specs.declared.directive_location.DirectiveLocation.TheVariants.{EnumValue, InputObject, InputFieldDefinition}
 use Rattle.graphql_values.specs.lemmas.InputValueDefinitions.{arguments_definition_part}
+use Rattle.graphql_values.specs.lemmas.FlawsTold.{directive_definition_tells}
 
 -- READERS OF LOCATIONS AND OF `repeatable` FIND THEM
 
@@ -181,4 +182,4 @@ unfoldable pub directive_definition_part :
 directive_definition_part = described_part directive_definition_body directive_definition_body_part refl
 
 pub directive_definition_laws : Laws directive_definition_kind
-directive_definition_laws = part_laws directive_definition_part (λ broken front definition. refl)
+directive_definition_laws = part_laws directive_definition_part (λ broken front definition. refl) directive_definition_tells

@@ -16,6 +16,7 @@ use Rattle.graphql_values.specs.kinds.Directives.{directive_kind, directives_for
 use Rattle.graphql_values.specs.kinds.Directives.{directives_kind}
 use Rattle.graphql_values.specs.kinds.Values.{Constness, NonConst}
 use Rattle.graphql_values.specs.lemmas.Values.{value_part}
+use Rattle.graphql_values.specs.lemmas.FlawsTold.{argument_tells, directive_tells, directives_tell}
 
 -- the items of Argument, section 2.6
 unfoldable pub argument_items_part : (c : Constness) →
@@ -29,7 +30,7 @@ unfoldable pub argument_part : (c : Constness) →
 argument_part c = flat_part (argument_items_part c)
 
 pub argument_laws : Laws argument_kind
-argument_laws = part_laws (argument_part NonConst) (λ broken front argument. refl)
+argument_laws = part_laws (argument_part NonConst) (λ broken front argument. refl) (argument_tells NonConst)
 
 -- Arguments, section 2.6
 unfoldable pub arguments_part : (c : Constness) →
@@ -46,7 +47,7 @@ directive_part c = retold (λ x. record { name = x.0; arguments = x.1 }) (λ dir
     (mark_then at refl (name_then [] (arguments_part c)))
 
 pub directive_laws : Laws directive_kind
-directive_laws = part_laws (directive_part NonConst) (λ broken front directive. refl)
+directive_laws = part_laws (directive_part NonConst) (λ broken front directive. refl) (directive_tells NonConst)
 
 abbrev pub excluded_after_directives : List TokenClass
 excluded_after_directives = a_punctuator at ∷ a_punctuator lparen ∷ []
@@ -71,4 +72,4 @@ directives_part c = let p = directive_part c in record {
 }
 
 pub directives_laws : Laws directives_kind
-directives_laws = part_laws (directives_part NonConst) (λ broken front directives. refl)
+directives_laws = part_laws (directives_part NonConst) (λ broken front directives. refl) (directives_tell NonConst)

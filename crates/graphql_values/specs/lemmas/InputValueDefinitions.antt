@@ -15,6 +15,7 @@ use Rattle.graphql_values.specs.kinds.Values.{Const}
 use Rattle.graphql_values.specs.lemmas.Directives.{excluded_after_directives, directives_part}
 use Rattle.graphql_values.specs.lemmas.Types.{type_part}
 use Rattle.graphql_values.specs.lemmas.Values.{value_part}
+use Rattle.graphql_values.specs.lemmas.FlawsTold.{input_value_definition_tells}
 
 -- DefaultValue, section 2.10
 unfoldable pub default_value_part : Part default_value_form default_value_shape default_value_nesting default_value_obeys
@@ -37,7 +38,7 @@ unfoldable pub input_value_definition_part :
 input_value_definition_part = described_part input_value_definition_body input_value_definition_body_part refl
 
 pub input_value_definition_laws : Laws input_value_definition_kind
-input_value_definition_laws = part_laws input_value_definition_part (λ broken front input. refl)
+input_value_definition_laws = part_laws input_value_definition_part (λ broken front input. refl) input_value_definition_tells
 
 -- what is written of a definition raises the level as often as it lowers it
 pub input_value_definition_balanced : (broken : Bool) (input : input_value_definition_kind.Tree) →

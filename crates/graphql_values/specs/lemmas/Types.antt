@@ -121,4 +121,4 @@ type_part = record {
 }
 
 pub type_laws : Laws type_kind
-type_laws = part_laws type_part (λ broken front type. refl)
+type_laws = part_laws type_part (λ broken front type. refl) (λ type. refl)

@@ -22,6 +22,7 @@ use Rattle.graphql_values.specs.kinds.Values.{no_values, more_values, no_fields,
 use Rattle.graphql_values.specs.kinds.Values.{object_fields_form, value_shape, values_shapes, object_fields_shapes, value_nesting}
 use Rattle.graphql_values.specs.kinds.Values.{values_nestings, object_fields_nestings, value_obeys, values_obey, object_fields_obey}
 use Rattle.graphql_values.specs.kinds.Values.{value_kind}
+use Rattle.graphql_values.specs.lemmas.FlawsTold.{value_tells}
 
 -- THE TOKENS OF A VALUE AS IT IS PRINTED, IN FRONT OF THOSE THAT FOLLOW
 
@@ -297,4 +298,4 @@ value_part c = record {
 }
 
 pub value_laws : Laws value_kind
-value_laws = part_laws (value_part NonConst) (λ broken front value. refl)
+value_laws = part_laws (value_part NonConst) (λ broken front value. refl) (value_tells NonConst)

@@ -1,16 +1,18 @@
 //! Directives are printed.
 ghost use Rattle.std.specs.Prelude.{◌≡◌, Some};
+ghost use Rattle.graphql_text.specs.code.IllFormed.{IsFirstFlaw};
 ghost use Rattle.graphql_text.specs.kinds.PrintedKinds.{no_types};
 ghost use Rattle.graphql_text.specs.kinds.Printing.{IsDefaultPrint, default_bytes};
 ghost use Rattle.graphql_values.specs.trees.DirectiveTrees.{directive_tree};
 ghost use Rattle.graphql_values.specs.kinds.Directives.{directive_kind};
 ghost use Rattle.graphql_values.specs.lemmas.Directives.{directive_laws};
 
-use crate::argument::print::{are_arguments_well_formed, find_arguments_nesting, write_arguments};
+use crate::argument::print::{find_arguments_nesting, find_ill_formed_argument, write_arguments};
 use crate::constness::Constness;
 use crate::directive::Directive;
 use crate::value::print::ValueEntry;
 use graphql_text::engine::{Serialize, Syntax, SyntaxTree};
+use graphql_text::ill_formed::IllFormed;
 use graphql_text::writers::{
     Depths, Place, Stack, Start, Target, Written, write_name, write_whole, write_words,
 };
@@ -25,11 +27,18 @@ impl Directive {
         Serialize::new(self)
     }
 
+    /// The first enum value in its arguments that is `true`, `false` or `null`. Variables are allowed.
+    pub fn find_ill_formed(&self) -> Option<IllFormed<'_>>
+        ensures { IsFirstFlaw (directive_kind.flaws (directive_tree self.now)) result }
+    {
+        find_ill_formed_argument(&self.arguments, Constness::NonConst)
+    }
+
     /// Whether no enum value in its arguments is `true`, `false` or `null`. Variables are allowed.
     pub fn is_well_formed(&self) -> bool
         ensures { result ≡ directive_kind.obeys (directive_tree self.now) }
     {
-        are_arguments_well_formed(&self.arguments, Constness::NonConst)
+        SyntaxTree::is_well_formed(self)
     }
 }
 
@@ -42,8 +51,8 @@ impl SyntaxTree for Directive {
 
     ghost list_depth = { no_types };
 
-    fn is_well_formed(&self) -> bool {
-        Directive::is_well_formed(self)
+    fn find_ill_formed(&self) -> Option<IllFormed<'_>> {
+        Directive::find_ill_formed(self)
     }
 
     fn find_depths(&self) -> Option<Depths> {

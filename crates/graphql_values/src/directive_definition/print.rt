@@ -1,5 +1,6 @@
 //! Definitions of directives are printed.
 ghost use Rattle.std.specs.Prelude.{◌≡◌, Some, map};
+ghost use Rattle.graphql_text.specs.code.IllFormed.{IsFirstFlaw};
 ghost use Rattle.graphql_text.specs.kinds.Printing.{IsDefaultPrint, default_bytes};
 ghost use Rattle.graphql_text.specs.code.Writing.{WritesAnywhere};
 ghost use Rattle.graphql_values.specs.kinds.ArgumentsDefinitions.{arguments_list_depth};
@@ -14,9 +15,10 @@ use crate::input_value_definition::print::some_want_lines;
 use crate::parameters::write_parameters;
 use crate::stacks::Stacks;
 use graphql_text::engine::{Serialize, Syntax, SyntaxTree};
+use graphql_text::ill_formed::{IllFormed, SideCondition};
 use graphql_text::writers::{
-    Depths, Place, Start, Target, Written, are_parts_well_formed, find_parts_depths,
-    write_leading_description, write_name, write_whole, write_words,
+    Depths, Place, Start, Target, Written, find_ill_formed_part, find_parts_depths,
+    ill_formed_unless, write_leading_description, write_name, write_whole, write_words,
 };
 use std::alloc::AllocError;
 use std::fmt;
@@ -57,11 +59,25 @@ impl DirectiveDefinition {
         Serialize::new(self)
     }
 
+    /// The first argument that isn't well formed, or else that there is no location.
+    #[tactic(auto, using(graphql_text::proofs::kinds::FlawsTold::flaw_steps))]
+    pub fn find_ill_formed(&self) -> Option<IllFormed<'_>>
+        ensures { IsFirstFlaw
+            (directive_definition_kind.flaws (directive_definition_tree self.now)) result }
+    {
+        let found = find_ill_formed_part(&self.arguments);
+        if found.is_some() {
+            return found;
+        }
+        let has_location = !self.locations.is_empty();
+        ill_formed_unless(has_location, SideCondition::HasLocation, Some(&self.name))
+    }
+
     /// Whether there is a location, and each argument is well formed.
     pub fn is_well_formed(&self) -> bool
         ensures { result ≡ directive_definition_kind.obeys (directive_definition_tree self.now) }
     {
-        !self.locations.is_empty() && are_parts_well_formed(&self.arguments)
+        SyntaxTree::is_well_formed(self)
     }
 }
 
@@ -74,8 +90,8 @@ impl SyntaxTree for DirectiveDefinition {
 
     ghost list_depth = { λ definition. arguments_list_depth definition.body.arguments };
 
-    fn is_well_formed(&self) -> bool {
-        DirectiveDefinition::is_well_formed(self)
+    fn find_ill_formed(&self) -> Option<IllFormed<'_>> {
+        DirectiveDefinition::find_ill_formed(self)
     }
 
     fn find_depths(&self) -> Option<Depths> {

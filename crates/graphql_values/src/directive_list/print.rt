@@ -1,39 +1,45 @@
 //! Lists of directives are printed.
 ghost use Rattle.std.specs.Prelude.{◌≡◌, Some};
+ghost use Rattle.graphql_text.specs.code.IllFormed.{IsFirstFlaw};
 ghost use Rattle.graphql_text.specs.layout.Levels.{IsCount};
 ghost use Rattle.graphql_text.specs.kinds.PrintedKinds.{no_types};
 ghost use Rattle.graphql_text.specs.kinds.Printing.{IsDefaultPrint, default_bytes};
 ghost use Rattle.graphql_text.specs.code.Stack.{CanWrite, IsKept};
 ghost use Rattle.graphql_text.specs.code.Writing.{Writes};
 ghost use Rattle.graphql_values.specs.trees.DirectiveTrees.{directive_node_trees, directive_trees};
-ghost use Rattle.graphql_values.specs.kinds.Directives.{directives_kind, directives_nesting, directives_obey, directives_shape};
+ghost use Rattle.graphql_values.specs.kinds.Directives.{directives_flaws, directives_kind, directives_nesting, directives_shape};
 ghost use Rattle.graphql_values.specs.trees.ValueTrees.{constness_of};
 ghost use Rattle.graphql_values.specs.lemmas.Directives.{directives_laws};
 
-use crate::argument::print::{are_arguments_well_formed, find_arguments_nesting};
+use crate::argument::print::{find_arguments_nesting, find_ill_formed_argument};
 use crate::constness::Constness;
 use crate::directive::Directive;
 use crate::directive_list::DirectiveList;
 use crate::value::print::ValueEntry;
 use graphql_base::node::Node;
 use graphql_text::engine::{Serialize, Syntax, SyntaxTree};
+use graphql_text::ill_formed::IllFormed;
 use graphql_text::writers::{
     Depths, Place, Stack, Start, Target, Written, write_whole, write_words,
 };
 use std::alloc::AllocError;
 use std::fmt;
 
-/// Whether the arguments of each directive are well formed in a constant context or another.
-pub fn are_directives_well_formed(directives: &DirectiveList, constness: Constness) -> bool
-    ensures { result ≡ directives_obey (constness_of constness) (directive_trees directives.now) }
+/// Where the arguments of the directives aren't well formed in a constant context or another.
+pub fn find_ill_formed_directive(
+    directives: &DirectiveList,
+    constness: Constness,
+) -> Option<IllFormed<'_>>
+    ensures { IsFirstFlaw
+        (directives_flaws (constness_of constness) (directive_trees directives.now)) result }
 {
     let nodes = directives.0.as_slice();
     for directive in nodes {
-        if !are_arguments_well_formed(&directive.arguments, constness) {
-            return false;
+        if let Some(found) = find_ill_formed_argument(&directive.arguments, constness) {
+            return Some(found.within(directive.location()));
         }
     }
-    true
+    None
 }
 
 /// The nesting depth of the directive that nests most. `None` if it is above `usize::MAX`.
@@ -79,11 +85,19 @@ impl DirectiveList {
         Serialize::new(self)
     }
 
+    /// The first enum value in the arguments of its directives that is `true`, `false` or `null`. Variables are
+    /// allowed.
+    pub fn find_ill_formed(&self) -> Option<IllFormed<'_>>
+        ensures { IsFirstFlaw (directives_kind.flaws (directive_trees self.now)) result }
+    {
+        find_ill_formed_directive(self, Constness::NonConst)
+    }
+
     /// Whether no enum value in the arguments of its directives is `true`, `false` or `null`. Variables are allowed.
     pub fn is_well_formed(&self) -> bool
         ensures { result ≡ directives_kind.obeys (directive_trees self.now) }
     {
-        are_directives_well_formed(self, Constness::NonConst)
+        SyntaxTree::is_well_formed(self)
     }
 }
 
@@ -96,8 +110,8 @@ impl SyntaxTree for DirectiveList {
 
     ghost list_depth = { no_types };
 
-    fn is_well_formed(&self) -> bool {
-        DirectiveList::is_well_formed(self)
+    fn find_ill_formed(&self) -> Option<IllFormed<'_>> {
+        DirectiveList::find_ill_formed(self)
     }
 
     fn find_depths(&self) -> Option<Depths> {

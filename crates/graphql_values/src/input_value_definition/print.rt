@@ -1,6 +1,7 @@
 //! Definitions of input values are printed.
 ghost use Rattle.std.specs.Prelude.{◌≡◌, Some};
 ghost use Rattle.std.specs.List.{list_any};
+ghost use Rattle.graphql_text.specs.code.IllFormed.{IsFirstFlaw};
 ghost use Rattle.graphql_text.specs.kinds.Printing.{IsDefaultPrint, default_bytes};
 ghost use Rattle.graphql_values.specs.kinds.ArgumentsDefinitions.{wants_lines};
 ghost use Rattle.graphql_values.specs.trees.DefinitionTrees.{input_value_definition_tree, input_value_definition_trees};
@@ -10,14 +11,15 @@ ghost use Rattle.graphql_values.specs.lemmas.InputValueDefinitions.{input_value_
 
 use crate::constness::Constness;
 use crate::default_value::{
-    find_default_value_nesting, is_default_value_well_formed, write_default_value,
+    find_default_value_nesting, find_ill_formed_default_value, write_default_value,
 };
-use crate::directive_list::print::{are_directives_well_formed, find_directives_nesting};
+use crate::directive_list::print::{find_directives_nesting, find_ill_formed_directive};
 use crate::input_value_definition::InputValueDefinition;
 use crate::stacks::Stacks;
 use crate::types::print::{find_list_depth, write_type};
 use graphql_base::node::Node;
 use graphql_text::engine::{Serialize, Syntax, SyntaxTree};
+use graphql_text::ill_formed::IllFormed;
 use graphql_text::writers::{
     Depths, Place, Start, Target, Written, write_leading_description, write_name_then, write_whole,
 };
@@ -45,14 +47,27 @@ impl InputValueDefinition {
         Serialize::new(self)
     }
 
+    /// The first enum value in the default value and the directives that is `true`, `false` or `null`, or variable in
+    /// them: both are constant.
+    #[tactic(auto, using(graphql_text::proofs::kinds::FlawsTold::flaw_steps))]
+    pub fn find_ill_formed(&self) -> Option<IllFormed<'_>>
+        ensures { IsFirstFlaw
+            (input_value_definition_kind.flaws (input_value_definition_tree self.now)) result }
+    {
+        let found = find_ill_formed_default_value(self.default_value.as_ref());
+        if found.is_some() {
+            return found;
+        }
+        find_ill_formed_directive(&self.directives, Constness::Const)
+    }
+
     /// Whether no enum value in the default value and the directives is `true`, `false` or `null`, and no variable
     /// stands in them: both are constant.
     pub fn is_well_formed(&self) -> bool
         ensures { result
             ≡ input_value_definition_kind.obeys (input_value_definition_tree self.now) }
     {
-        is_default_value_well_formed(self.default_value.as_ref())
-            && are_directives_well_formed(&self.directives, Constness::Const)
+        SyntaxTree::is_well_formed(self)
     }
 }
 
@@ -65,8 +80,8 @@ impl SyntaxTree for InputValueDefinition {
 
     ghost list_depth = { λ input. list_depth input.body.type };
 
-    fn is_well_formed(&self) -> bool {
-        InputValueDefinition::is_well_formed(self)
+    fn find_ill_formed(&self) -> Option<IllFormed<'_>> {
+        InputValueDefinition::find_ill_formed(self)
     }
 
     fn find_depths(&self) -> Option<Depths> {

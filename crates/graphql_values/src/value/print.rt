@@ -3,12 +3,13 @@ ghost use Rattle.std.specs.Prelude.{◌≡◌, Some, ◌+◌, ◌≤◌, ◌<◌
 ghost use Rattle.graphql_text.specs.layout.Layout.{Item, Lower, Tight, Word, last_comma};
 ghost use Rattle.graphql_text.specs.lexical.Tokens.{IntValue as IntToken, FloatValue as FloatToken};
 ghost use Rattle.graphql_text.specs.layout.Levels.{Fits, IsCount};
+ghost use Rattle.graphql_text.specs.code.IllFormed.{IsFirstFlaw};
 ghost use Rattle.graphql_text.specs.code.Place.{breaks, mode_of};
 ghost use Rattle.graphql_text.specs.kinds.PrintedKinds.{no_types};
 ghost use Rattle.graphql_text.specs.kinds.Printing.{IsDefaultPrint, default_bytes};
 ghost use Rattle.graphql_text.specs.code.Stack.{CanWrite, IsKept, stack_entries, stack_room};
 ghost use Rattle.graphql_text.specs.code.Writing.{IsCommaLead, Writes, WritesAnywhere, WritesToLevel, fixed_text};
-ghost use Rattle.graphql_values.specs.kinds.Values.{boolean_value, is_enum_name, object_fields_nesting, object_fields_obey, value_kind, value_nesting, value_obeys, value_shape, values_nesting, values_obey};
+ghost use Rattle.graphql_values.specs.kinds.Values.{boolean_value, is_enum_name, object_fields_flaws, object_fields_nesting, value_flaws, value_kind, value_nesting, value_shape, values_flaws, values_nesting};
 ghost use Rattle.graphql_values.specs.trees.Literals.{float_text, int_text};
 ghost use Rattle.graphql_values.specs.trees.ValueTrees.{constness_of, object_field_trees, value_tree, value_trees};
 ghost use Rattle.graphql_values.specs.code.ValueWalk.{CanGoOn, GoesOn, OpensValue, need_with, opened_level, opening, opening_word, stack_items, stack_need};
@@ -20,10 +21,12 @@ use crate::value::Value;
 use graphql_base::name::Name;
 use graphql_base::node::Node;
 use graphql_text::engine::{Serialize, Syntax, SyntaxTree};
+use graphql_text::ill_formed::{IllFormed, SideCondition};
 use graphql_text::writers::{
-    Depths, Place, ReadyCommaBreak, Stack, Start, Target, Written, ready_comma_lead,
-    write_comma_end, write_comma_lead, write_float, write_int, write_name, write_name_then,
-    write_padded_float, write_padded_int, write_string_value, write_whole, write_words,
+    Depths, Place, ReadyCommaBreak, Stack, Start, Target, Written, ill_formed_unless,
+    ready_comma_lead, write_comma_end, write_comma_lead, write_float, write_int, write_name,
+    write_name_then, write_padded_float, write_padded_int, write_string_value, write_whole,
+    write_words,
 };
 use std::alloc::{AllocError, Global};
 use std::fmt;
@@ -35,44 +38,56 @@ pub fn is_enum_name(name: &str) -> bool
     name != "true" && name != "false" && name != "null"
 }
 
-/// Whether no enum value in the value is `true`, `false` or `null`, and no variable stands in it where the context is
-/// constant.
-#[cycle(value_is_well_formed)]
-pub fn is_value_well_formed(value: &Value, constness: Constness) -> bool
-    ensures { result ≡ value_obeys (constness_of constness) (value_tree value.now) }
+/// Where a value isn't well formed: the first enum value in it that is `true`, `false` or `null`, or variable where the
+/// context is constant.
+#[cycle(find_ill_formed_value)]
+pub fn find_ill_formed_value(value: &Value, constness: Constness) -> Option<IllFormed<'_>>
+    ensures { IsFirstFlaw (value_flaws (constness_of constness) (value_tree value.now)) result }
 {
     match value {
-        Value::Enum(name) => is_enum_name(name.as_str()),
-        Value::Variable(_) => constness.admits_variables(),
-        Value::List(items) => are_items_well_formed(items, constness),
-        Value::Object(fields) => are_fields_well_formed(fields, constness),
+        Value::Enum(name) => ill_formed_unless(
+            is_enum_name(name.as_str()),
+            SideCondition::IsNotReserved,
+            Some(name),
+        ),
+        Value::Variable(name) => ill_formed_unless(
+            constness.admits_variables(),
+            SideCondition::IsConstant,
+            Some(name),
+        ),
+        Value::List(items) => find_ill_formed_item(items, constness),
+        Value::Object(fields) => find_ill_formed_field(fields, constness),
         Value::Null | Value::String(_) | Value::Float(_) | Value::Int(_) | Value::Boolean(_) =>
-            true,
+            None,
     }
 }
 
-#[cycle(value_is_well_formed)]
-fn are_items_well_formed(items: &[Node<Value>], constness: Constness) -> bool
-    ensures { result ≡ values_obey (constness_of constness) (value_trees items.now) }
+#[cycle(find_ill_formed_value)]
+fn find_ill_formed_item(items: &[Node<Value>], constness: Constness) -> Option<IllFormed<'_>>
+    ensures { IsFirstFlaw (values_flaws (constness_of constness) (value_trees items.now)) result }
 {
     for item in items {
-        if !is_value_well_formed(item, constness) {
-            return false;
+        if let Some(found) = find_ill_formed_value(item, constness) {
+            return Some(found.within(item.location()));
         }
     }
-    true
+    None
 }
 
-#[cycle(value_is_well_formed)]
-fn are_fields_well_formed(fields: &[(Name, Node<Value>)], constness: Constness) -> bool
-    ensures { result ≡ object_fields_obey (constness_of constness) (object_field_trees fields.now) }
+#[cycle(find_ill_formed_value)]
+fn find_ill_formed_field(
+    fields: &[(Name, Node<Value>)],
+    constness: Constness,
+) -> Option<IllFormed<'_>>
+    ensures { IsFirstFlaw
+        (object_fields_flaws (constness_of constness) (object_field_trees fields.now)) result }
 {
     for field in fields {
-        if !is_value_well_formed(&field.1, constness) {
-            return false;
+        if let Some(found) = find_ill_formed_value(&field.1, constness) {
+            return Some(found.within(field.1.location()));
         }
     }
-    true
+    None
 }
 
 /// A list or an object that is open: what is left of it, and whether nothing of it was written yet.
@@ -476,11 +491,18 @@ impl Value {
         Serialize::new(self)
     }
 
+    /// The first enum value in it that is `true`, `false` or `null`. Variables are allowed.
+    pub fn find_ill_formed(&self) -> Option<IllFormed<'_>>
+        ensures { IsFirstFlaw (value_kind.flaws (value_tree self.now)) result }
+    {
+        find_ill_formed_value(self, Constness::NonConst)
+    }
+
     /// Whether no enum value in it is `true`, `false` or `null`. Variables are allowed.
     pub fn is_well_formed(&self) -> bool
         ensures { result ≡ value_kind.obeys (value_tree self.now) }
     {
-        is_value_well_formed(self, Constness::NonConst)
+        SyntaxTree::is_well_formed(self)
     }
 
     /// The allocator of a list or an object.
@@ -510,8 +532,8 @@ impl SyntaxTree for Value {
 
     ghost list_depth = { no_types };
 
-    fn is_well_formed(&self) -> bool {
-        Value::is_well_formed(self)
+    fn find_ill_formed(&self) -> Option<IllFormed<'_>> {
+        Value::find_ill_formed(self)
     }
 
     fn find_depths(&self) -> Option<Depths> {

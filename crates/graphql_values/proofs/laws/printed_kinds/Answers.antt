@@ -14,15 +14,15 @@ use Rattle.graphql_values.specs.contracts.directive_list.DirectiveListHash.TheIm
 use Rattle.graphql_values.specs.contracts.input_value_definition.InputValueDefinitionHash.TheImpl.Laws as input_value_definition
 use Rattle.graphql_values.specs.contracts.types.TypeHash.TheImpl.Laws as type_reference
 use Rattle.graphql_values.specs.contracts.value.ValueHash.TheImpl.Laws as value
-use Rattle.graphql_values.specs.lemmas.DirectiveDefinitions.{directive_definition_part}
-use Rattle.graphql_values.specs.lemmas.Directives.{directive_part, directives_part}
-use Rattle.graphql_values.specs.lemmas.InputValueDefinitions.{input_value_definition_part}
+use Rattle.graphql_values.specs.lemmas.DirectiveDefinitions.{directive_definition_laws, directive_definition_part}
+use Rattle.graphql_values.specs.lemmas.Directives.{directive_laws, directive_part, directives_laws, directives_part}
+use Rattle.graphql_values.specs.lemmas.InputValueDefinitions.{input_value_definition_laws, input_value_definition_part}
 use Rattle.graphql_values.specs.lemmas.Types.{type_laws, type_part}
-use Rattle.graphql_values.specs.lemmas.Values.{value_part}
+use Rattle.graphql_values.specs.lemmas.Values.{value_laws, value_part}
 use Rattle.graphql_values.proofs.laws.printed_kinds.Goals as goal
 
 pub returns-clause-values : goal.returns-clause-values
-returns-clause-values c = printed_kind (value_part NonConst) (λ broken front tree. refl) values_decide value.respects_eq-law
+returns-clause-values c = printed_kind (value_part NonConst) (λ broken front tree. refl) value_laws values_decide value.respects_eq-law
 
 pub returns-clause-types : goal.returns-clause-types
 returns-clause-types c = record {
@@ -31,21 +31,24 @@ returns-clause-types c = record {
   laws = type_laws;
   displayed = λ type obeyed. type_laws.reads_alone (type_tree type) None 0 refl tt;
   one_way = part_one_way type_part;
-  derives = part_derives_anywhere {kind = type_kind} type_part (λ broken front tree. refl);
+  derives = part_derives_anywhere type_kind type_part (λ broken front tree. refl);
   compared = types_decide;
   hashed = type_reference.respects_eq-law;
 }
 
 pub returns-clause-directives : goal.returns-clause-directives
-returns-clause-directives c = printed_kind (directive_part NonConst) (λ broken front tree. refl) directives_decide directive.respects_eq-law
+returns-clause-directives c = printed_kind (directive_part NonConst) (λ broken front tree. refl) directive_laws directives_decide directive.respects_eq-law
 
 pub returns-clause-directive_lists : goal.returns-clause-directive_lists
-returns-clause-directive_lists c = printed_kind (directives_part NonConst) (λ broken front tree. refl) directive_lists_decide directive_list.respects_eq-law
+returns-clause-directive_lists c =
+    printed_kind (directives_part NonConst) (λ broken front tree. refl) directives_laws directive_lists_decide directive_list.respects_eq-law
 
 pub returns-clause-input_value_definitions : goal.returns-clause-input_value_definitions
 returns-clause-input_value_definitions c =
-    printed_kind input_value_definition_part (λ broken front tree. refl) input_value_definitions_decide input_value_definition.respects_eq-law
+    printed_kind input_value_definition_part (λ broken front tree. refl)
+    input_value_definition_laws input_value_definitions_decide input_value_definition.respects_eq-law
 
 pub returns-clause-directive_definitions : goal.returns-clause-directive_definitions
 returns-clause-directive_definitions c =
-    printed_kind directive_definition_part (λ broken front tree. refl) directive_definitions_decide directive_definition.respects_eq-law
+    printed_kind directive_definition_part (λ broken front tree. refl)
+    directive_definition_laws directive_definitions_decide directive_definition.respects_eq-law

@@ -185,9 +185,9 @@ static void check_statuses(void) {
     check_answer(GRAPHQL_AST_NOT_JSON, TEXT(nul_inside), TEXT("  "), 0, "");
     check_answer(GRAPHQL_AST_NO_TREE, TEXT("{\"kind\":\"D\xC3\xA4\"}"), TEXT("  "), 0,
                  "at `kind`: found the kind `D\xC3\xA4` where Document was wanted");
-    check_answer(GRAPHQL_AST_ILL_FORMED, TEXT(FRAGMENT("on")), TEXT("  "), 0, "at `definitions[1]`: `fragment on` is not well formed");
+    check_answer(GRAPHQL_AST_ILL_FORMED, TEXT(FRAGMENT("on")), TEXT("  "), 0, "at `definitions[1].name.value`: a fragment named `on`: `on`");
     check_answer(GRAPHQL_AST_ILL_FORMED, TEXT("{\"kind\":\"Document\",\"definitions\":[]}"), TEXT("  "), 0,
-                 "at `definitions`: the document has no definition");
+                 "at the root: a document without a definition");
     check_answer(GRAPHQL_AST_LEVEL_OVERFLOW, TEXT(QUERY), TEXT(""), SIZE_MAX, "indentation level overflow");
     check_answer(GRAPHQL_AST_WRONG_PREFIX, TEXT(QUERY), TEXT(" x"), 0, "the prefix has other bytes than spaces and tabs");
     check_answer(GRAPHQL_AST_WRONG_PREFIX, TEXT(QUERY), TEXT(" \0"), 0, "the prefix has other bytes than spaces and tabs");
@@ -215,7 +215,7 @@ static void check_others(void) {
     memset(out, '#', sizeof out);
     CHECK(graphql_ast_check_json(TEXT(QUERY), false, out, sizeof out, &needed) == GRAPHQL_AST_DONE && needed == 0 && out[0] == '#');
     CHECK(graphql_ast_check_json(TEXT(FRAGMENT("on")), false, out, 5, &needed) == GRAPHQL_AST_ILL_FORMED);
-    CHECK(needed == strlen("at `definitions[1]`: `fragment on` is not well formed") && memcmp(out, "at `d#", 6) == 0);
+    CHECK(needed == strlen("at `definitions[1].name.value`: a fragment named `on`: `on`") && memcmp(out, "at `d#", 6) == 0);
     CHECK(graphql_ast_check_json(TEXT("7"), false, out, sizeof out, &needed) == GRAPHQL_AST_NO_TREE);
     CHECK(graphql_ast_check_json(TEXT(""), false, out, sizeof out, &needed) == GRAPHQL_AST_NOT_JSON);
     CHECK(graphql_ast_write_json(TEXT(QUERY), false, out, 0, &first) == GRAPHQL_AST_TOO_SHORT);

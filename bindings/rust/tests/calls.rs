@@ -87,7 +87,7 @@ fn each_status_has_an_error() {
         print("7", Layout::OneLine, Unknown::Refuse).unwrap_err().to_string(),
         "at the root: found a number where an object was wanted"
     );
-    assert_eq!(print(EMPTY, Layout::OneLine, Unknown::Refuse), Err(Error::IllFormed("at `definitions`: the document has no definition".into())));
+    assert_eq!(print(EMPTY, Layout::OneLine, Unknown::Refuse), Err(Error::IllFormed("at the root: a document without a definition".into())));
     let deep = Layout::Lines { prefix: "", level: usize::MAX };
     assert!(matches!(print(QUERY, deep, Unknown::Refuse), Err(Error::LevelOverflow(_))));
     let wrong = Layout::Lines { prefix: "\u{a0}", level: 0 };

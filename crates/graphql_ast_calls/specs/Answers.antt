@@ -58,20 +58,13 @@ pub record IsTooLong (kind : Kind) (mode : Option (List ℕ)) (level : ℕ) (old
   pub room : length old < length (layout_bytes kind mode level tree)
   pub read : ReadsAlone kind (layout_bytes kind mode level tree) tree
 
--- What a print of a tree answers.
+-- What a print of a well-formed tree answers.
 abbrev pub TreePrintAnswer : (kind : Kind) → Option (List ℕ) → ℕ → List ℕ → List ℕ → ℕ → kind.Tree → Status → Type 0
 TreePrintAnswer kind mode level old new needed tree Done = HoldsPrint kind mode level old new needed tree
 TreePrintAnswer kind mode level old new needed tree TooShort = IsTooLong kind mode level old needed tree
-TreePrintAnswer kind mode level old new needed tree IllFormed = (kind.obeys tree ≡ false) × HasMessage old new needed
 TreePrintAnswer kind mode level old new needed tree LevelOverflow = Overflows level (kind.nesting tree) × HasMessage old new needed
 TreePrintAnswer kind mode level old new needed tree OutOfMemory = HasMessage old new needed
 TreePrintAnswer kind mode level old new needed tree _ = ⊥
-
--- What is told of a tree that isn't well formed: that it isn't, or that memory for that was refused.
-abbrev pub IllFormedAnswer : List ℕ → List ℕ → ℕ → Status → Type 0
-IllFormedAnswer old new needed IllFormed = HasMessage old new needed
-IllFormedAnswer old new needed OutOfMemory = HasMessage old new needed
-IllFormedAnswer old new needed _ = ⊥
 
 -- What a call answers that prints the tree that some JSON is of.
 abbrev pub PrintAnswer : (kind : Kind) → (kind.Tree → Data → Type 0) → List ℕ → Option (List ℕ) → ℕ → List ℕ → List ℕ → ℕ → Status → Type 0

@@ -3,8 +3,7 @@ ghost use Rattle.graphql_ast.specs.Documents.{document_kind};
 ghost use Rattle.graphql_ast_json.specs.kinds.DocumentJson.{IsDocument};
 ghost use Rattle.graphql_ast_calls.specs.Answers.{CheckAnswer, reading};
 
-use crate::read::read_tree;
-use crate::reason::ill_formed;
+use crate::read::read_well_formed_tree;
 use crate::status::Status;
 use graphql_ast::ast::Document;
 use std::alloc::Global;
@@ -24,14 +23,10 @@ pub fn check_json(
     ensures { CheckAnswer document_kind (IsDocument (reading pass_over)) json.now
         out.old out.new needed.new result }
 {
-    match read_tree::<Document>(alloc, json, pass_over) {
-        Ok(document) => {
-            if document.is_well_formed() {
-                *needed = 0;
-                Status::Done
-            } else {
-                ill_formed(alloc, &document, out, needed)
-            }
+    match read_well_formed_tree::<Document>(alloc, json, pass_over) {
+        Ok(_) => {
+            *needed = 0;
+            Status::Done
         }
         Err(refusal) => refusal.tell(out, needed),
     }

@@ -14,7 +14,6 @@ mod check;
 mod message;
 mod print;
 mod read;
-mod reason;
 mod status;
 mod write;
 

@@ -1,5 +1,5 @@
 //! Documents and values as GraphQL text.
-ghost use Rattle.std.specs.Prelude.{◌≡◌, ◌↔◌, IfNone, IfSome};
+ghost use Rattle.std.specs.Prelude.{◌≡◌, ◌↔◌, IfNone, IfSome, IsTrue};
 ghost use Rattle.graphql_ast.specs.BlockStringValue.{is_blank};
 ghost use Rattle.graphql_ast.specs.Layout.{IsBlankMode};
 ghost use Rattle.graphql_text.specs.code.Place.{mode_of as prefix_mode};
@@ -12,8 +12,7 @@ ghost use Rattle.graphql_ast_calls.specs.Answers.{IsWrongPrefix, PrintAnswer, Tr
 
 use crate::buffer::print_tree;
 use crate::message::{put_message, put_out_of_memory};
-use crate::read::read_tree;
-use crate::reason::{Explained, ill_formed};
+use crate::read::read_well_formed_tree;
 use crate::status::Status;
 use graphql_ast::ast::{Document, Value};
 use graphql_text::engine::{PrintError, Syntax};
@@ -64,22 +63,19 @@ fn wrong_prefix(out: &mut [u8], needed: &mut usize) -> Status
     Status::WrongPrefix
 }
 
-/// Prints a tree into a buffer, if it is well formed.
-fn print_well_formed<T: Syntax + Explained>(
-    alloc: Global,
+/// Prints a well-formed tree into a buffer.
+fn print_well_formed<T: Syntax>(
     tree: &T,
     prefix: Option<&str>,
     level: usize,
     out: &mut [u8],
     needed: &mut usize,
 ) -> Status
-    requires { IsBlankMode (prefix_mode prefix) }
+    requires well_formed { IsTrue (T.kind.obeys (T.tree tree.now)) }
+    requires blank { IsBlankMode (prefix_mode prefix) }
     ensures { TreePrintAnswer T.kind (prefix_mode prefix.entry) level
         out.old out.new needed.new (T.tree tree.now) result }
 {
-    if !tree.is_well_formed() {
-        return ill_formed(alloc, tree, out, needed);
-    }
     match print_tree(tree, prefix, level, out) {
         Ok(count) => {
             *needed = count;
@@ -132,8 +128,8 @@ pub fn print_json(
     let Some(prefix) = layout_prefix(broken, prefix) else {
         return wrong_prefix(out, needed);
     };
-    match read_tree::<Document>(alloc, json, pass_over) {
-        Ok(document) => print_well_formed(alloc, &document, prefix, level, out, needed),
+    match read_well_formed_tree::<Document>(alloc, json, pass_over) {
+        Ok(document) => print_well_formed(&document, prefix, level, out, needed),
         Err(refusal) => refusal.tell(out, needed),
     }
 }
@@ -156,8 +152,8 @@ pub fn print_value_json(
     let Some(prefix) = layout_prefix(broken, prefix) else {
         return wrong_prefix(out, needed);
     };
-    match read_tree::<Value>(alloc, json, pass_over) {
-        Ok(value) => print_well_formed(alloc, &value, prefix, level, out, needed),
+    match read_well_formed_tree::<Value>(alloc, json, pass_over) {
+        Ok(value) => print_well_formed(&value, prefix, level, out, needed),
         Err(refusal) => refusal.tell(out, needed),
     }
 }

@@ -1,14 +1,16 @@
 //! The tree that some JSON is of.
-ghost use Rattle.std.specs.Prelude.{◌≡◌, IfErr, IfOk, Some};
+ghost use Rattle.std.specs.Prelude.{◌≡◌, IfErr, IfOk, IsTrue, Some};
 ghost use Rattle.serde_json.specs.Read.{read};
 ghost use Rattle.serde_json.specs.View.{view};
+ghost use Rattle.graphql_ast_json.specs.code.NodeReading.{node_json};
 ghost use Rattle.graphql_ast_calls.specs.Answers.{IsJsonOf, reading};
-ghost use Rattle.graphql_ast_calls.specs.Refusals.{IsDataRefusal, IsNoTreeOrMemory, IsNotJsonOrMemory, IsRefusal, TellsRefusal};
+ghost use Rattle.graphql_ast_calls.specs.Refusals.{IsDataRefusal, IsIllFormedOrMemory, IsNoTreeOrMemory, IsNotJsonOrMemory, IsRefusal, IsTreeRefusal, TellsRefusal};
 
 use crate::message::{put_message, put_out_of_memory};
 use crate::status::Status;
 use graphql_ast::span::FileId;
-use graphql_ast_json::{AstJson, NodeReader, Unknown};
+use graphql_ast_json::{AstJson, NodeReader, Unknown, WellFormedError, read_well_formed_ast_json};
+use graphql_text::engine::SyntaxTree;
 use serde_json::Value as Json;
 use std::alloc::{AllocError, Global};
 
@@ -17,6 +19,7 @@ use std::alloc::{AllocError, Global};
 pub(crate) enum Refusal {
     NotJson(String),
     NoTree(String),
+    IllFormed(String),
     Memory,
 }
 
@@ -40,6 +43,16 @@ fn no_tree(message: Result<String, AllocError>) -> Refusal
     }
 }
 
+/// That the tree isn't well formed.
+fn ill_formed(message: Result<String, AllocError>) -> Refusal
+    ensures { IsIllFormedOrMemory result }
+{
+    match message {
+        Ok(message) => Refusal::IllFormed(message),
+        Err(_) => Refusal::Memory,
+    }
+}
+
 /// The JSON that some bytes are.
 fn read_data(alloc: Global, json: &[u8]) -> Result<Json, Refusal>
     ensures ok { IfOk result (λ found. read json.now ≡ Some (view found)) }
@@ -49,6 +62,23 @@ fn read_data(alloc: Global, json: &[u8]) -> Result<Json, Refusal>
         Ok(json) => Ok(json),
         Err(error) if error.is_memory() => Err(Refusal::Memory),
         Err(error) => Err(not_json(format!(in alloc; "not JSON: {error}"))),
+    }
+}
+
+/// The reading of some JSON.
+fn node_of(alloc: Global, json: &Json, pass_over: bool) -> NodeReader<'_>
+    ensures json { node_json result ≡ view json.now }
+    ensures unknown { result.unknown ≡ reading pass_over }
+{
+    NodeReader {
+        alloc,
+        json,
+        source: FileId::new(1),
+        unknown: if pass_over {
+            Unknown::PassOver
+        } else {
+            Unknown::Refuse
+        },
     }
 }
 
@@ -63,20 +93,36 @@ pub(crate) fn read_tree<T: AstJson>(
     ensures err { IfErr result (IsRefusal (T.is_json_of (reading pass_over)) json.now) }
 {
     let json = read_data(alloc, json)?;
-    let node = NodeReader {
-        alloc,
-        json: &json,
-        source: FileId::new(1),
-        unknown: if pass_over {
-            Unknown::PassOver
-        } else {
-            Unknown::Refuse
-        },
-    };
-    match T::read_ast_json(node) {
+    match T::read_ast_json(node_of(alloc, &json, pass_over)) {
         Ok(tree) => Ok(tree),
         Err(error) if error.is_memory() => Err(Refusal::Memory),
         Err(error) => Err(no_tree(format!(in alloc; "{error}"))),
+    }
+}
+
+/// The tree that some JSON is of, if it is well formed.
+pub(crate) fn read_well_formed_tree<T: AstJson + SyntaxTree + Drop>(
+    alloc: Global,
+    json: &[u8],
+    pass_over: bool,
+) -> Result<T, Refusal>
+    ensures ok { IfOk result (λ tree.
+        IsJsonOf (T.is_json_of (reading pass_over)) json.now (T.AstJson.tree tree)) }
+    ensures well_formed { IfOk result (λ tree. IsTrue (T.kind.obeys (T.SyntaxTree.tree tree))) }
+    ensures err { IfErr result (IsTreeRefusal (T.is_json_of (reading pass_over)) T.AstJson.tree
+        (λ tree. T.kind.obeys (T.SyntaxTree.tree tree)) json.now) }
+{
+    let json = read_data(alloc, json)?;
+    match read_well_formed_ast_json::<T>(node_of(alloc, &json, pass_over)) {
+        Ok(tree) => Ok(tree),
+        Err(error) if error.is_memory() => Err(Refusal::Memory),
+        Err(error) => {
+            let message = format!(in alloc; "{error}");
+            match error {
+                WellFormedError::NotRead(_) => Err(no_tree(message)),
+                WellFormedError::IllFormed { .. } => Err(ill_formed(message)),
+            }
+        }
     }
 }
 
@@ -93,6 +139,10 @@ impl Refusal {
             Refusal::NoTree(message) => {
                 put_message(message.as_str(), out, needed);
                 Status::NoTree
+            }
+            Refusal::IllFormed(message) => {
+                put_message(message.as_str(), out, needed);
+                Status::IllFormed
             }
             Refusal::Memory => put_out_of_memory(out, needed),
         }

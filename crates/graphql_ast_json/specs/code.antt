@@ -4,6 +4,8 @@
 pub mod Drafts
 -- why no tree was made of JSON
 pub mod Errors
+-- why no well-formed tree was made of JSON
+pub mod WellFormed
 -- positions within JSON, as `fields[0].value`
 pub mod Paths
 -- what a reader finds in a node: its kind, its members and where it stands

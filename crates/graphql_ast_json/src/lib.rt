@@ -4,6 +4,7 @@
 //! - `NodeReader`: JSON that is read, by a reading that refuses what is unknown or passes over it.
 //! - `from_ast_json_str`: a tree from the text of its JSON.
 //! - `error`: why JSON is of no tree, and where in it.
+//! - `from_well_formed_ast_json_str`: a well-formed tree from the text of its JSON, or where the JSON has the first flaw.
 //! - `Offsets`: what the offsets of locations count, and where they fall in bytes.
 //! - `laws`: what holds of AST JSON, as contracts of functions that do nothing.
 #![tactic(auto)]
@@ -42,9 +43,13 @@ mod types;
 mod union_type;
 mod value;
 mod variable_definition;
+mod well_formed;
 mod write;
 
 pub use crate::ast_json::{AstJson, AstNode, from_ast_json_str};
 pub use crate::error::AstJsonError;
 pub use crate::offsets::Offsets;
 pub use crate::read::{NodeReader, Unknown};
+pub use crate::well_formed::{
+    BrokenCondition, WellFormedError, from_well_formed_ast_json_str, read_well_formed_ast_json,
+};

@@ -36,7 +36,7 @@ fn type_of(json: &Json) -> JsonType {
 
 impl<'j> NodeReader<'j> {
     /// Where the node tells that it stands, for an error.
-    fn place(self) -> Option<SourceSpan> {
+    pub(crate) fn place(self) -> Option<SourceSpan> {
         let location = self.json.get("loc")?;
         let start = location.get("start")?.as_u64()?;
         let end = location.get("end")?.as_u64()?;
@@ -48,7 +48,7 @@ impl<'j> NodeReader<'j> {
     }
 
     /// The kind that the node tells, for an error.
-    fn kind(self) -> &'j str {
+    pub(crate) fn kind(self) -> &'j str {
         match self.json.get("kind") {
             Some(Json::String(kind)) => kind.as_str(),
             _ => "node",

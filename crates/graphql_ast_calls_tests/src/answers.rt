@@ -60,14 +60,14 @@ fn prints_answer_each_status(rt: HostRuntime) {
             "  ",
             0,
             Status::IllFormed,
-            "at `definitions[1]`: `fragment on` is not well formed",
+            "at `definitions[1].name.value`: a fragment named `on`: `on`",
         ),
         (
             "{\"kind\":\"Document\",\"definitions\":[]}",
             "  ",
             0,
             Status::IllFormed,
-            "at `definitions`: the document has no definition",
+            "at the root: a document without a definition",
         ),
         (
             QUERY,

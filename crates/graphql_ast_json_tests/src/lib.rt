@@ -4,6 +4,8 @@
 #[cfg(test)]
 mod errors;
 #[cfg(test)]
+mod ill_formed_samples;
+#[cfg(test)]
 mod offsets;
 #[cfg(test)]
 mod refusals;
@@ -11,3 +13,5 @@ mod refusals;
 mod samples;
 #[cfg(test)]
 mod trees;
+#[cfg(test)]
+mod well_formed;

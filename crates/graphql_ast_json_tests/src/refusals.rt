@@ -1,7 +1,10 @@
 //! Calls that meet a refused growth, wherever it comes: the answer is the refusal, or that of an undisturbed call.
 //! `rt try --test --fail-alloc N` refuses the Nth growth of each test.
-use crate::samples::{DEFINITION, PRINTED};
-use graphql_ast_json::{AstJson, from_ast_json_str};
+use crate::samples::{DEFINITION, ILL_FORMED, PRINTED};
+use graphql_ast::ast::Document;
+use graphql_ast_json::{
+    AstJson, WellFormedError, from_ast_json_str, from_well_formed_ast_json_str,
+};
 use graphql_base::span::FileId;
 use graphql_text::engine::PrintError;
 use graphql_values::directive_definition::DirectiveDefinition;
@@ -30,6 +33,18 @@ fn a_definition_is_written_or_memory_was_refused(rt: HostRuntime) {
     };
     match DirectiveDefinition::from_ast_json(alloc, &json, source) {
         Ok(again) => assert!(rt; again == definition),
+        Err(error) => assert!(rt; error.is_memory()),
+    }
+}
+
+#[test]
+fn a_flaw_is_told_or_memory_was_refused(rt: HostRuntime) {
+    let alloc = rt.alloc();
+    match from_well_formed_ast_json_str::<Document>(alloc, ILL_FORMED, FileId::new(1)) {
+        Ok(_) => panic!(rt; "ill formed"),
+        Err(WellFormedError::IllFormed { path, .. }) => {
+            assert_eq!(rt; path.as_str(), "definitions[0]");
+        }
         Err(error) => assert!(rt; error.is_memory()),
     }
 }

@@ -37,3 +37,8 @@ pub(crate) const PRINTED: &str =
 
 /// A node that tells where it stands.
 pub(crate) const LOCATED: &str = r#"{"kind":"NullValue","loc":{"start":3,"end":7}}"#;
+
+/// An extension that adds nothing, with a name that takes memory.
+pub(crate) const ILL_FORMED: &str = r#"{"kind":"Document","definitions":[
+  {"kind":"ScalarTypeExtension","name":{"kind":"Name","value":"NameOfTwentyFourLetters_"}}
+]}"#;

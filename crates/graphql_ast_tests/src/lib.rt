@@ -8,6 +8,8 @@ mod documents;
 #[cfg(test)]
 mod hostile;
 #[cfg(test)]
+mod ill_formed;
+#[cfg(test)]
 mod lines_and_columns;
 #[cfg(test)]
 mod look_ups;

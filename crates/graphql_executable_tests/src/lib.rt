@@ -6,6 +6,8 @@ mod checks;
 #[cfg(test)]
 mod hostile;
 #[cfg(test)]
+mod ill_formed;
+#[cfg(test)]
 mod prints;
 #[cfg(test)]
 mod queries;

@@ -1,5 +1,7 @@
 //! What the examples compare.
+use graphql_base::span::SourceSpan;
 use graphql_text::engine::{PrintError, Serialize, Syntax};
+use graphql_text::ill_formed::SideCondition;
 use std::alloc::Global;
 use std::fmt::Display;
 use std::process::Abort;
@@ -37,6 +39,22 @@ pub(crate) fn check_both<T: Syntax, D: Display>(
 ) {
     check_line(rt, alloc, tree, true, line);
     check_displayed(rt, alloc, shown, wanted);
+}
+
+/// A flaw of a tree: the side condition, the text of the name, and the location.
+pub(crate) type Flaw = (SideCondition, Option<&'static str>, Option<SourceSpan>);
+
+/// The first flaw of each tree, and that it is well formed without one.
+pub(crate) fn check_flaws<T: Syntax + Display>(rt: &impl Abort, cases: &[(T, Option<Flaw>)]) {
+    for (tree, wanted) in cases {
+        let found = tree.find_ill_formed();
+        assert_eq!(rt; tree.is_well_formed(), found.is_none(), "{tree}");
+        let flaw = found.map(|found| {
+            let name = found.name.map(|name| name.as_str());
+            (found.condition, name, found.location())
+        });
+        assert_eq!(rt; flaw, *wanted, "{tree}");
+    }
 }
 
 /// The text on one line, where memory may be refused.

@@ -8,6 +8,8 @@ mod comparisons;
 #[cfg(test)]
 mod edges;
 #[cfg(test)]
+mod ill_formed;
+#[cfg(test)]
 mod prints;
 #[cfg(test)]
 mod queries;

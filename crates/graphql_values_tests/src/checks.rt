@@ -1,7 +1,9 @@
 //! What the examples compare, and the writers and sinks that they print into.
 ghost use Rattle.std.specs.Prelude.{◌≡◌, None};
 
+use graphql_base::span::SourceSpan;
 use graphql_text::engine::{PrintError, Serialize, Syntax};
+use graphql_text::ill_formed::SideCondition;
 use graphql_text::sink::{SinkFault, StreamSink, TextSink};
 use std::alloc::Global;
 use std::fmt::{self, Debug, Display, Write};
@@ -28,6 +30,22 @@ pub(crate) fn check_cloned<T: Clone + PartialEq + Drop>(rt: &impl Abort, origina
 pub(crate) fn check_cloned_or_refused<T: Clone + PartialEq + Drop>(rt: &impl Abort, original: &T) {
     if let Ok(copy) = original.clone() {
         assert!(rt; copy == *original);
+    }
+}
+
+/// A flaw of a tree: the side condition, the text of the name, and the location.
+pub(crate) type Flaw = (SideCondition, Option<&'static str>, Option<SourceSpan>);
+
+/// The first flaw of each tree, and that it is well formed without one.
+pub(crate) fn check_flaws<T: Syntax + Display>(rt: &impl Abort, cases: &[(T, Option<Flaw>)]) {
+    for (tree, wanted) in cases {
+        let found = tree.find_ill_formed();
+        assert_eq!(rt; tree.is_well_formed(), found.is_none(), "{tree}");
+        let flaw = found.map(|found| {
+            let name = found.name.map(|name| name.as_str());
+            (found.condition, name, found.location())
+        });
+        assert_eq!(rt; flaw, *wanted, "{tree}");
     }
 }
 

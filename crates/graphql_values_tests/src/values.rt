@@ -7,6 +7,7 @@ mod directive_list;
 mod directive_location;
 mod displays;
 mod growths;
+mod ill_formed;
 mod literal;
 mod operation_type;
 mod prints;

@@ -1,7 +1,9 @@
-//! What errors of a print, and faults of a sink, say.
+//! What errors of a print, faults of a sink, and side conditions that are broken say.
 
 use crate::checks::check_made;
+use graphql_base::name;
 use graphql_text::engine::PrintError;
+use graphql_text::ill_formed::{IllFormed, SideCondition};
 use graphql_text::sink::SinkFault;
 
 #[test]
@@ -37,4 +39,53 @@ fn errors_are_equal_to_themselves_alone(rt: HostRuntime) {
         assert!(rt; (second == first) == is_same, "{second}, {first}");
     }
     assert!(rt; SinkFault == SinkFault);
+}
+
+/// A side condition, and what is wrong where it is broken.
+const CONDITIONS: [(SideCondition, &str); 8] = [
+    (
+        SideCondition::HasDefinition,
+        "a document without a definition",
+    ),
+    (SideCondition::HasSelection, "an empty selection set"),
+    (SideCondition::IsNotOn, "a fragment named `on`"),
+    (SideCondition::IsNotReserved, "a reserved enum value"),
+    (
+        SideCondition::IsConstant,
+        "a variable where only constants may stand",
+    ),
+    (
+        SideCondition::HasLocation,
+        "a directive definition without a location",
+    ),
+    (
+        SideCondition::HasRootOperation,
+        "a schema definition without a root operation",
+    ),
+    (
+        SideCondition::AddsSomething,
+        "an extension that adds nothing",
+    ),
+];
+
+#[test]
+fn what_is_ill_formed(rt: HostRuntime) {
+    let alloc = rt.alloc();
+    let name = name!(A);
+    for (condition, wanted) in CONDITIONS {
+        check_made(&rt, format!(in alloc; "{condition}"), wanted);
+        let nameless = IllFormed {
+            condition,
+            name: None,
+            around: None,
+        };
+        check_made(&rt, format!(in alloc; "{nameless}"), wanted);
+    }
+    let named = IllFormed {
+        condition: SideCondition::AddsSomething,
+        name: Some(&name),
+        around: None,
+    };
+    let wanted = "an extension that adds nothing: `A`";
+    check_made(&rt, format!(in alloc; "{named}"), wanted);
 }

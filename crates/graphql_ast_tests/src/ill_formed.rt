@@ -1,0 +1,311 @@
+//! Why definitions and documents aren't well formed, and where.
+use crate::checks::{Flaw, check_flaws};
+use crate::samples::{
+    anonymous_query, document, each_variant, source_file, type_a, type_and_query,
+};
+use graphql_ast::ast::{
+    Argument, Definition, Directive, DirectiveDefinition, DirectiveList, Document,
+    EnumTypeDefinition, EnumTypeExtension, FieldDefinition, FragmentDefinition,
+    InputObjectTypeDefinition, InputObjectTypeExtension, InputValueDefinition,
+    InterfaceTypeDefinition, InterfaceTypeExtension, ObjectTypeDefinition, ObjectTypeExtension,
+    OperationDefinition, OperationType, ScalarTypeDefinition, ScalarTypeExtension,
+    SchemaDefinition, SchemaExtension, UnionTypeDefinition, UnionTypeExtension,
+};
+use graphql_ast::ill_formed::SideCondition::{
+    self, AddsSomething, HasDefinition, HasLocation, HasRootOperation, HasSelection, IsConstant,
+};
+use graphql_ast::node::Node;
+use graphql_ast::span::{FileId, SourceSpan};
+use graphql_ast::{name, ty, value};
+use std::alloc::{AllocError, Global};
+
+/// Trees of a kind, and the first flaw of each.
+type Cases<T> = Result<Vec<(T, Option<Flaw>)>, AllocError>;
+
+/// The flaw of what has no name, in nodes without a location.
+fn nameless(condition: SideCondition) -> Option<Flaw> {
+    Some((condition, None, None))
+}
+
+/// The flaw of what is named `N`, in nodes without a location.
+fn flaw_of_n(condition: SideCondition) -> Option<Flaw> {
+    Some((condition, Some("N"), None))
+}
+
+/// The flaw of the variable in `directives`.
+fn variable_at(location: Option<SourceSpan>) -> Option<Flaw> {
+    Some((IsConstant, Some("v"), location))
+}
+
+fn at(start: u32, end: u32) -> Option<SourceSpan> {
+    SourceSpan::new(FileId::new(7), start, end)
+}
+
+fn node<T: Drop>(
+    alloc: Global,
+    value: T,
+    location: Option<SourceSpan>,
+) -> Result<Node<T>, AllocError> {
+    match location {
+        Some(span) => Node::new_parsed(alloc, value, span),
+        None => Node::new(alloc, value),
+    }
+}
+
+/// ` @d(a: [A, {b: [$v]}])`, where the directive stands at a location.
+fn directives(alloc: Global, location: Option<SourceSpan>) -> Result<DirectiveList, AllocError> {
+    let value = Node::new(alloc, value!(in alloc; [A, {b: [$v]}])?)?;
+    let mut directive = Directive::new(alloc, name!(d));
+    directive.arguments = vec![in alloc; Argument::new_node(alloc, name!(a), value)?]?;
+    Ok(DirectiveList(vec![in alloc; node(alloc, directive, location)?]?))
+}
+
+// EACH VARIANT
+
+/// Operation, fragment, directive and schema.
+fn without_a_part(alloc: Global) -> Cases<Definition> {
+    let operation = OperationDefinition::new(alloc, OperationType::Mutation);
+    let fragment = FragmentDefinition::new(alloc, name!(N), name!(on));
+    let directive = DirectiveDefinition::new(alloc, name!(N));
+    let schema = SchemaDefinition::new(alloc);
+    Ok(vec![in alloc;
+        (
+            Definition::from(Node::new(alloc, operation)?),
+            nameless(HasSelection)
+        ),
+        (
+            Definition::from(Node::new(alloc, fragment)?),
+            flaw_of_n(HasSelection)
+        ),
+        (
+            Definition::from(Node::new(alloc, directive)?),
+            flaw_of_n(HasLocation)
+        ),
+        (
+            Definition::from(Node::new(alloc, schema)?),
+            nameless(HasRootOperation)
+        ),
+    ]?)
+}
+
+/// Definitions of the six kinds of types.
+fn with_a_variable(alloc: Global) -> Cases<Definition> {
+    let mut scalar = ScalarTypeDefinition::new(alloc, name!(N));
+    scalar.directives = directives(alloc, None)?;
+    let mut object = ObjectTypeDefinition::new(alloc, name!(N));
+    object.directives = directives(alloc, None)?;
+    let mut interface = InterfaceTypeDefinition::new(alloc, name!(N));
+    interface.directives = directives(alloc, None)?;
+    let mut union = UnionTypeDefinition::new(alloc, name!(N));
+    union.directives = directives(alloc, None)?;
+    let mut enumeration = EnumTypeDefinition::new(alloc, name!(N));
+    enumeration.directives = directives(alloc, None)?;
+    let mut input = InputObjectTypeDefinition::new(alloc, name!(N));
+    input.directives = directives(alloc, None)?;
+    Ok(vec![in alloc;
+        (
+            Definition::from(Node::new(alloc, scalar)?),
+            variable_at(None)
+        ),
+        (
+            Definition::from(Node::new(alloc, object)?),
+            variable_at(None)
+        ),
+        (
+            Definition::from(Node::new(alloc, interface)?),
+            variable_at(None)
+        ),
+        (
+            Definition::from(Node::new(alloc, union)?),
+            variable_at(None)
+        ),
+        (
+            Definition::from(Node::new(alloc, enumeration)?),
+            variable_at(None)
+        ),
+        (
+            Definition::from(Node::new(alloc, input)?),
+            variable_at(None)
+        ),
+    ]?)
+}
+
+/// `extend enum N`
+fn empty_extension(alloc: Global) -> Result<Definition, AllocError> {
+    let extension = EnumTypeExtension::new(alloc, name!(N));
+    Ok(Definition::from(Node::new(alloc, extension)?))
+}
+
+/// Extensions that add nothing, of all kinds.
+fn of_nothing(alloc: Global) -> Cases<Definition> {
+    let schema = SchemaExtension::new(alloc);
+    let scalar = ScalarTypeExtension::new(alloc, name!(N));
+    let object = ObjectTypeExtension::new(alloc, name!(N));
+    let interface = InterfaceTypeExtension::new(alloc, name!(N));
+    let union = UnionTypeExtension::new(alloc, name!(N));
+    let input = InputObjectTypeExtension::new(alloc, name!(N));
+    Ok(vec![in alloc;
+        (
+            Definition::from(Node::new(alloc, schema)?),
+            nameless(AddsSomething)
+        ),
+        (
+            Definition::from(Node::new(alloc, scalar)?),
+            flaw_of_n(AddsSomething)
+        ),
+        (
+            Definition::from(Node::new(alloc, object)?),
+            flaw_of_n(AddsSomething)
+        ),
+        (
+            Definition::from(Node::new(alloc, interface)?),
+            flaw_of_n(AddsSomething)
+        ),
+        (
+            Definition::from(Node::new(alloc, union)?),
+            flaw_of_n(AddsSomething)
+        ),
+        (empty_extension(alloc)?, flaw_of_n(AddsSomething)),
+        (
+            Definition::from(Node::new(alloc, input)?),
+            flaw_of_n(AddsSomething)
+        ),
+    ]?)
+}
+
+#[test]
+fn of_each_variant(rt: HostRuntime) {
+    let alloc = rt.alloc();
+    check_flaws(&rt, &without_a_part(alloc).expect(&rt, "memory"));
+    check_flaws(&rt, &with_a_variable(alloc).expect(&rt, "memory"));
+    check_flaws(&rt, &of_nothing(alloc).expect(&rt, "memory"));
+}
+
+// DOCUMENTS
+
+/// The document, read from a file.
+fn with_a_source(alloc: Global, mut document: Document) -> Result<Document, AllocError> {
+    let file = source_file(alloc, "a.graphql", "type A")?;
+    document.sources.insert(FileId::new(7), file)?;
+    Ok(document)
+}
+
+/// `type A FIRST SECOND { a }`
+fn between(alloc: Global, first: Definition, second: Definition) -> Result<Document, AllocError> {
+    let definitions = vec![in alloc; type_a(alloc)?, first, second, anonymous_query(alloc)?]?;
+    Ok(document(alloc, definitions))
+}
+
+/// `type N { f(x: Int @d(a: [A, {b: [$v]}])): Int }`, and where the type, the field, its argument and the directive
+/// stand.
+fn deep(
+    alloc: Global,
+    ty: Option<SourceSpan>,
+    field: Option<SourceSpan>,
+    argument: Option<SourceSpan>,
+    directive: Option<SourceSpan>,
+) -> Result<Definition, AllocError> {
+    let mut input = InputValueDefinition::new(alloc, name!(x), Node::new(alloc, ty!(Int))?);
+    input.directives = directives(alloc, directive)?;
+    let mut parent = FieldDefinition::new(alloc, name!(f), ty!(Int));
+    parent.arguments = vec![in alloc; node(alloc, input, argument)?]?;
+    let mut object = ObjectTypeDefinition::new(alloc, name!(N));
+    object.fields = vec![in alloc; node(alloc, parent, field)?]?;
+    Ok(Definition::from(node(alloc, object, ty)?))
+}
+
+fn placed_definitions(alloc: Global) -> Cases<Definition> {
+    let (ty, field) = (at(10, 60), at(20, 50));
+    let schema = Definition::from(node(alloc, SchemaDefinition::new(alloc), ty)?);
+    Ok(vec![in alloc;
+        (schema, Some((HasRootOperation, None, ty))),
+        (deep(alloc, ty, field, None, None)?, variable_at(field)),
+        (deep(alloc, ty, None, None, None)?, variable_at(ty)),
+        (deep(alloc, None, None, None, None)?, variable_at(None)),
+    ]?)
+}
+
+fn documents(alloc: Global) -> Cases<Document> {
+    let flawed = deep(alloc, None, None, None, None)?;
+    let extension = empty_extension(alloc)?;
+    let in_order = between(alloc, flawed.clone()?, extension.clone()?)?;
+    Ok(vec![in alloc;
+        (Document::new(alloc), nameless(HasDefinition)),
+        (
+            with_a_source(alloc, Document::new(alloc))?,
+            nameless(HasDefinition)
+        ),
+        (type_and_query(alloc)?, None),
+        (with_a_source(alloc, type_and_query(alloc)?)?, None),
+        (document(alloc, each_variant(alloc)?), None),
+        (between(alloc, type_a(alloc)?, type_a(alloc)?)?, None),
+        (in_order.clone()?, variable_at(None)),
+        (with_a_source(alloc, in_order)?, variable_at(None)),
+        (
+            between(alloc, extension.clone()?, flawed)?,
+            flaw_of_n(AddsSomething)
+        ),
+        (
+            between(alloc, type_a(alloc)?, extension)?,
+            flaw_of_n(AddsSomething)
+        ),
+    ]?)
+}
+
+/// Documents, and the index of the definition that the first flaw of each is in.
+fn indexed_documents(alloc: Global) -> Result<Vec<(Document, Option<usize>)>, AllocError> {
+    let extension = empty_extension(alloc)?;
+    let twice = between(alloc, extension.clone()?, extension.clone()?)?;
+    Ok(vec![in alloc;
+        (Document::new(alloc), None),
+        (type_and_query(alloc)?, None),
+        (twice, Some(1)),
+        (between(alloc, type_a(alloc)?, extension)?, Some(2)),
+    ]?)
+}
+
+fn placed_documents(alloc: Global) -> Cases<Document> {
+    let (ty, field, argument, directive) = (at(10, 60), at(20, 50), at(22, 48), at(30, 40));
+    let innermost = deep(alloc, ty, field, argument, directive)?;
+    let in_argument = deep(alloc, ty, field, argument, None)?;
+    let in_field = deep(alloc, ty, field, None, None)?;
+    let in_type = deep(alloc, ty, None, None, None)?;
+    let skipped = deep(alloc, ty, None, argument, None)?;
+    let extension = ScalarTypeExtension::new(alloc, name!(N));
+    let extension = Definition::from(node(alloc, extension, ty)?);
+    Ok(vec![in alloc;
+        (
+            between(alloc, innermost, in_type.clone()?)?,
+            variable_at(directive)
+        ),
+        (
+            between(alloc, in_argument, in_type.clone()?)?,
+            variable_at(argument)
+        ),
+        (
+            between(alloc, in_field, in_type.clone()?)?,
+            variable_at(field)
+        ),
+        (
+            between(alloc, in_type.clone()?, skipped.clone()?)?,
+            variable_at(ty)
+        ),
+        (between(alloc, skipped, in_type)?, variable_at(argument)),
+        (
+            between(alloc, extension, type_a(alloc)?)?,
+            Some((AddsSomething, Some("N"), ty))
+        ),
+    ]?)
+}
+
+/// The first flaw in the order of print is found, and its place is that of the innermost node around it that has one.
+#[test]
+fn of_documents(rt: HostRuntime) {
+    let alloc = rt.alloc();
+    check_flaws(&rt, &placed_definitions(alloc).expect(&rt, "memory"));
+    check_flaws(&rt, &documents(alloc).expect(&rt, "memory"));
+    check_flaws(&rt, &placed_documents(alloc).expect(&rt, "memory"));
+    for (tree, wanted) in &indexed_documents(alloc).expect(&rt, "memory") {
+        assert_eq!(rt; tree.find_ill_formed_index(), *wanted, "{tree}");
+    }
+}

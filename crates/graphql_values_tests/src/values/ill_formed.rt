@@ -1,0 +1,362 @@
+//! Why values, directives and definitions aren't well formed, and where.
+use crate::checks::{Flaw, check_flaws};
+use crate::samples::{nested, with_argument};
+use graphql_base::name;
+use graphql_base::name::Name;
+use graphql_base::node::Node;
+use graphql_base::span::{FileId, SourceSpan};
+use graphql_text::ill_formed::SideCondition::{self, HasLocation, IsConstant, IsNotReserved};
+use graphql_values::argument::Argument;
+use graphql_values::directive::Directive;
+use graphql_values::directive_definition::DirectiveDefinition;
+use graphql_values::directive_list::DirectiveList;
+use graphql_values::directive_location::DirectiveLocation;
+use graphql_values::input_value_definition::InputValueDefinition;
+use graphql_values::value::Value;
+use graphql_values::{ty, value};
+use std::alloc::{AllocError, Global};
+
+/// The flaw of a name without a location, in nodes without one.
+fn flaw(condition: SideCondition, name: &'static str) -> Option<Flaw> {
+    Some((condition, Some(name), None))
+}
+
+fn at(start: u32, end: u32) -> Option<SourceSpan> {
+    SourceSpan::new(FileId::new(7), start, end)
+}
+
+fn node<T: Drop>(
+    alloc: Global,
+    value: T,
+    location: Option<SourceSpan>,
+) -> Result<Node<T>, AllocError> {
+    match location {
+        Some(span) => Node::new_parsed(alloc, value, span),
+        None => Node::new(alloc, value),
+    }
+}
+
+/// The enum value `true`, which is no boolean.
+fn reserved() -> Value {
+    Value::Enum(name!("true"))
+}
+
+fn variable() -> Value {
+    Value::Variable(name!(v))
+}
+
+/// `[[], [A, {a: A, b: ITEM, b: null}]]`, where `null` is an enum value.
+fn deep(alloc: Global, item: Value) -> Result<Value, AllocError> {
+    let fields = vec![in alloc;
+        (name!(a), Value::Enum(name!(A))),
+        (name!(b), item),
+        (name!(b), Value::Enum(name!("null"))),
+    ]?;
+    let object = Value::object(alloc, fields)?;
+    let list = Value::list(alloc, vec![in alloc; Value::Enum(name!(A)), object]?)?;
+    Value::list(alloc, vec![in alloc; value!(in alloc; [])?, list]?)
+}
+
+fn values(alloc: Global) -> Result<Vec<(Value, Option<Flaw>)>, AllocError> {
+    Ok(vec![in alloc;
+        (Value::Enum(name!("true")), flaw(IsNotReserved, "true")),
+        (Value::Enum(name!("false")), flaw(IsNotReserved, "false")),
+        (Value::Enum(name!("null")), flaw(IsNotReserved, "null")),
+        (Value::Enum(name!("True")), None),
+        (Value::Enum(name!(on)), None),
+        (variable(), None),
+        (value!(in alloc; [null, $true, {a: $v, a: $v}])?, None),
+        (deep(alloc, reserved())?, flaw(IsNotReserved, "true")),
+        (deep(alloc, variable())?, flaw(IsNotReserved, "null")),
+    ]?)
+}
+
+/// `@d(a: FIRST, a: SECOND)`
+fn directive(alloc: Global, first: Value, second: Value) -> Result<Directive, AllocError> {
+    let bare = Directive::new(alloc, name!(d));
+    let with_first = with_argument(alloc, bare, name!(a), Node::new(alloc, first)?)?;
+    with_argument(alloc, with_first, name!(a), Node::new(alloc, second)?)
+}
+
+fn directives(alloc: Global) -> Result<Vec<(Directive, Option<Flaw>)>, AllocError> {
+    Ok(vec![in alloc;
+        (Directive::new(alloc, name!("true")), None),
+        (directive(alloc, variable(), nested(alloc)?)?, None),
+        (
+            directive(alloc, variable(), reserved())?,
+            flaw(IsNotReserved, "true")
+        ),
+        (
+            directive(alloc, deep(alloc, variable())?, reserved())?,
+            flaw(IsNotReserved, "null")
+        ),
+    ]?)
+}
+
+/// ` @d(a: FIRST, a: FIRST) @d(a: SECOND, a: null)`, where `null` is an enum value.
+fn list(alloc: Global, first: Value, second: Value) -> Result<DirectiveList, AllocError> {
+    let copy = first.clone()?;
+    let nodes = vec![in alloc;
+        Node::new(alloc, directive(alloc, first, copy)?)?,
+        Node::new(alloc, directive(alloc, second, Value::Enum(name!("null")))?)?,
+    ]?;
+    Ok(DirectiveList(nodes))
+}
+
+fn lists(alloc: Global) -> Result<Vec<(DirectiveList, Option<Flaw>)>, AllocError> {
+    Ok(vec![in alloc;
+        (DirectiveList::new(alloc), None),
+        (
+            list(alloc, variable(), reserved())?,
+            flaw(IsNotReserved, "true")
+        ),
+        (
+            list(alloc, reserved(), variable())?,
+            flaw(IsNotReserved, "true")
+        ),
+        (
+            list(alloc, variable(), variable())?,
+            flaw(IsNotReserved, "null")
+        ),
+    ]?)
+}
+
+/// `true: Int = VALUE`
+fn input(alloc: Global, value: Option<Value>) -> Result<InputValueDefinition, AllocError> {
+    let mut input = InputValueDefinition::new(alloc, name!("true"), Node::new(alloc, ty!(Int))?);
+    if let Some(value) = value {
+        input.default_value = Some(Node::new(alloc, value)?);
+    }
+    Ok(input)
+}
+
+/// `true: Int = VALUE @d(a: w, a: w)`, where `w` is a variable.
+fn directed_input(alloc: Global, value: Value) -> Result<InputValueDefinition, AllocError> {
+    let (first, second) = (Value::Variable(name!(w)), Value::Variable(name!(w)));
+    let directive = Node::new(alloc, directive(alloc, first, second)?)?;
+    let mut input = input(alloc, Some(value))?;
+    input.directives = DirectiveList(vec![in alloc; directive]?);
+    Ok(input)
+}
+
+fn inputs(alloc: Global) -> Result<Vec<(InputValueDefinition, Option<Flaw>)>, AllocError> {
+    Ok(vec![in alloc;
+        (input(alloc, None)?, None),
+        (input(alloc, Some(nested(alloc)?))?, None),
+        (input(alloc, Some(reserved()))?, flaw(IsNotReserved, "true")),
+        (input(alloc, Some(variable()))?, flaw(IsConstant, "v")),
+        (
+            input(alloc, Some(deep(alloc, variable())?))?,
+            flaw(IsConstant, "v")
+        ),
+        (directed_input(alloc, Value::Null)?, flaw(IsConstant, "w")),
+        (directed_input(alloc, variable())?, flaw(IsConstant, "v")),
+        (
+            directed_input(alloc, reserved())?,
+            flaw(IsNotReserved, "true")
+        ),
+    ]?)
+}
+
+/// `directive @on(true: Int = VALUE, true: Int = VALUE)`, perhaps with a location.
+fn definition(
+    alloc: Global,
+    value: Value,
+    locations: Vec<DirectiveLocation>,
+) -> Result<DirectiveDefinition, AllocError> {
+    let input = Node::new(alloc, input(alloc, Some(value))?)?;
+    Ok(DirectiveDefinition {
+        arguments: vec![in alloc; input.clone()?, input]?,
+        locations,
+        ..DirectiveDefinition::new(alloc, name!(on))
+    })
+}
+
+fn definitions(alloc: Global) -> Result<Vec<(DirectiveDefinition, Option<Flaw>)>, AllocError> {
+    let field = vec![in alloc; DirectiveLocation::Field]?;
+    let none = Vec::new(alloc);
+    Ok(vec![in alloc;
+        (
+            DirectiveDefinition::new(alloc, name!(d)),
+            flaw(HasLocation, "d")
+        ),
+        (definition(alloc, Value::Null, field.clone()?)?, None),
+        (
+            definition(alloc, Value::Null, none)?,
+            flaw(HasLocation, "on")
+        ),
+        (definition(alloc, variable(), field)?, flaw(IsConstant, "v")),
+        (
+            definition(alloc, variable(), Vec::new(alloc))?,
+            flaw(IsConstant, "v")
+        ),
+    ]?)
+}
+
+/// Of two flaws the first in the order of print is found.
+#[test]
+fn of_each_kind(rt: HostRuntime) {
+    let alloc = rt.alloc();
+    check_flaws(&rt, &values(alloc).expect(&rt, "memory"));
+    check_flaws(&rt, &directives(alloc).expect(&rt, "memory"));
+    check_flaws(&rt, &lists(alloc).expect(&rt, "memory"));
+    check_flaws(&rt, &inputs(alloc).expect(&rt, "memory"));
+    check_flaws(&rt, &definitions(alloc).expect(&rt, "memory"));
+}
+
+/// The name `true`, with a location.
+fn placed_name() -> Name {
+    match SourceSpan::new(FileId::new(7), 20, 24) {
+        Some(span) => name!("true").with_location(span),
+        None => name!("true"),
+    }
+}
+
+/// `[ITEM]`, where the item stands at a location.
+fn around(alloc: Global, item: Value, location: Option<SourceSpan>) -> Result<Value, AllocError> {
+    Ok(Value::List(vec![in alloc; node(alloc, item, location)?]?))
+}
+
+/// `{a: ITEM}`, where the item stands at a location.
+fn object(alloc: Global, item: Value, location: Option<SourceSpan>) -> Result<Value, AllocError> {
+    let item = node(alloc, item, location)?;
+    Ok(Value::Object(vec![in alloc; (name!(a), item)]?))
+}
+
+/// The flaw of an enum value `true`.
+fn reserved_at(location: Option<SourceSpan>) -> Option<Flaw> {
+    Some((IsNotReserved, Some("true"), location))
+}
+
+fn placed_values(alloc: Global) -> Result<Vec<(Value, Option<Flaw>)>, AllocError> {
+    let (outer, inner) = (at(10, 30), at(15, 25));
+    let list = around(alloc, reserved(), None)?;
+    let placed_list = around(alloc, reserved(), inner)?;
+    let placed_field = object(alloc, reserved(), inner)?;
+    Ok(vec![in alloc;
+        (Value::Enum(placed_name()), reserved_at(at(20, 24))),
+        (around(alloc, list.clone()?, outer)?, reserved_at(outer)),
+        (object(alloc, list, outer)?, reserved_at(outer)),
+        (around(alloc, placed_list, outer)?, reserved_at(inner)),
+        (around(alloc, placed_field, None)?, reserved_at(inner)),
+        (
+            around(alloc, Value::Enum(placed_name()), inner)?,
+            reserved_at(at(20, 24))
+        ),
+    ]?)
+}
+
+/// ` @d(a: NAME)`, and where the value, the argument and the directive stand.
+fn placed_list(
+    alloc: Global,
+    name: Name,
+    value: Option<SourceSpan>,
+    argument: Option<SourceSpan>,
+    directive: Option<SourceSpan>,
+) -> Result<DirectiveList, AllocError> {
+    let value = node(alloc, Value::Enum(name), value)?;
+    let argument = node(alloc, Argument::new(name!(a), value), argument)?;
+    let parent = Directive {
+        arguments: vec![in alloc; argument]?,
+        ..Directive::new(alloc, name!(d))
+    };
+    Ok(DirectiveList(vec![in alloc; node(alloc, parent, directive)?]?))
+}
+
+fn placed_lists(alloc: Global) -> Result<Vec<(DirectiveList, Option<Flaw>)>, AllocError> {
+    let (outer, middle, inner) = (at(10, 30), at(13, 29), at(15, 25));
+    let bare = name!("true");
+    Ok(vec![in alloc;
+        (
+            placed_list(alloc, placed_name(), inner, middle, outer)?,
+            reserved_at(at(20, 24))
+        ),
+        (
+            placed_list(alloc, placed_name(), None, None, None)?,
+            reserved_at(at(20, 24))
+        ),
+        (
+            placed_list(alloc, bare.clone()?, inner, middle, outer)?,
+            reserved_at(inner)
+        ),
+        (
+            placed_list(alloc, bare.clone()?, None, middle, outer)?,
+            reserved_at(middle)
+        ),
+        (
+            placed_list(alloc, bare.clone()?, inner, None, outer)?,
+            reserved_at(inner)
+        ),
+        (
+            placed_list(alloc, bare.clone()?, None, None, outer)?,
+            reserved_at(outer)
+        ),
+        (
+            placed_list(alloc, bare, None, None, None)?,
+            reserved_at(None)
+        ),
+    ]?)
+}
+
+/// `a: Int = true @d(a: true)`, where `true` is an enum value, and where the values stand: the first, if there is one,
+/// and the second.
+fn placed_input(
+    alloc: Global,
+    first: Option<Option<SourceSpan>>,
+    second: Option<SourceSpan>,
+) -> Result<InputValueDefinition, AllocError> {
+    let mut input = input(alloc, None)?;
+    if let Some(location) = first {
+        input.default_value = Some(node(alloc, reserved(), location)?);
+    }
+    input.directives = placed_list(alloc, name!("true"), second, None, None)?;
+    Ok(input)
+}
+
+fn placed_inputs(alloc: Global) -> Result<Vec<(InputValueDefinition, Option<Flaw>)>, AllocError> {
+    let (first, second) = (at(10, 14), at(21, 25));
+    Ok(vec![in alloc;
+        (
+            placed_input(alloc, Some(first), second)?,
+            reserved_at(first)
+        ),
+        (placed_input(alloc, Some(None), second)?, reserved_at(None)),
+        (placed_input(alloc, None, second)?, reserved_at(second)),
+    ]?)
+}
+
+/// `directive @true(true: Int = true)`, where `true` is an enum value; where the argument stands, and the value.
+fn placed_definition(
+    alloc: Global,
+    argument: Option<SourceSpan>,
+    value: Option<SourceSpan>,
+) -> Result<DirectiveDefinition, AllocError> {
+    let input = placed_input(alloc, Some(value), None)?;
+    Ok(DirectiveDefinition {
+        arguments: vec![in alloc; node(alloc, input, argument)?]?,
+        ..DirectiveDefinition::new(alloc, placed_name())
+    })
+}
+
+fn placed_definitions(
+    alloc: Global,
+) -> Result<Vec<(DirectiveDefinition, Option<Flaw>)>, AllocError> {
+    let (outer, inner) = (at(10, 30), at(15, 25));
+    let bare = DirectiveDefinition::new(alloc, placed_name());
+    Ok(vec![in alloc;
+        (bare, Some((HasLocation, Some("true"), at(20, 24)))),
+        (placed_definition(alloc, outer, inner)?, reserved_at(inner)),
+        (placed_definition(alloc, outer, None)?, reserved_at(outer)),
+        (placed_definition(alloc, None, None)?, reserved_at(None)),
+    ]?)
+}
+
+/// The name's, or else that of the innermost node around it that has one.
+#[test]
+fn locations(rt: HostRuntime) {
+    let alloc = rt.alloc();
+    check_flaws(&rt, &placed_values(alloc).expect(&rt, "memory"));
+    check_flaws(&rt, &placed_lists(alloc).expect(&rt, "memory"));
+    check_flaws(&rt, &placed_inputs(alloc).expect(&rt, "memory"));
+    check_flaws(&rt, &placed_definitions(alloc).expect(&rt, "memory"));
+}

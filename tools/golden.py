@@ -9,9 +9,10 @@ graphql-js 16. A name that two cases have is refused, and so are names of two gr
 
 The model knows the rules of docs/LAYOUT.md and nothing of this printer; the texts in the cases are its own. A case is an object with the
 members `name`, `kind` (those of other kinds than those of KINDS are passed over), `tree`, `prefix` (null: on one line), `level` (a text
-where the number is great), `well_formed`, and `text`, or `refusal` where the level overflows. A tree is `{"node": CLASS, FIELD: ..}`; one
-that is deeper than JSON is read is told by its number: `{"built": "N lists, each the one item .."}` or
-`{"built": "anonymous query, N selection sets .."}`.
+where the number is great), `well_formed`, `flaw` if it isn't well formed, and `text`, or `refusal` where the level overflows. A tree is
+`{"node": CLASS, FIELD: ..}`; one that is deeper than JSON is read is told by its number: `{"built": "N lists, each the one item .."}` or
+`{"built": "anonymous query, N selection sets .."}`. A flaw is the first in the order of print: `{"condition": WORDS, "name": ..}`, the
+words as a `SideCondition` is displayed, and the name that breaks it, or else that of what breaks it, or null where that has no name.
 
 A name is the group, the rule in plain words, and the layout, if it isn't the default: `string/line-feed/one-line`. A group is a file of
 crates/golden/data. All texts are the model's but for those of `read` and `refused`, which are written by hand:
@@ -19,7 +20,7 @@ crates/golden/data. All texts are the model's but for those of `read` and `refus
 - `value`, `string`, `description` (at each kind that has one, or has a member that has one), `directive` (with directive definitions and
   input values), `type-system`, `executable`, `document`: the rules of docs/LAYOUT.md, a case or a few each;
 - `layout`: prefixes, levels, and what needs a level at the greatest one;
-- `side-condition`: what is well formed and what isn't, in one layout, since no side condition depends on it;
+- `side-condition`: what is well formed and what isn't, and why, in one layout, since no side condition depends on it;
 - `size`: pieces longer than the buffer of a print (1,024 bytes), and names about its length and twice its length; `nested`: 5,000 lists on
   one line and under an empty prefix, 200 under two spaces and under a tab, whose text grows with the square of the number, and 1,000
   selection sets. As `rt run` builds the program its stack carries 5,000; the checked build of `rt try` runs out of stack between 2,500
@@ -276,6 +277,7 @@ def kind(entry):
 
 def case(entry):
     assert ("refusal" in entry) != ("text" in entry)
+    assert ("flaw" in entry) != entry["well_formed"]
     return {
         "name": entry["name"],
         "kind": kind(entry),
@@ -284,6 +286,7 @@ def case(entry):
             "prefix": entry["prefix"],
             "level": int(entry["level"]),
             "well_formed": entry["well_formed"],
+            **({"flaw": entry["flaw"]} if "flaw" in entry else {}),
             "text": entry.get("text"),
         },
     }

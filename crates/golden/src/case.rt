@@ -2,6 +2,8 @@
 use serde::Deserialize;
 use serde_json::Value as Json;
 use std::alloc::Global;
+use std::fmt;
+use std::fmt::{Display, Formatter, Write};
 
 /// A case: it has either `print` or `json`.
 #[derive(Drop, Deserialize)]
@@ -29,8 +31,30 @@ pub struct PrintCase {
     /// The starting level.
     pub level: usize,
     pub well_formed: bool,
+    /// Why it isn't well formed, or none where it is.
+    #[serde(default)]
+    pub flaw: Option<Flaw>,
     /// The text, or none where the level overflows.
     pub text: Option<String>,
+}
+
+/// Why a tree isn't well formed: its first flaw in the order of print.
+#[derive(Drop, Deserialize)]
+#[serde(deny_unknown_fields)]
+pub struct Flaw {
+    /// The side condition that is broken, in the words of its display.
+    pub condition: String,
+    /// The name that breaks it, or else that of what breaks it, or none where that has no name.
+    pub name: Option<String>,
+}
+
+impl Display for Flaw {
+    fn fmt<W: Write>(&self, f: &mut Formatter<W>) -> fmt::Result {
+        match &self.name {
+            Some(name) => write!(f, "{}: `{name}`", self.condition),
+            None => write!(f, "{}", self.condition),
+        }
+    }
 }
 
 /// JSON that is read, and what is wanted of that.

@@ -2,6 +2,7 @@
 use crate::case::PrintCase;
 use crate::difference::Difference;
 use crate::sink::ByteSink;
+use graphql_ast::ill_formed::IllFormed;
 use graphql_ast::serialize::{PrintError, Serialize, Syntax};
 use graphql_ast::sink::{StreamSink, TextSink, VecSink};
 use std::alloc::{AllocError, Global};
@@ -9,11 +10,12 @@ use std::fmt;
 use std::fmt::{Display, Formatter, Write};
 
 /// What is asked of AST JSON or a tree: whether it is read and written as the case wants, whether the tree is well
-/// formed, or its text, in one of the ways in which it can be printed.
+/// formed, why it isn't, or its text, in one of the ways in which it can be printed.
 #[derive(Clone, Copy, Debug, PartialEq, Eq)]
 pub enum Check {
     AstJson,
     WellFormed,
+    IllFormed,
     ToText,
     Display,
     TreeDisplay,
@@ -23,8 +25,9 @@ pub enum Check {
 }
 
 /// Those that are asked of a tree alone.
-const CHECKS: [Check; 7] = [
+const CHECKS: [Check; 8] = [
     Check::WellFormed,
+    Check::IllFormed,
     Check::ToText,
     Check::Display,
     Check::TreeDisplay,
@@ -45,6 +48,7 @@ impl Check {
         let found = match self {
             Check::AstJson => return Ok(None),
             Check::WellFormed => return of_answer(alloc, case, tree.is_well_formed()),
+            Check::IllFormed => return of_flaw(alloc, case, tree.find_ill_formed()),
             Check::ToText => of_text(alloc, &print)?,
             Check::Display => displayed(alloc, &print)?,
             Check::TreeDisplay if !is_in_default_layout(case) => return Ok(None),
@@ -62,6 +66,7 @@ impl Display for Check {
         f.write_str(match self {
             Check::AstJson => "AST JSON",
             Check::WellFormed => "is_well_formed",
+            Check::IllFormed => "find_ill_formed",
             Check::ToText => "to_text",
             Check::Display => "Display of Serialize",
             Check::TreeDisplay => "Display of the tree",
@@ -192,6 +197,28 @@ fn of_answer(
     let wanted = format!(in alloc; "{}", case.well_formed)?;
     let found = format!(in alloc; "{is_well_formed}")?;
     Ok(Some(Difference::new(alloc, Check::WellFormed, wanted.as_str(), found.as_str())?))
+}
+
+/// The difference of the answer of `find_ill_formed` from what the case wants, if there is one.
+fn of_flaw(
+    alloc: Global,
+    case: &PrintCase,
+    ill_formed: Option<IllFormed<'_>>,
+) -> Result<Option<Difference>, AllocError> {
+    let wanted = told_flaw(alloc, case.flaw.as_ref())?;
+    let found = told_flaw(alloc, ill_formed.as_ref())?;
+    if wanted == found {
+        return Ok(None);
+    }
+    Ok(Some(Difference::new(alloc, Check::IllFormed, wanted.as_str(), found.as_str())?))
+}
+
+/// A flaw in one line, or that there is none.
+fn told_flaw<T: Display>(alloc: Global, flaw: Option<&T>) -> Result<String, AllocError> {
+    match flaw {
+        Some(flaw) => format!(in alloc; "{flaw}"),
+        None => format!(in alloc; "no flaw"),
+    }
 }
 
 fn of_text<T: Syntax>(alloc: Global, print: &Serialize<'_, T>) -> Result<Found, AllocError> {

@@ -4,7 +4,7 @@
 //! - `NodeReader`: JSON that is read, by a reading that refuses what is unknown or passes over it.
 //! - `from_ast_json_str`: a tree from the text of its JSON.
 //! - `error`: why JSON is of no tree, and where in it.
-//! - `from_well_formed_ast_json_str`: a well-formed tree from the text of its JSON, or where the JSON has the first flaw.
+//! - `from_well_formed_ast_json_str`: a well-formed tree from the text of its JSON, or where it has the first flaw.
 //! - `Offsets`: what the offsets of locations count, and where they fall in bytes.
 //! - `laws`: what holds of AST JSON, as contracts of functions that do nothing.
 #![tactic(auto)]

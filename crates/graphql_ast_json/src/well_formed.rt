@@ -164,7 +164,8 @@ pub fn from_well_formed_ast_json_str<T: AstJson + SyntaxTree + Drop>(
     ensures err { IfErr result (λ error. IfNotRead error (λ refusal. ¬ IsMemory refusal
         → (json : Data) → read text.now ≡ Some json
         → (tree : T.Tree) → ¬ T.is_json_of Refuse tree json)) }
-    ensures ill_formed { IfErr result (λ error. IfIllFormed error (λ flaw. (value : T) × (json : Data)
+    ensures ill_formed { IfErr result (λ error. IfIllFormed error (λ flaw.
+        (value : T) × (json : Data)
         × (read text.now ≡ Some json) × T.is_json_of Refuse (T.AstJson.tree value) json
         × (first_flaw (T.kind.flaws (T.SyntaxTree.tree value)) ≡ Some flaw))) }
 {

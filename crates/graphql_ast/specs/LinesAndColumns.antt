@@ -7,6 +7,9 @@ use Rattle.graphql_base.specs.declared.span.FileId.{FileId}
 use Rattle.graphql_base.specs.declared.span.SourceSpan.{SourceSpan}
 use Rattle.graphql_base.specs.Span.{file_number, span_file, span_start}
 use Rattle.graphql_text.specs.strings.BlockStringValue.{with_lf}
+use Rattle.graphql_text.specs.declared.ill_formed.IllFormed.{IllFormed}
+use Rattle.graphql_ast.specs.declared.document.placed_flaw.PlacedFlaw.{PlacedFlaw}
+use Rattle.graphql_ast.specs.declared.document.placed_flaw.SourcePosition.{SourcePosition}
 use Rattle.graphql_ast.specs.declared.document.SourceFile.{SourceFile}
 use Rattle.graphql_ast.specs.declared.document.lines_and_columns.LineColumn.{LineColumn}
 
@@ -32,3 +35,11 @@ IsStartIn None span position = position ≡ None
 
 abbrev pub IsStartPosition : List (FileId × SourceFile) → SourceSpan → Option LineColumn → Type 0
 IsStartPosition files span position = IsStartIn (source_file_of (span_file span) files) span position
+
+-- the position in a source text, without its path
+abbrev pub line_column_of : SourcePosition → LineColumn
+line_column_of place = place.position
+
+-- the flaw, wherever it stands
+abbrev pub found_of : PlacedFlaw → IllFormed
+found_of flaw = flaw.found

@@ -3,6 +3,7 @@
 pub use crate::definition::Definition;
 pub use crate::document::lines_and_columns::LineColumn;
 pub use crate::document::look_ups::{Extensions, Fragments, Operations};
+pub use crate::document::placed_flaw::{PlacedFlaw, SourcePosition};
 pub use crate::document::{Document, SourceFile};
 pub use crate::name::NamedType;
 pub use graphql_executable::fragment_definition::FragmentDefinition;

@@ -6,6 +6,7 @@ ghost use Rattle.graphql_ast.specs.DocumentChanges.{Appends, IsUnchanged};
 
 pub(crate) mod lines_and_columns;
 pub(crate) mod look_ups;
+pub(crate) mod placed_flaw;
 pub(crate) mod print;
 
 use crate::definition::Definition;

@@ -7,9 +7,10 @@ use graphql_ast::ast::{
     Argument, Definition, Directive, DirectiveDefinition, DirectiveList, Document,
     EnumTypeDefinition, EnumTypeExtension, FieldDefinition, FragmentDefinition,
     InputObjectTypeDefinition, InputObjectTypeExtension, InputValueDefinition,
-    InterfaceTypeDefinition, InterfaceTypeExtension, ObjectTypeDefinition, ObjectTypeExtension,
-    OperationDefinition, OperationType, ScalarTypeDefinition, ScalarTypeExtension,
-    SchemaDefinition, SchemaExtension, UnionTypeDefinition, UnionTypeExtension,
+    InterfaceTypeDefinition, InterfaceTypeExtension, LineColumn, ObjectTypeDefinition,
+    ObjectTypeExtension, OperationDefinition, OperationType, ScalarTypeDefinition,
+    ScalarTypeExtension, SchemaDefinition, SchemaExtension, UnionTypeDefinition,
+    UnionTypeExtension,
 };
 use graphql_ast::ill_formed::SideCondition::{
     self, AddsSomething, HasDefinition, HasLocation, HasRootOperation, HasSelection, IsConstant,
@@ -308,4 +309,54 @@ fn of_documents(rt: HostRuntime) {
     for (tree, wanted) in &indexed_documents(alloc).expect(&rt, "memory") {
         assert_eq!(rt; tree.find_ill_formed_index(), *wanted, "{tree}");
     }
+}
+
+// SOURCES
+
+/// A document of `extend enum N` at this location, with the source text or without it.
+fn extension_at(
+    alloc: Global,
+    location: Option<SourceSpan>,
+    has_source: bool,
+) -> Result<Document, AllocError> {
+    let extension = EnumTypeExtension::new(alloc, name!(N));
+    let definitions = vec![in alloc; Definition::from(node(alloc, extension, location)?)]?;
+    let mut tree = document(alloc, definitions);
+    if has_source {
+        let file = source_file(alloc, "a.graphql", "scalar A\n\nextend enum N")?;
+        tree.sources.insert(FileId::new(7), file)?;
+    }
+    Ok(tree)
+}
+
+/// Documents, and what is said of the first flaw of each.
+fn told_documents(alloc: Global) -> Result<Vec<(Document, &'static str)>, AllocError> {
+    let bare = "an extension that adds nothing: `N`";
+    Ok(vec![in alloc;
+        (
+            extension_at(alloc, at(10, 23), true)?,
+            "a.graphql:3:1: an extension that adds nothing: `N`"
+        ),
+        (extension_at(alloc, at(10, 23), false)?, bare),
+        (extension_at(alloc, at(100, 101), true)?, bare),
+        (extension_at(alloc, None, true)?, bare),
+    ]?)
+}
+
+/// A flaw is told with the path, the line and the column where the document has the source text.
+#[test]
+fn in_sources(rt: HostRuntime) {
+    let alloc = rt.alloc();
+    for (tree, wanted) in &told_documents(alloc).expect(&rt, "memory") {
+        let found = tree.find_placed_flaw().expect(&rt, "a flaw");
+        let text = format!(in alloc; "{found}").expect(&rt, "memory");
+        assert_eq!(rt; text.as_str(), *wanted);
+    }
+    let plain = type_and_query(alloc).expect(&rt, "memory");
+    assert!(rt; plain.find_placed_flaw().is_none());
+    let tree = extension_at(alloc, None, true).expect(&rt, "memory");
+    let span = at(10, 23).expect(&rt, "a span");
+    let place = tree.source_position(span).expect(&rt, "a place");
+    assert_eq!(rt; place.path, "a.graphql");
+    assert_eq!(rt; place.position, LineColumn { line: 3, column: 1 });
 }

@@ -39,7 +39,7 @@ impl SourceFile {
 
 impl Document {
     /// The source file of this id.
-    fn source_file(&self, id: FileId) -> Option<&SourceFile>
+    pub(crate) fn source_file(&self, id: FileId) -> Option<&SourceFile>
         ensures { option_copied result ≡ source_file_of id self.now.sources.entries }
     {
         self.sources.get(&id)

@@ -1,4 +1,4 @@
--- Lemmas on what stands in a buffer.
+-- Lemmas on what stands in a buffer, and on what is told of JSON.
 
 -- of what a print wrote
 pub mod Prints
@@ -6,3 +6,5 @@ pub mod Prints
 pub mod MessageFronts
 -- of prefixes of spaces and tabs
 pub mod Prefixes
+-- of JSON of trees that aren't well formed
+pub mod FlawedTrees

@@ -1,13 +1,18 @@
 //! Definitions in a short notation of AST JSON: as JSON they would fill a page each.
 //!
 //! A node is its kind and `;`, then its members, in `()`. A name is its text in `<>`, a selection set its selections in
-//! `{}`, and `'` is a quotation mark. `@` is a directive with the value of the test, `#`, and `T` in `%` a named type.
+//! `{}`, and `'` is a quotation mark. `@` is a directive with the value of the test, `#`, and `*` one with a
+//! variable. `%` is a type, and `^` and `&` are locations.
 
 /// What stands for parts of a row.
-pub(crate) const PARTS: [(char, &str); 6] = [
+pub(crate) const PARTS: [(char, &str); 7] = [
     (
         '@',
         "'directives':[(Directive;'name':<d>,'arguments':[(Argument;'name':<a>,'value':#)])]",
+    ),
+    (
+        '*',
+        "'directives':[(Directive;'name':<d>,'arguments':[(Argument;'name':<a>,'value':(Variable;'name':<x>))])]",
     ),
     ('%', "'type':(NamedType;'name':<T>)"),
     ('{', "'selectionSet':(SelectionSet;'selections':["),
@@ -46,12 +51,14 @@ pub(crate) const AROUND: [(&str, &str, bool); 42] = [
         false,
     ),
     (
-        "(OperationDefinition;'operation':'query','variableDefinitions':[(VariableDefinition;'variable':(Variable;'name':<x>),%,'defaultValue':#)],{(Field;'name':<f>)})",
+        "(OperationDefinition;'operation':'query',\
+         'variableDefinitions':[(VariableDefinition;'variable':(Variable;'name':<x>),%,'defaultValue':#)],{(Field;'name':<f>)})",
         "variableDefinitions[0].defaultValue",
         true,
     ),
     (
-        "(OperationDefinition;'operation':'query','variableDefinitions':[(VariableDefinition;'variable':(Variable;'name':<x>),%,@)],{(Field;'name':<f>)})",
+        "(OperationDefinition;'operation':'query',\
+         'variableDefinitions':[(VariableDefinition;'variable':(Variable;'name':<x>),%,@)],{(Field;'name':<f>)})",
         "variableDefinitions[0].@",
         true,
     ),
@@ -71,7 +78,8 @@ pub(crate) const AROUND: [(&str, &str, bool); 42] = [
         false,
     ),
     (
-        "(FragmentDefinition;'name':<f>,'typeCondition':(NamedType;'name':<T>),{(InlineFragment;{(Field;'name':<f>),(FragmentSpread;'name':<g>,@)})})",
+        "(FragmentDefinition;'name':<f>,'typeCondition':(NamedType;'name':<T>),\
+         {(InlineFragment;{(Field;'name':<f>),(FragmentSpread;'name':<g>,@)})})",
         "selectionSet.selections[0].selectionSet.selections[1].@",
         false,
     ),
@@ -114,7 +122,8 @@ pub(crate) const AROUND: [(&str, &str, bool); 42] = [
         true,
     ),
     (
-        "(ObjectTypeDefinition;'name':<A>,'fields':[(FieldDefinition;'name':<f>,'arguments':[(InputValueDefinition;'name':<a>,%,'defaultValue':#)],%)])",
+        "(ObjectTypeDefinition;'name':<A>,'fields':[(FieldDefinition;'name':<f>,\
+         'arguments':[(InputValueDefinition;'name':<a>,%,'defaultValue':#)],%)])",
         "fields[0].arguments[0].defaultValue",
         true,
     ),
@@ -129,7 +138,8 @@ pub(crate) const AROUND: [(&str, &str, bool); 42] = [
         true,
     ),
     (
-        "(ObjectTypeExtension;'name':<A>,'fields':[(FieldDefinition;'name':<f>,'arguments':[(InputValueDefinition;'name':<a>,%,'defaultValue':#)],%)])",
+        "(ObjectTypeExtension;'name':<A>,'fields':[(FieldDefinition;'name':<f>,\
+         'arguments':[(InputValueDefinition;'name':<a>,%,'defaultValue':#)],%)])",
         "fields[0].arguments[0].defaultValue",
         true,
     ),
@@ -144,7 +154,8 @@ pub(crate) const AROUND: [(&str, &str, bool); 42] = [
         true,
     ),
     (
-        "(InterfaceTypeDefinition;'name':<A>,'fields':[(FieldDefinition;'name':<f>,'arguments':[(InputValueDefinition;'name':<a>,%,'defaultValue':#)],%)])",
+        "(InterfaceTypeDefinition;'name':<A>,'fields':[(FieldDefinition;'name':<f>,\
+         'arguments':[(InputValueDefinition;'name':<a>,%,'defaultValue':#)],%)])",
         "fields[0].arguments[0].defaultValue",
         true,
     ),
@@ -159,7 +170,8 @@ pub(crate) const AROUND: [(&str, &str, bool); 42] = [
         true,
     ),
     (
-        "(InterfaceTypeExtension;'name':<A>,'fields':[(FieldDefinition;'name':<f>,'arguments':[(InputValueDefinition;'name':<a>,%,'defaultValue':#)],%)])",
+        "(InterfaceTypeExtension;'name':<A>,'fields':[(FieldDefinition;'name':<f>,\
+         'arguments':[(InputValueDefinition;'name':<a>,%,'defaultValue':#)],%)])",
         "fields[0].arguments[0].defaultValue",
         true,
     ),
@@ -293,7 +305,8 @@ pub(crate) const FLAWED: [(&str, &str); 39] = [
         "at `definitions[0].directives[0].arguments[0].value.value`: a reserved enum value: `true`",
     ),
     (
-        "(OperationDefinition;'operation':'query',{(InlineFragment;{})},'variableDefinitions':[(VariableDefinition;'variable':(Variable;'name':<x>),%,@,'defaultValue':(Variable;'name':<y>))])",
+        "(OperationDefinition;'operation':'query',{(InlineFragment;{})},\
+         'variableDefinitions':[(VariableDefinition;'variable':(Variable;'name':<x>),%,@,'defaultValue':(Variable;'name':<y>))])",
         "at `definitions[0].variableDefinitions[0].defaultValue`: a variable where only constants may stand: `y`",
     ),
     (
@@ -329,8 +342,9 @@ pub(crate) const FLAWED: [(&str, &str); 39] = [
         "at `definitions[0].fields[0].arguments[0].directives[0].arguments[0].value.value`: a reserved enum value: `true`",
     ),
     (
-        "(FragmentDefinition;'name':<f>,'typeCondition':(NamedType;'name':<T>),'directives':[(Directive;'name':<d>,'arguments':[(Argument;'name':<a>,'value':(Variable;'name':<x>))])],{(Field;'name':<f>)}),(OperationDefinition;'operation':'query',{(Field;'name':<f>,'arguments':[(Argument;'name':<a>,'value':(Variable;'name':<x>))])}),(ScalarTypeDefinition;'name':<B>,'directives':[(Directive;'name':<d>,'arguments':[(Argument;'name':<a>,'value':(IntValue;'value':'1')),(Argument;'name':<b>,'value':(Variable;'name':<x>))])]),(ScalarTypeExtension;'name':<B>)",
-        "at `definitions[2].directives[0].arguments[1].value`: a variable where only constants may stand: `x`",
+        "(FragmentDefinition;'name':<f>,'typeCondition':(NamedType;'name':<T>),*,{(Field;'name':<f>)}),\
+         (OperationDefinition;'operation':'query',{(Field;'name':<f>,*)}),(ScalarTypeDefinition;'name':<B>,*),(ScalarTypeExtension;'name':<B>)",
+        "at `definitions[2].directives[0].arguments[0].value`: a variable where only constants may stand: `x`",
     ),
     (
         "(ScalarTypeExtension;'name':<A>),(ScalarTypeExtension;'name':<B>)",
@@ -360,10 +374,12 @@ pub(crate) const FLAWED: [(&str, &str); 39] = [
 
 /// Definitions without a flaw.
 pub(crate) const WELL_FORMED: [&str; 11] = [
-    "(OperationDefinition;'operation':'query','name':<on>,@,{(Field;'alias':<on>,'name':<true>,'arguments':[(Argument;'name':<null>,'value':#)],{})})",
+    "(OperationDefinition;'operation':'query','name':<on>,@,{(Field;'alias':<on>,'name':<true>,\
+     'arguments':[(Argument;'name':<null>,'value':#)],{})})",
     "(FragmentDefinition;'name':<onto>,'typeCondition':(NamedType;'name':<on>),{(FragmentSpread;'name':<ON>)})",
     "(EnumTypeDefinition;'name':<true>,'values':[(EnumValueDefinition;'name':<True>),(EnumValueDefinition;'name':<on>)])",
-    "(ScalarTypeDefinition;'name':<A>,'directives':[(Directive;'name':<null>,'arguments':[(Argument;'name':<a>,'value':(EnumValue;'value':'nullable'))])])",
+    "(ScalarTypeDefinition;'name':<A>,'directives':[(Directive;'name':<null>,\
+     'arguments':[(Argument;'name':<a>,'value':(EnumValue;'value':'nullable'))])])",
     "(SchemaExtension;'operationTypes':[(OperationTypeDefinition;'operation':'query',%)])",
     "(SchemaExtension;'directives':[(Directive;'name':<d>)])",
     "(ObjectTypeExtension;'name':<A>,'interfaces':[(NamedType;'name':<T>)])",

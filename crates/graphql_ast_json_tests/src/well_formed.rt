@@ -115,8 +115,8 @@ fn trees_of_each_kind_are_told(rt: HostRuntime) {
 #[test]
 fn what_is_passed_over_has_no_flaws(rt: HostRuntime) {
     let alloc = rt.alloc();
-    let row =
-        "(Document;'definitions':[(DirectiveDefinition;@,'fields':[#],'name':<d>,'arguments':[(InputValueDefinition;'name':<a>,%,'values':[#],'defaultValue':#)],'locations':[<FIELD>])])";
+    let row = "(Document;'definitions':[(DirectiveDefinition;@,'fields':[#],'name':<d>,\
+         'arguments':[(InputValueDefinition;'name':<a>,%,'values':[#],'defaultValue':#)],'locations':[<FIELD>])])";
     let text = json_of(&rt, alloc, row, "(EnumValue;'value':'true')");
     let Ok(json) = Json::from_str(alloc, text.as_str()) else {
         panic!(rt; "JSON");

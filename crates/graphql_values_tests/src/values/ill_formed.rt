@@ -149,6 +149,11 @@ fn inputs(alloc: Global) -> Result<Vec<(InputValueDefinition, Option<Flaw>)>, Al
             input(alloc, Some(deep(alloc, variable())?))?,
             flaw(IsConstant, "v")
         ),
+    ]?)
+}
+
+fn directed_inputs(alloc: Global) -> Result<Vec<(InputValueDefinition, Option<Flaw>)>, AllocError> {
+    Ok(vec![in alloc;
         (directed_input(alloc, Value::Null)?, flaw(IsConstant, "w")),
         (directed_input(alloc, variable())?, flaw(IsConstant, "v")),
         (
@@ -201,6 +206,7 @@ fn of_each_kind(rt: HostRuntime) {
     check_flaws(&rt, &directives(alloc).expect(&rt, "memory"));
     check_flaws(&rt, &lists(alloc).expect(&rt, "memory"));
     check_flaws(&rt, &inputs(alloc).expect(&rt, "memory"));
+    check_flaws(&rt, &directed_inputs(alloc).expect(&rt, "memory"));
     check_flaws(&rt, &definitions(alloc).expect(&rt, "memory"));
 }
 

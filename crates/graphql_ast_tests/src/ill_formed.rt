@@ -4,16 +4,11 @@ use crate::samples::{
     anonymous_query, document, each_variant, source_file, type_a, type_and_query,
 };
 use graphql_ast::ast::{
-    Argument, Definition, Directive, DirectiveDefinition, DirectiveList, Document,
-    EnumTypeDefinition, EnumTypeExtension, FieldDefinition, FragmentDefinition,
-    InputObjectTypeDefinition, InputObjectTypeExtension, InputValueDefinition,
-    InterfaceTypeDefinition, InterfaceTypeExtension, LineColumn, ObjectTypeDefinition,
-    ObjectTypeExtension, OperationDefinition, OperationType, ScalarTypeDefinition,
-    ScalarTypeExtension, SchemaDefinition, SchemaExtension, UnionTypeDefinition,
-    UnionTypeExtension,
+    Argument, Definition, Directive, DirectiveList, Document, EnumTypeExtension, FieldDefinition,
+    InputValueDefinition, LineColumn, ObjectTypeDefinition, SchemaDefinition,
 };
 use graphql_ast::ill_formed::SideCondition::{
-    self, AddsSomething, HasDefinition, HasLocation, HasRootOperation, HasSelection, IsConstant,
+    self, AddsSomething, HasDefinition, HasRootOperation, IsConstant,
 };
 use graphql_ast::node::Node;
 use graphql_ast::span::{FileId, SourceSpan};
@@ -63,123 +58,10 @@ fn directives(alloc: Global, location: Option<SourceSpan>) -> Result<DirectiveLi
 
 // EACH VARIANT
 
-/// Operation, fragment, directive and schema.
-fn without_a_part(alloc: Global) -> Cases<Definition> {
-    let operation = OperationDefinition::new(alloc, OperationType::Mutation);
-    let fragment = FragmentDefinition::new(alloc, name!(N), name!(on));
-    let directive = DirectiveDefinition::new(alloc, name!(N));
-    let schema = SchemaDefinition::new(alloc);
-    Ok(vec![in alloc;
-        (
-            Definition::from(Node::new(alloc, operation)?),
-            nameless(HasSelection)
-        ),
-        (
-            Definition::from(Node::new(alloc, fragment)?),
-            flaw_of_n(HasSelection)
-        ),
-        (
-            Definition::from(Node::new(alloc, directive)?),
-            flaw_of_n(HasLocation)
-        ),
-        (
-            Definition::from(Node::new(alloc, schema)?),
-            nameless(HasRootOperation)
-        ),
-    ]?)
-}
-
-/// Definitions of the six kinds of types.
-fn with_a_variable(alloc: Global) -> Cases<Definition> {
-    let mut scalar = ScalarTypeDefinition::new(alloc, name!(N));
-    scalar.directives = directives(alloc, None)?;
-    let mut object = ObjectTypeDefinition::new(alloc, name!(N));
-    object.directives = directives(alloc, None)?;
-    let mut interface = InterfaceTypeDefinition::new(alloc, name!(N));
-    interface.directives = directives(alloc, None)?;
-    let mut union = UnionTypeDefinition::new(alloc, name!(N));
-    union.directives = directives(alloc, None)?;
-    let mut enumeration = EnumTypeDefinition::new(alloc, name!(N));
-    enumeration.directives = directives(alloc, None)?;
-    let mut input = InputObjectTypeDefinition::new(alloc, name!(N));
-    input.directives = directives(alloc, None)?;
-    Ok(vec![in alloc;
-        (
-            Definition::from(Node::new(alloc, scalar)?),
-            variable_at(None)
-        ),
-        (
-            Definition::from(Node::new(alloc, object)?),
-            variable_at(None)
-        ),
-        (
-            Definition::from(Node::new(alloc, interface)?),
-            variable_at(None)
-        ),
-        (
-            Definition::from(Node::new(alloc, union)?),
-            variable_at(None)
-        ),
-        (
-            Definition::from(Node::new(alloc, enumeration)?),
-            variable_at(None)
-        ),
-        (
-            Definition::from(Node::new(alloc, input)?),
-            variable_at(None)
-        ),
-    ]?)
-}
-
 /// `extend enum N`
 fn empty_extension(alloc: Global) -> Result<Definition, AllocError> {
     let extension = EnumTypeExtension::new(alloc, name!(N));
     Ok(Definition::from(Node::new(alloc, extension)?))
-}
-
-/// Extensions that add nothing, of all kinds.
-fn of_nothing(alloc: Global) -> Cases<Definition> {
-    let schema = SchemaExtension::new(alloc);
-    let scalar = ScalarTypeExtension::new(alloc, name!(N));
-    let object = ObjectTypeExtension::new(alloc, name!(N));
-    let interface = InterfaceTypeExtension::new(alloc, name!(N));
-    let union = UnionTypeExtension::new(alloc, name!(N));
-    let input = InputObjectTypeExtension::new(alloc, name!(N));
-    Ok(vec![in alloc;
-        (
-            Definition::from(Node::new(alloc, schema)?),
-            nameless(AddsSomething)
-        ),
-        (
-            Definition::from(Node::new(alloc, scalar)?),
-            flaw_of_n(AddsSomething)
-        ),
-        (
-            Definition::from(Node::new(alloc, object)?),
-            flaw_of_n(AddsSomething)
-        ),
-        (
-            Definition::from(Node::new(alloc, interface)?),
-            flaw_of_n(AddsSomething)
-        ),
-        (
-            Definition::from(Node::new(alloc, union)?),
-            flaw_of_n(AddsSomething)
-        ),
-        (empty_extension(alloc)?, flaw_of_n(AddsSomething)),
-        (
-            Definition::from(Node::new(alloc, input)?),
-            flaw_of_n(AddsSomething)
-        ),
-    ]?)
-}
-
-#[test]
-fn of_each_variant(rt: HostRuntime) {
-    let alloc = rt.alloc();
-    check_flaws(&rt, &without_a_part(alloc).expect(&rt, "memory"));
-    check_flaws(&rt, &with_a_variable(alloc).expect(&rt, "memory"));
-    check_flaws(&rt, &of_nothing(alloc).expect(&rt, "memory"));
 }
 
 // DOCUMENTS
@@ -227,29 +109,22 @@ fn placed_definitions(alloc: Global) -> Cases<Definition> {
 }
 
 fn documents(alloc: Global) -> Cases<Document> {
+    let bare = with_a_source(alloc, Document::new(alloc))?;
+    Ok(vec![in alloc;
+        (Document::new(alloc), nameless(HasDefinition)),
+        (bare, nameless(HasDefinition)),
+        (type_and_query(alloc)?, None),
+        (document(alloc, each_variant(alloc)?), None),
+    ]?)
+}
+
+fn flawed_documents(alloc: Global) -> Cases<Document> {
     let flawed = deep(alloc, None, None, None, None)?;
     let extension = empty_extension(alloc)?;
     let in_order = between(alloc, flawed.clone()?, extension.clone()?)?;
     Ok(vec![in alloc;
-        (Document::new(alloc), nameless(HasDefinition)),
-        (
-            with_a_source(alloc, Document::new(alloc))?,
-            nameless(HasDefinition)
-        ),
-        (type_and_query(alloc)?, None),
-        (with_a_source(alloc, type_and_query(alloc)?)?, None),
-        (document(alloc, each_variant(alloc)?), None),
-        (between(alloc, type_a(alloc)?, type_a(alloc)?)?, None),
-        (in_order.clone()?, variable_at(None)),
-        (with_a_source(alloc, in_order)?, variable_at(None)),
-        (
-            between(alloc, extension.clone()?, flawed)?,
-            flaw_of_n(AddsSomething)
-        ),
-        (
-            between(alloc, type_a(alloc)?, extension)?,
-            flaw_of_n(AddsSomething)
-        ),
+        (in_order, variable_at(None)),
+        (between(alloc, extension, flawed)?, flaw_of_n(AddsSomething)),
     ]?)
 }
 
@@ -269,33 +144,33 @@ fn placed_documents(alloc: Global) -> Cases<Document> {
     let (ty, field, argument, directive) = (at(10, 60), at(20, 50), at(22, 48), at(30, 40));
     let innermost = deep(alloc, ty, field, argument, directive)?;
     let in_argument = deep(alloc, ty, field, argument, None)?;
-    let in_field = deep(alloc, ty, field, None, None)?;
-    let in_type = deep(alloc, ty, None, None, None)?;
     let skipped = deep(alloc, ty, None, argument, None)?;
-    let extension = ScalarTypeExtension::new(alloc, name!(N));
-    let extension = Definition::from(node(alloc, extension, ty)?);
     Ok(vec![in alloc;
         (
-            between(alloc, innermost, in_type.clone()?)?,
+            between(alloc, innermost, type_a(alloc)?)?,
             variable_at(directive)
         ),
         (
-            between(alloc, in_argument, in_type.clone()?)?,
+            between(alloc, in_argument, type_a(alloc)?)?,
             variable_at(argument)
         ),
+        (
+            between(alloc, skipped, type_a(alloc)?)?,
+            variable_at(argument)
+        ),
+    ]?)
+}
+
+fn placed_in_types(alloc: Global) -> Cases<Document> {
+    let (ty, field) = (at(10, 60), at(20, 50));
+    let in_field = deep(alloc, ty, field, None, None)?;
+    let in_type = deep(alloc, ty, None, None, None)?;
+    Ok(vec![in alloc;
         (
             between(alloc, in_field, in_type.clone()?)?,
             variable_at(field)
         ),
-        (
-            between(alloc, in_type.clone()?, skipped.clone()?)?,
-            variable_at(ty)
-        ),
-        (between(alloc, skipped, in_type)?, variable_at(argument)),
-        (
-            between(alloc, extension, type_a(alloc)?)?,
-            Some((AddsSomething, Some("N"), ty))
-        ),
+        (between(alloc, in_type, type_a(alloc)?)?, variable_at(ty)),
     ]?)
 }
 
@@ -305,7 +180,9 @@ fn of_documents(rt: HostRuntime) {
     let alloc = rt.alloc();
     check_flaws(&rt, &placed_definitions(alloc).expect(&rt, "memory"));
     check_flaws(&rt, &documents(alloc).expect(&rt, "memory"));
+    check_flaws(&rt, &flawed_documents(alloc).expect(&rt, "memory"));
     check_flaws(&rt, &placed_documents(alloc).expect(&rt, "memory"));
+    check_flaws(&rt, &placed_in_types(alloc).expect(&rt, "memory"));
     for (tree, wanted) in &indexed_documents(alloc).expect(&rt, "memory") {
         assert_eq!(rt; tree.find_ill_formed_index(), *wanted, "{tree}");
     }

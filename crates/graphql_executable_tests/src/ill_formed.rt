@@ -1,14 +1,11 @@
 //! Why operations, fragments, selections and variable definitions aren't well formed, and where.
 use crate::checks::{Flaw, check_flaws};
-use crate::samples::{
-    a, field, fragment, inline_fragment, only, operation, query, query_of_a, variable,
-};
+use crate::samples::{a, field, fragment, only, operation, query, query_of_a, variable};
 use graphql_base::name;
 use graphql_base::name::Name;
 use graphql_base::node::Node;
 use graphql_base::span::{FileId, SourceSpan};
 use graphql_executable::field::Field;
-use graphql_executable::fragment_definition::FragmentDefinition;
 use graphql_executable::fragment_spread::FragmentSpread;
 use graphql_executable::inline_fragment::InlineFragment;
 use graphql_executable::operation_definition::OperationDefinition;
@@ -20,7 +17,6 @@ use graphql_text::ill_formed::SideCondition::{
 use graphql_values::argument::Argument;
 use graphql_values::directive::Directive;
 use graphql_values::directive_list::DirectiveList;
-use graphql_values::operation_type::OperationType;
 use graphql_values::ty;
 use graphql_values::value::Value;
 use std::alloc::{AllocError, Global};
@@ -29,9 +25,6 @@ use std::alloc::{AllocError, Global};
 fn flaw(condition: SideCondition, name: &'static str) -> Option<Flaw> {
     Some((condition, Some(name), None))
 }
-
-/// The flaw of an empty selection set of what has no name.
-const NO_SELECTION: Option<Flaw> = Some((HasSelection, None, None));
 
 /// The enum value `true`, which is no boolean.
 fn reserved() -> Value {
@@ -61,31 +54,12 @@ fn directives(alloc: Global, value: Value) -> Result<DirectiveList, AllocError> 
 
 // SELECTIONS
 
-/// `...on`
-fn spread_of_on(alloc: Global) -> Result<Selection, AllocError> {
-    Selection::fragment_spread(alloc, FragmentSpread::new(alloc, name!(on)))
-}
-
 /// `...NAME @d(a: 1, a: [VALUE])`
 fn spread(alloc: Global, name: Name, value: Value) -> Result<FragmentSpread, AllocError> {
     Ok(FragmentSpread {
         directives: directives(alloc, value)?,
         ..FragmentSpread::new(alloc, name)
     })
-}
-
-fn spreads(alloc: Global) -> Result<Vec<(FragmentSpread, Option<Flaw>)>, AllocError> {
-    Ok(vec![in alloc;
-        (FragmentSpread::new(alloc, name!(F)), None),
-        (FragmentSpread::new(alloc, name!(ON)), None),
-        (FragmentSpread::new(alloc, name!(on)), flaw(IsNotOn, "on")),
-        (spread(alloc, name!(F), variable_v())?, None),
-        (
-            spread(alloc, name!(F), reserved())?,
-            flaw(IsNotReserved, "true")
-        ),
-        (spread(alloc, name!(on), reserved())?, flaw(IsNotOn, "on")),
-    ]?)
 }
 
 /// `... on T @d(a: 1, a: [VALUE]) SET`, with a type condition or without one.
@@ -100,105 +74,6 @@ fn inline(
         directives: directives(alloc, value)?,
         selection_set,
     })
-}
-
-/// `... on U {}`
-fn empty_inline(alloc: Global) -> Result<Selection, AllocError> {
-    let mut fragment = InlineFragment::new(alloc);
-    fragment.type_condition = Some(name!(U));
-    Selection::inline_fragment(alloc, fragment)
-}
-
-fn inlines(alloc: Global) -> Result<Vec<(InlineFragment, Option<Flaw>)>, AllocError> {
-    let none = Vec::new(alloc);
-    let twice = vec![in alloc; a(alloc)?, a(alloc)?]?;
-    let flawed = vec![in alloc; a(alloc)?, empty_inline(alloc)?, spread_of_on(alloc)?]?;
-    let on_t = Some(name!(T));
-    Ok(vec![in alloc;
-        (InlineFragment::new(alloc), NO_SELECTION),
-        (inline_fragment(alloc)?, None),
-        (inline(alloc, Some(name!(on)), variable_v(), twice)?, None),
-        (
-            inline(alloc, None, variable_v(), none.clone()?)?,
-            NO_SELECTION
-        ),
-        (
-            inline(alloc, on_t.clone()?, variable_v(), none.clone()?)?,
-            flaw(HasSelection, "T")
-        ),
-        (
-            inline(alloc, on_t.clone()?, reserved(), none)?,
-            flaw(IsNotReserved, "true")
-        ),
-        (
-            inline(alloc, on_t, variable_v(), flawed)?,
-            flaw(HasSelection, "U")
-        ),
-    ]?)
-}
-
-/// `on: on(a: 1, a: [FIRST]) @d(a: 1, a: [SECOND]) SET`
-fn field_of(
-    alloc: Global,
-    first: Value,
-    second: Value,
-    selection_set: Vec<Selection>,
-) -> Result<Field, AllocError> {
-    Ok(Field {
-        alias: Some(name!(on)),
-        arguments: arguments(alloc, first)?,
-        directives: directives(alloc, second)?,
-        selection_set,
-        ..Field::new(alloc, name!(on))
-    })
-}
-
-fn fields(alloc: Global) -> Result<Vec<(Field, Option<Flaw>)>, AllocError> {
-    let null = Value::Enum(name!("null"));
-    let flawed = vec![in alloc; a(alloc)?, spread_of_on(alloc)?, empty_inline(alloc)?]?;
-    let deep = vec![in alloc;
-        Selection::field(
-            alloc,
-            field_of(alloc, variable_v(), variable_v(), flawed.clone()?)?
-        )?,
-    ]?;
-    Ok(vec![in alloc;
-        (Field::new(alloc, name!(on)), None),
-        (field(alloc)?, None),
-        (
-            field_of(alloc, variable_v(), variable_v(), Vec::new(alloc))?,
-            None
-        ),
-        (
-            field_of(alloc, reserved(), null, Vec::new(alloc))?,
-            flaw(IsNotReserved, "true")
-        ),
-        (
-            field_of(alloc, variable_v(), reserved(), flawed)?,
-            flaw(IsNotReserved, "true")
-        ),
-        (
-            field_of(alloc, variable_v(), variable_v(), deep)?,
-            flaw(IsNotOn, "on")
-        ),
-    ]?)
-}
-
-fn selections(alloc: Global) -> Result<Vec<(Selection, Option<Flaw>)>, AllocError> {
-    let flawed = field_of(alloc, variable_v(), reserved(), Vec::new(alloc))?;
-    Ok(vec![in alloc;
-        (a(alloc)?, None),
-        (
-            Selection::field(alloc, flawed)?,
-            flaw(IsNotReserved, "true")
-        ),
-        (spread_of_on(alloc)?, flaw(IsNotOn, "on")),
-        (empty_inline(alloc)?, flaw(HasSelection, "U")),
-        (
-            Selection::inline_fragment(alloc, InlineFragment::new(alloc))?,
-            NO_SELECTION
-        ),
-    ]?)
 }
 
 // DEFINITIONS
@@ -216,134 +91,6 @@ fn variable_of(
         variable.directives = directives(alloc, Value::Variable(name!(w)))?;
     }
     Ok(variable)
-}
-
-fn variables(alloc: Global) -> Result<Vec<(VariableDefinition, Option<Flaw>)>, AllocError> {
-    Ok(vec![in alloc;
-        (variable(alloc)?, None),
-        (variable_of(alloc, Value::Null, false)?, None),
-        (
-            variable_of(alloc, variable_v(), false)?,
-            flaw(IsConstant, "v")
-        ),
-        (
-            variable_of(alloc, reserved(), false)?,
-            flaw(IsNotReserved, "true")
-        ),
-        (
-            variable_of(alloc, Value::Null, true)?,
-            flaw(IsConstant, "w")
-        ),
-        (
-            variable_of(alloc, variable_v(), true)?,
-            flaw(IsConstant, "v")
-        ),
-    ]?)
-}
-
-/// `query on($true: Int = FIRST) @d(a: 1, a: [SECOND]) SET`
-fn operation_of(
-    alloc: Global,
-    first: Value,
-    second: Value,
-    selection_set: Vec<Selection>,
-) -> Result<OperationDefinition, AllocError> {
-    let variable = Node::new(alloc, variable_of(alloc, first, false)?)?;
-    Ok(OperationDefinition {
-        name: Some(name!(on)),
-        variables: vec![in alloc; variable.clone()?, variable]?,
-        directives: directives(alloc, second)?,
-        selection_set,
-        ..OperationDefinition::new(alloc, OperationType::Query)
-    })
-}
-
-fn operations(alloc: Global) -> Result<Vec<(OperationDefinition, Option<Flaw>)>, AllocError> {
-    let none = Vec::new(alloc);
-    let twice = vec![in alloc; a(alloc)?, a(alloc)?]?;
-    let flawed = vec![in alloc; a(alloc)?, empty_inline(alloc)?, spread_of_on(alloc)?]?;
-    let anonymous = OperationDefinition::new(alloc, OperationType::Subscription);
-    Ok(vec![in alloc;
-        (anonymous, NO_SELECTION),
-        (operation(alloc)?, None),
-        (operation_of(alloc, Value::Null, variable_v(), twice)?, None),
-        (
-            operation_of(alloc, Value::Null, variable_v(), none.clone()?)?,
-            flaw(HasSelection, "on")
-        ),
-        (
-            operation_of(alloc, variable_v(), reserved(), none.clone()?)?,
-            flaw(IsConstant, "v")
-        ),
-        (
-            operation_of(alloc, Value::Null, reserved(), none)?,
-            flaw(IsNotReserved, "true")
-        ),
-        (
-            operation_of(alloc, Value::Null, variable_v(), flawed)?,
-            flaw(HasSelection, "U")
-        ),
-    ]?)
-}
-
-/// `fragment NAME on on @d(a: 1, a: [VALUE]) SET`
-fn fragment_of(
-    alloc: Global,
-    name: Name,
-    value: Value,
-    selection_set: Vec<Selection>,
-) -> Result<FragmentDefinition, AllocError> {
-    Ok(FragmentDefinition {
-        directives: directives(alloc, value)?,
-        selection_set,
-        ..FragmentDefinition::new(alloc, name, name!(on))
-    })
-}
-
-fn fragments(alloc: Global) -> Result<Vec<(FragmentDefinition, Option<Flaw>)>, AllocError> {
-    let none = Vec::new(alloc);
-    let twice = vec![in alloc; a(alloc)?, a(alloc)?]?;
-    let flawed = vec![in alloc; a(alloc)?, spread_of_on(alloc)?, empty_inline(alloc)?]?;
-    Ok(vec![in alloc;
-        (fragment(alloc)?, None),
-        (
-            fragment_of(alloc, name!(F), variable_v(), twice.clone()?)?,
-            None
-        ),
-        (
-            fragment_of(alloc, name!(on), variable_v(), twice)?,
-            flaw(IsNotOn, "on")
-        ),
-        (
-            fragment_of(alloc, name!(on), reserved(), none.clone()?)?,
-            flaw(IsNotOn, "on")
-        ),
-        (
-            fragment_of(alloc, name!(F), reserved(), none.clone()?)?,
-            flaw(IsNotReserved, "true")
-        ),
-        (
-            fragment_of(alloc, name!(F), variable_v(), none)?,
-            flaw(HasSelection, "F")
-        ),
-        (
-            fragment_of(alloc, name!(F), variable_v(), flawed)?,
-            flaw(IsNotOn, "on")
-        ),
-    ]?)
-}
-
-/// Of two flaws the first in the order of print is found.
-#[test]
-fn of_each_kind(rt: HostRuntime) {
-    let alloc = rt.alloc();
-    check_flaws(&rt, &spreads(alloc).expect(&rt, "memory"));
-    check_flaws(&rt, &inlines(alloc).expect(&rt, "memory"));
-    check_flaws(&rt, &fields(alloc).expect(&rt, "memory"));
-    check_flaws(&rt, &selections(alloc).expect(&rt, "memory"));
-    check_flaws(&rt, &variables(alloc).expect(&rt, "memory"));
-    check_flaws(&rt, &operations(alloc).expect(&rt, "memory"));
-    check_flaws(&rt, &fragments(alloc).expect(&rt, "memory"));
 }
 
 // LOCATIONS
@@ -430,16 +177,9 @@ fn on_at(location: Option<SourceSpan>) -> Option<Flaw> {
 
 fn placed_spreads(alloc: Global) -> Result<Vec<(OperationDefinition, Option<Flaw>)>, AllocError> {
     let (outer, inner, name) = (at(10, 30), at(15, 25), at(20, 22));
-    let deep = vec![in alloc; spread_at(alloc, name!(on), None)?]?;
-    let inline = inline_at(alloc, Some(placed_on()), deep.clone()?, inner)?;
-    let bare_inline = inline_at(alloc, Some(placed_on()), deep, None)?;
     Ok(vec![in alloc;
         (
             within(alloc, spread_at(alloc, placed_on(), inner)?, outer)?,
-            on_at(name)
-        ),
-        (
-            within(alloc, spread_at(alloc, placed_on(), None)?, None)?,
             on_at(name)
         ),
         (
@@ -454,8 +194,18 @@ fn placed_spreads(alloc: Global) -> Result<Vec<(OperationDefinition, Option<Flaw
             within(alloc, spread_at(alloc, name!(on), None)?, None)?,
             on_at(None)
         ),
-        (within(alloc, inline, outer)?, on_at(inner)),
-        (within(alloc, bare_inline, outer)?, on_at(outer)),
+    ]?)
+}
+
+/// A spread in an inline fragment that stands at a location or doesn't.
+fn deep_spreads(alloc: Global) -> Result<Vec<(OperationDefinition, Option<Flaw>)>, AllocError> {
+    let (outer, inner) = (at(10, 30), at(15, 25));
+    let deep = vec![in alloc; spread_at(alloc, name!(on), None)?]?;
+    let placed = inline_at(alloc, Some(placed_on()), deep.clone()?, inner)?;
+    let bare = inline_at(alloc, Some(placed_on()), deep, None)?;
+    Ok(vec![in alloc;
+        (within(alloc, placed, outer)?, on_at(inner)),
+        (within(alloc, bare, outer)?, on_at(outer)),
     ]?)
 }
 
@@ -464,21 +214,23 @@ fn empty_at(name: Option<&'static str>, location: Option<SourceSpan>) -> Option<
     Some((HasSelection, name, location))
 }
 
-fn placed_sets(alloc: Global) -> Result<Vec<(OperationDefinition, Option<Flaw>)>, AllocError> {
+fn named_sets(alloc: Global) -> Result<Vec<(OperationDefinition, Option<Flaw>)>, AllocError> {
     let (outer, inner, name) = (at(10, 30), at(15, 25), at(20, 22));
-    let (on, none) = (Some("on"), Vec::new(alloc));
-    let placed = inline_at(alloc, Some(placed_on()), none.clone()?, inner)?;
-    let bare = inline_at(alloc, Some(name!(on)), none.clone()?, inner)?;
-    let nameless = inline_at(alloc, None, none.clone()?, inner)?;
-    let nowhere = inline_at(alloc, None, none, None)?;
-    let mut named = OperationDefinition::new(alloc, OperationType::Query);
-    named.name = Some(placed_on());
+    let placed = inline_at(alloc, Some(placed_on()), Vec::new(alloc), inner)?;
+    let bare = inline_at(alloc, Some(name!(on)), Vec::new(alloc), inner)?;
     Ok(vec![in alloc;
-        (within(alloc, placed, outer)?, empty_at(on, name)),
-        (within(alloc, bare, outer)?, empty_at(on, inner)),
-        (within(alloc, nameless, outer)?, empty_at(None, inner)),
-        (within(alloc, nowhere, outer)?, empty_at(None, outer)),
-        (named, empty_at(on, name)),
+        (within(alloc, placed, outer)?, empty_at(Some("on"), name)),
+        (within(alloc, bare, outer)?, empty_at(Some("on"), inner)),
+    ]?)
+}
+
+fn nameless_sets(alloc: Global) -> Result<Vec<(OperationDefinition, Option<Flaw>)>, AllocError> {
+    let (outer, inner) = (at(10, 30), at(15, 25));
+    let placed = inline_at(alloc, None, Vec::new(alloc), inner)?;
+    let bare = inline_at(alloc, None, Vec::new(alloc), None)?;
+    Ok(vec![in alloc;
+        (within(alloc, placed, outer)?, empty_at(None, inner)),
+        (within(alloc, bare, outer)?, empty_at(None, outer)),
     ]?)
 }
 
@@ -515,22 +267,24 @@ fn placed_heads(alloc: Global) -> Result<Vec<(OperationDefinition, Option<Flaw>)
             placed_head(alloc, None, inner)?,
             Some((IsNotReserved, Some("true"), inner))
         ),
-        (
-            within(alloc, field_at(alloc, inner)?, outer)?,
-            Some((IsNotReserved, Some("true"), inner))
-        ),
-        (
-            within(alloc, field_at(alloc, None)?, outer)?,
-            Some((IsNotReserved, Some("true"), outer))
-        ),
-        (
-            within(alloc, directed_inline_at(alloc, inner)?, outer)?,
-            Some((IsNotReserved, Some("true"), inner))
-        ),
-        (
-            within(alloc, directed_inline_at(alloc, None)?, outer)?,
-            Some((IsNotReserved, Some("true"), outer))
-        ),
+    ]?)
+}
+
+/// A reserved value in a field, and in the directives of an inline fragment, with a location and without one.
+fn placed_parts(alloc: Global) -> Result<Vec<(OperationDefinition, Option<Flaw>)>, AllocError> {
+    let (outer, inner) = (at(10, 30), at(15, 25));
+    let told_inner = Some((IsNotReserved, Some("true"), inner));
+    let told_outer = Some((IsNotReserved, Some("true"), outer));
+    let fields = (field_at(alloc, inner)?, field_at(alloc, None)?);
+    let inlines = (
+        directed_inline_at(alloc, inner)?,
+        directed_inline_at(alloc, None)?,
+    );
+    Ok(vec![in alloc;
+        (within(alloc, fields.0, outer)?, told_inner),
+        (within(alloc, fields.1, outer)?, told_outer),
+        (within(alloc, inlines.0, outer)?, told_inner),
+        (within(alloc, inlines.1, outer)?, told_outer),
     ]?)
 }
 
@@ -539,6 +293,9 @@ fn placed_heads(alloc: Global) -> Result<Vec<(OperationDefinition, Option<Flaw>)
 fn locations(rt: HostRuntime) {
     let alloc = rt.alloc();
     check_flaws(&rt, &placed_spreads(alloc).expect(&rt, "memory"));
-    check_flaws(&rt, &placed_sets(alloc).expect(&rt, "memory"));
+    check_flaws(&rt, &deep_spreads(alloc).expect(&rt, "memory"));
+    check_flaws(&rt, &named_sets(alloc).expect(&rt, "memory"));
+    check_flaws(&rt, &nameless_sets(alloc).expect(&rt, "memory"));
     check_flaws(&rt, &placed_heads(alloc).expect(&rt, "memory"));
+    check_flaws(&rt, &placed_parts(alloc).expect(&rt, "memory"));
 }

@@ -1,25 +1,18 @@
-//! Why values, directives and definitions aren't well formed, and where.
+//! Where values, directives and definitions aren't well formed.
 use crate::checks::{Flaw, check_flaws};
-use crate::samples::{nested, with_argument};
 use graphql_base::name;
 use graphql_base::name::Name;
 use graphql_base::node::Node;
 use graphql_base::span::{FileId, SourceSpan};
-use graphql_text::ill_formed::SideCondition::{self, HasLocation, IsConstant, IsNotReserved};
+use graphql_text::ill_formed::SideCondition::{HasLocation, IsNotReserved};
 use graphql_values::argument::Argument;
 use graphql_values::directive::Directive;
 use graphql_values::directive_definition::DirectiveDefinition;
 use graphql_values::directive_list::DirectiveList;
-use graphql_values::directive_location::DirectiveLocation;
 use graphql_values::input_value_definition::InputValueDefinition;
+use graphql_values::ty;
 use graphql_values::value::Value;
-use graphql_values::{ty, value};
 use std::alloc::{AllocError, Global};
-
-/// The flaw of a name without a location, in nodes without one.
-fn flaw(condition: SideCondition, name: &'static str) -> Option<Flaw> {
-    Some((condition, Some(name), None))
-}
 
 fn at(start: u32, end: u32) -> Option<SourceSpan> {
     SourceSpan::new(FileId::new(7), start, end)
@@ -39,175 +32,6 @@ fn node<T: Drop>(
 /// The enum value `true`, which is no boolean.
 fn reserved() -> Value {
     Value::Enum(name!("true"))
-}
-
-fn variable() -> Value {
-    Value::Variable(name!(v))
-}
-
-/// `[[], [A, {a: A, b: ITEM, b: null}]]`, where `null` is an enum value.
-fn deep(alloc: Global, item: Value) -> Result<Value, AllocError> {
-    let fields = vec![in alloc;
-        (name!(a), Value::Enum(name!(A))),
-        (name!(b), item),
-        (name!(b), Value::Enum(name!("null"))),
-    ]?;
-    let object = Value::object(alloc, fields)?;
-    let list = Value::list(alloc, vec![in alloc; Value::Enum(name!(A)), object]?)?;
-    Value::list(alloc, vec![in alloc; value!(in alloc; [])?, list]?)
-}
-
-fn values(alloc: Global) -> Result<Vec<(Value, Option<Flaw>)>, AllocError> {
-    Ok(vec![in alloc;
-        (Value::Enum(name!("true")), flaw(IsNotReserved, "true")),
-        (Value::Enum(name!("false")), flaw(IsNotReserved, "false")),
-        (Value::Enum(name!("null")), flaw(IsNotReserved, "null")),
-        (Value::Enum(name!("True")), None),
-        (Value::Enum(name!(on)), None),
-        (variable(), None),
-        (value!(in alloc; [null, $true, {a: $v, a: $v}])?, None),
-        (deep(alloc, reserved())?, flaw(IsNotReserved, "true")),
-        (deep(alloc, variable())?, flaw(IsNotReserved, "null")),
-    ]?)
-}
-
-/// `@d(a: FIRST, a: SECOND)`
-fn directive(alloc: Global, first: Value, second: Value) -> Result<Directive, AllocError> {
-    let bare = Directive::new(alloc, name!(d));
-    let with_first = with_argument(alloc, bare, name!(a), Node::new(alloc, first)?)?;
-    with_argument(alloc, with_first, name!(a), Node::new(alloc, second)?)
-}
-
-fn directives(alloc: Global) -> Result<Vec<(Directive, Option<Flaw>)>, AllocError> {
-    Ok(vec![in alloc;
-        (Directive::new(alloc, name!("true")), None),
-        (directive(alloc, variable(), nested(alloc)?)?, None),
-        (
-            directive(alloc, variable(), reserved())?,
-            flaw(IsNotReserved, "true")
-        ),
-        (
-            directive(alloc, deep(alloc, variable())?, reserved())?,
-            flaw(IsNotReserved, "null")
-        ),
-    ]?)
-}
-
-/// ` @d(a: FIRST, a: FIRST) @d(a: SECOND, a: null)`, where `null` is an enum value.
-fn list(alloc: Global, first: Value, second: Value) -> Result<DirectiveList, AllocError> {
-    let copy = first.clone()?;
-    let nodes = vec![in alloc;
-        Node::new(alloc, directive(alloc, first, copy)?)?,
-        Node::new(alloc, directive(alloc, second, Value::Enum(name!("null")))?)?,
-    ]?;
-    Ok(DirectiveList(nodes))
-}
-
-fn lists(alloc: Global) -> Result<Vec<(DirectiveList, Option<Flaw>)>, AllocError> {
-    Ok(vec![in alloc;
-        (DirectiveList::new(alloc), None),
-        (
-            list(alloc, variable(), reserved())?,
-            flaw(IsNotReserved, "true")
-        ),
-        (
-            list(alloc, reserved(), variable())?,
-            flaw(IsNotReserved, "true")
-        ),
-        (
-            list(alloc, variable(), variable())?,
-            flaw(IsNotReserved, "null")
-        ),
-    ]?)
-}
-
-/// `true: Int = VALUE`
-fn input(alloc: Global, value: Option<Value>) -> Result<InputValueDefinition, AllocError> {
-    let mut input = InputValueDefinition::new(alloc, name!("true"), Node::new(alloc, ty!(Int))?);
-    if let Some(value) = value {
-        input.default_value = Some(Node::new(alloc, value)?);
-    }
-    Ok(input)
-}
-
-/// `true: Int = VALUE @d(a: w, a: w)`, where `w` is a variable.
-fn directed_input(alloc: Global, value: Value) -> Result<InputValueDefinition, AllocError> {
-    let (first, second) = (Value::Variable(name!(w)), Value::Variable(name!(w)));
-    let directive = Node::new(alloc, directive(alloc, first, second)?)?;
-    let mut input = input(alloc, Some(value))?;
-    input.directives = DirectiveList(vec![in alloc; directive]?);
-    Ok(input)
-}
-
-fn inputs(alloc: Global) -> Result<Vec<(InputValueDefinition, Option<Flaw>)>, AllocError> {
-    Ok(vec![in alloc;
-        (input(alloc, None)?, None),
-        (input(alloc, Some(nested(alloc)?))?, None),
-        (input(alloc, Some(reserved()))?, flaw(IsNotReserved, "true")),
-        (input(alloc, Some(variable()))?, flaw(IsConstant, "v")),
-        (
-            input(alloc, Some(deep(alloc, variable())?))?,
-            flaw(IsConstant, "v")
-        ),
-    ]?)
-}
-
-fn directed_inputs(alloc: Global) -> Result<Vec<(InputValueDefinition, Option<Flaw>)>, AllocError> {
-    Ok(vec![in alloc;
-        (directed_input(alloc, Value::Null)?, flaw(IsConstant, "w")),
-        (directed_input(alloc, variable())?, flaw(IsConstant, "v")),
-        (
-            directed_input(alloc, reserved())?,
-            flaw(IsNotReserved, "true")
-        ),
-    ]?)
-}
-
-/// `directive @on(true: Int = VALUE, true: Int = VALUE)`, perhaps with a location.
-fn definition(
-    alloc: Global,
-    value: Value,
-    locations: Vec<DirectiveLocation>,
-) -> Result<DirectiveDefinition, AllocError> {
-    let input = Node::new(alloc, input(alloc, Some(value))?)?;
-    Ok(DirectiveDefinition {
-        arguments: vec![in alloc; input.clone()?, input]?,
-        locations,
-        ..DirectiveDefinition::new(alloc, name!(on))
-    })
-}
-
-fn definitions(alloc: Global) -> Result<Vec<(DirectiveDefinition, Option<Flaw>)>, AllocError> {
-    let field = vec![in alloc; DirectiveLocation::Field]?;
-    let none = Vec::new(alloc);
-    Ok(vec![in alloc;
-        (
-            DirectiveDefinition::new(alloc, name!(d)),
-            flaw(HasLocation, "d")
-        ),
-        (definition(alloc, Value::Null, field.clone()?)?, None),
-        (
-            definition(alloc, Value::Null, none)?,
-            flaw(HasLocation, "on")
-        ),
-        (definition(alloc, variable(), field)?, flaw(IsConstant, "v")),
-        (
-            definition(alloc, variable(), Vec::new(alloc))?,
-            flaw(IsConstant, "v")
-        ),
-    ]?)
-}
-
-/// Of two flaws the first in the order of print is found.
-#[test]
-fn of_each_kind(rt: HostRuntime) {
-    let alloc = rt.alloc();
-    check_flaws(&rt, &values(alloc).expect(&rt, "memory"));
-    check_flaws(&rt, &directives(alloc).expect(&rt, "memory"));
-    check_flaws(&rt, &lists(alloc).expect(&rt, "memory"));
-    check_flaws(&rt, &inputs(alloc).expect(&rt, "memory"));
-    check_flaws(&rt, &directed_inputs(alloc).expect(&rt, "memory"));
-    check_flaws(&rt, &definitions(alloc).expect(&rt, "memory"));
 }
 
 /// The name `true`, with a location.
@@ -311,7 +135,7 @@ fn placed_input(
     first: Option<Option<SourceSpan>>,
     second: Option<SourceSpan>,
 ) -> Result<InputValueDefinition, AllocError> {
-    let mut input = input(alloc, None)?;
+    let mut input = InputValueDefinition::new(alloc, name!("true"), Node::new(alloc, ty!(Int))?);
     if let Some(location) = first {
         input.default_value = Some(node(alloc, reserved(), location)?);
     }

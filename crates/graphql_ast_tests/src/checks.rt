@@ -1,12 +1,9 @@
 //! What the examples compare, and the sinks that they print into.
 ghost use Rattle.std.specs.Prelude.{◌≡◌, None, Some};
 
-use graphql_ast::ill_formed::SideCondition;
 use graphql_ast::serialize::{PrintError, Serialize, Syntax};
 use graphql_ast::sink::{SinkFault, TextSink, VecSink};
-use graphql_ast::span::SourceSpan;
 use std::alloc::Global;
-use std::fmt::Display;
 use std::process::Abort;
 
 /// The print as a text, and into a sink: memory is ample.
@@ -33,22 +30,6 @@ pub(crate) fn check_line<T: Syntax>(
 ) {
     assert_eq!(rt; tree.is_well_formed(), is_well_formed);
     check_print(rt, alloc, Serialize::new(tree).no_indent(), wanted);
-}
-
-/// A flaw of a tree: the side condition, the text of the name, and the location.
-pub(crate) type Flaw = (SideCondition, Option<&'static str>, Option<SourceSpan>);
-
-/// The first flaw of each tree, and that it is well formed without one.
-pub(crate) fn check_flaws<T: Syntax + Display>(rt: &impl Abort, cases: &[(T, Option<Flaw>)]) {
-    for (tree, wanted) in cases {
-        let found = tree.find_ill_formed();
-        assert_eq!(rt; tree.is_well_formed(), found.is_none(), "{tree}");
-        let flaw = found.map(|found| {
-            let name = found.name.map(|name| name.as_str());
-            (found.condition, name, found.location())
-        });
-        assert_eq!(rt; flaw, *wanted, "{tree}");
-    }
 }
 
 /// The text on one line, where memory may be refused.

@@ -67,7 +67,8 @@ TreePrintAnswer kind mode level old new needed tree OutOfMemory = HasMessage old
 TreePrintAnswer kind mode level old new needed tree _ = ⊥
 
 -- What a call answers that prints the tree that some JSON is of.
-abbrev pub PrintAnswer : (kind : Kind) → (kind.Tree → Data → Type 0) → List ℕ → Option (List ℕ) → ℕ → List ℕ → List ℕ → ℕ → Status → Type 0
+abbrev pub PrintAnswer : (kind : Kind) → (kind.Tree → Data → Type 0) → List ℕ → Option (List ℕ) → ℕ →
+    List ℕ → List ℕ → ℕ → Status → Type 0
 PrintAnswer kind Is json mode level old new needed Done = (tree : kind.Tree) × IsJsonOf Is json tree × HoldsPrint kind mode level old new needed tree
 PrintAnswer kind Is json mode level old new needed TooShort = (tree : kind.Tree) × IsJsonOf Is json tree × IsTooLong kind mode level old needed tree
 PrintAnswer kind Is json mode level old new needed NotJson = IsNoJson json × HasMessage old new needed
@@ -96,11 +97,14 @@ pub record IsTextOf {Tree : Type 0} (Is : Unknown → Tree → Data → Type 0) 
   pub text : depth written ≤ max_depth → read bytes ≡ Some written
 
 -- What a call answers that writes the JSON of a tree anew.
-abbrev pub WriteAnswer : {Tree : Type 0} → (Unknown → Tree → Data → Type 0) → Unknown → List ℕ → List ℕ → List ℕ → ℕ → Status → Type 0
+abbrev pub WriteAnswer : {Tree : Type 0} → (Unknown → Tree → Data → Type 0) → Unknown → List ℕ →
+    List ℕ → List ℕ → ℕ → Status → Type 0
 WriteAnswer {Tree = Tree} Is unknown json old new needed Done =
-    (tree : Tree) × IsJsonOf (Is unknown) json tree × ((bytes : List ℕ) × IsTextOf Is tree bytes × Holds old new needed bytes)
+    (tree : Tree) × IsJsonOf (Is unknown) json tree
+    × ((bytes : List ℕ) × IsTextOf Is tree bytes × Holds old new needed bytes)
 WriteAnswer {Tree = Tree} Is unknown json old new needed TooShort =
-    (tree : Tree) × IsJsonOf (Is unknown) json tree × ((bytes : List ℕ) × IsTextOf Is tree bytes × (needed ≡ length bytes) × (length old < length bytes))
+    (tree : Tree) × IsJsonOf (Is unknown) json tree
+    × ((bytes : List ℕ) × IsTextOf Is tree bytes × (needed ≡ length bytes) × (length old < length bytes))
 WriteAnswer Is unknown json old new needed NotJson = IsNoJson json × HasMessage old new needed
 WriteAnswer Is unknown json old new needed NoTree = IsJsonOfNone (Is unknown) json × HasMessage old new needed
 WriteAnswer Is unknown json old new needed OutOfMemory = HasMessage old new needed

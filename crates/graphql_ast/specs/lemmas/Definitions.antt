@@ -214,7 +214,8 @@ module _ {word : List ℕ} (body : Kind) {F S : List TokenClass} {opens : Bool} 
   -- an extension of what a word begins
   unfoldable pub extension_definition : (adds : body.Tree → Bool) (extended : body.Tree → Option NameText) (name : DefinitionName) →
       is_definition F (a_keyword (codes "extend") ∷ []) S ≡ true →
-      ((more : List Token) → definition_at (Name (codes "extend") ∷ Name word ∷ more) ≡ Some name) → DefinitionPart (extension body adds extended) name
+      ((more : List Token) → definition_at (Name (codes "extend") ∷ Name word ∷ more) ≡ Some name) →
+      DefinitionPart (extension body adds extended) name
   extension_definition adds extended name is begun =
       alike (extension body adds extended) (extension_part body adds extended p) name is refl (λ broken front tree. refl)
       (λ tree tokens rest d. let found = extension_chosen adds extended tree tokens rest d in found.1 ∙ begun found.0)
@@ -272,7 +273,8 @@ definition_parts ScalarTypeExtension =
 definition_parts ObjectTypeExtension =
     extension_definition object_type_body object_type_body_part implementing_type_adds (λ type. Some type.name) ObjectTypeExtension refl (λ more. refl)
 definition_parts InterfaceTypeExtension =
-    extension_definition interface_type_body interface_type_body_part implementing_type_adds (λ type. Some type.name) InterfaceTypeExtension refl (λ more. refl)
+    extension_definition interface_type_body interface_type_body_part implementing_type_adds (λ type. Some type.name)
+    InterfaceTypeExtension refl (λ more. refl)
 definition_parts UnionTypeExtension =
     extension_definition union_type_body union_type_body_part
     union_type_adds (λ union. Some union.name) UnionTypeExtension refl (λ more. refl)

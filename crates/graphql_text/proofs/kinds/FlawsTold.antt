@@ -1,5 +1,6 @@
 -- Of Flaws: what is found of two parts, and that flaws tell what the side conditions do.
-use Rattle.std.proofs.Common.{ℕ, ◌+◌, ◌<◌, ◌≡◌, List, [], ◌∷◌, ◌++◌, length, drop, get_or, Bool, true, false, ◌&&◌, Option, Some, None, refl, sym, ap, ◌∙◌}
+use Rattle.std.proofs.Common.{ℕ, ◌+◌, ◌<◌, ◌≡◌, List, [], ◌∷◌, ◌++◌, length, drop, get_or}
+use Rattle.std.proofs.Common.{Bool, true, false, ◌&&◌, Option, Some, None, refl, sym, ap, ◌∙◌}
 use Rattle.std.proofs.Common.{is_none, is_some}
 use Rattle.std.specs.List.{list_all, flat_map}
 use Rattle.graphql_text.specs.kinds.Flaws.{Flaw, flaw_unless, first_flaw, has_no_flaw, TellsFlaws}
@@ -35,7 +36,8 @@ found_in_second (Some found) other xs ys first none second = cc
 pub ruleset flaw_steps = (found_in_first, found_in_second)
 
 -- of parts in a row, in a loop over them
-module _ {A : Type 0} (one : A → List Flaw) (all : List A → List Flaw) (splits : (part : A) (more : List A) → all (part ∷ more) ≡ one part ++ all more)
+module _ {A : Type 0} (one : A → List Flaw) (all : List A → List Flaw)
+    (splits : (part : A) (more : List A) → all (part ∷ more) ≡ one part ++ all more)
     (parts : List A) (i : ℕ) (part : A) (within : i < length parts) (is : part ≡ get_or parts i part)
     (so_far : first_flaw (all (drop i parts)) ≡ first_flaw (all parts)) where
   at_part : first_flaw (one part ++ all (drop (i + 1) parts)) ≡ first_flaw (all parts)

@@ -21,7 +21,8 @@ use Rattle.graphql_text.proofs.parts.ToldShapes.{Told, told_nothing, told_string
 
 -- a kind is a part that stands alone
 pub part_laws : {kind : Kind} {F L : List TokenClass} {b : Bool} {S : List TokenClass} {opens : Bool} → KindPart kind F L b S opens →
-    ((broken front : Bool) (tree : kind.Tree) → kind.shape broken false tree ≡ kind.shape broken front tree) → TellsFlaws kind.obeys kind.flaws → Laws kind
+    ((broken front : Bool) (tree : kind.Tree) → kind.shape broken false tree ≡ kind.shape broken front tree) →
+    TellsFlaws kind.obeys kind.flaws → Laws kind
 part_laws {kind} p same tells = laws_of {tokens = λ front. p.tokens} told (p.read) (λ front tree holds. p.written tree holds [] refl) (p.obeyed) tells
   where
     told : (broken front : Bool) (tree : kind.Tree) → Told 0 (kind.shape broken front tree) (p.tokens tree) false (kind.nesting tree)

@@ -23,5 +23,6 @@ returns-clause-err g c =
     } in
     let breaks : g.T.SyntaxTree.kind.obeys (g.T.SyntaxTree.tree found.0) ≡ false =
     g.T.SyntaxTree.laws.tells (g.T.SyntaxTree.tree found.0) ∙ has_first (g.T.SyntaxTree.kind.flaws (g.T.SyntaxTree.tree found.0)) _ found.2 in
-    told (Is unknown) g.T.AstJson.tree (λ value. g.T.SyntaxTree.kind.obeys (g.T.SyntaxTree.tree value)) c.args.json.now c.ill_formed.result c.ill_formed.ensures
+    told (Is unknown) g.T.AstJson.tree (λ value. g.T.SyntaxTree.kind.obeys (g.T.SyntaxTree.tree value))
+    c.args.json.now c.ill_formed.result c.ill_formed.ensures
     found.0 of_json breaks

@@ -1,0 +1,214 @@
+//! The jobs, each over inputs of its own.
+
+use crate::digest::Digest;
+use crate::operation_json::OperationJson;
+use crate::schema_json::SchemaJson;
+use crate::texts::Texts;
+use crate::trees::Builder;
+use anyhow::{Result, bail};
+use graphql_ast::ast::{
+    Definition, Document, Field, ObjectTypeDefinition, OperationDefinition, Selection, SourceFile,
+};
+use graphql_ast::span::{FileId, SourceSpan};
+use graphql_ast::{Node, name};
+use graphql_ast_calls::{Status, print_json};
+use graphql_ast_json::{AstJson, from_well_formed_ast_json_str};
+use std::alloc::Global;
+
+/// What is done, how often, over inputs of which size, and of which seed they are.
+#[derive(Clone, Copy)]
+pub struct Task {
+    pub count: usize,
+    pub size: usize,
+    pub seed: u64,
+}
+
+impl Task {
+    /// The seed of the input of this index.
+    fn seed_of(self, index: usize) -> u64 {
+        self.seed.wrapping_mul(1_000_003).wrapping_add(index as u64)
+    }
+}
+
+/// Schemas of so many definitions in the AST JSON of graphql-js are read, and printed.
+pub fn read_schemas(alloc: Global, task: Task, digest: &mut Digest) -> Result<()> {
+    let texts = Texts::escaped(alloc, task.seed)?;
+    for index in 0..task.count {
+        let json = SchemaJson::document(alloc, &texts, task.seed_of(index), task.size)?;
+        let schema: Document = from_well_formed_ast_json_str(alloc, &json, FileId::new(1))?;
+        digest.add(&schema.serialize().to_text(alloc)?);
+    }
+    Ok(())
+}
+
+/// Documents of so many operations and fragments in AST JSON, with members in the order of the alphabet and some that are
+/// not known, are printed by a call of the C interface.
+pub fn print_sorted_json(alloc: Global, task: Task, digest: &mut Digest) -> Result<()> {
+    let mut out = vec![in alloc; 0u8; task.size.saturating_mul(100_000).min(10_000_000)]?;
+    let texts = Texts::escaped(alloc, task.seed)?;
+    for index in 0..task.count {
+        let json = OperationJson::document(alloc, &texts, task.seed_of(index), task.size)?;
+        let mut needed = 0;
+        let status = print_json(
+            alloc,
+            json.as_bytes(),
+            true,
+            b"  ",
+            0,
+            true,
+            &mut out,
+            &mut needed,
+        );
+        match (status, out.get(..needed)) {
+            (Status::Done, Some(text)) => digest.add(str::from_utf8(text)?),
+            _ => bail!("a document was not printed"),
+        }
+    }
+    Ok(())
+}
+
+/// A schema of so many definitions is built, and its AST JSON is made, and the text of that.
+pub fn write_json(alloc: Global, task: Task, digest: &mut Digest) -> Result<()> {
+    let texts = Texts::plain(alloc, task.seed)?;
+    for index in 0..task.count {
+        let mut builder = Builder::new(alloc, &texts, task.seed_of(index));
+        let schema = builder.schema(task.size)?;
+        digest.add(&schema.to_ast_json(alloc)?.to_string(alloc)?);
+        for _ in 0..task.size {
+            let operation = builder.operation()?;
+            digest.add(&operation.to_ast_json(alloc)?.to_string(alloc)?);
+        }
+    }
+    Ok(())
+}
+
+/// A schema of so many definitions is built, printed and dropped.
+pub fn build_schemas(alloc: Global, task: Task, digest: &mut Digest) -> Result<()> {
+    let texts = Texts::plain(alloc, task.seed)?;
+    for index in 0..task.count {
+        let mut builder = Builder::new(alloc, &texts, task.seed_of(index));
+        let schema = builder.schema(task.size)?;
+        digest.add(&schema.serialize().to_text(alloc)?);
+    }
+    Ok(())
+}
+
+/// So many operations are built, and each is printed on one line into a text of its own.
+pub fn print_operations(alloc: Global, task: Task, digest: &mut Digest) -> Result<()> {
+    let texts = Texts::plain(alloc, task.seed)?;
+    for index in 0..task.count {
+        let mut builder = Builder::new(alloc, &texts, task.seed_of(index));
+        for _ in 0..task.size {
+            let operation = builder.operation()?;
+            digest.add(&operation.serialize().no_indent().to_text(alloc)?);
+        }
+    }
+    Ok(())
+}
+
+/// Asks for `__typename` in the field of this index of each selection set down to this one.
+fn select_type_name(alloc: Global, selections: &mut Vec<Selection>, index: usize) -> Result<()> {
+    for (place, selection) in selections.iter_mut().enumerate() {
+        if let Selection::Field(field) = selection {
+            if place % 4 == index % 4 && !field.selection_set.is_empty() {
+                let type_name = Selection::field(alloc, Field::new(alloc, name!("__typename")))?;
+                field.make_mut()?.selection_set.push(type_name)?;
+            }
+        }
+    }
+    Ok(())
+}
+
+/// Rewrites an operation at the field of this index.
+fn rewrite_operation(
+    alloc: Global,
+    operation: &mut Node<OperationDefinition>,
+    index: usize,
+) -> Result<()> {
+    for (place, selection) in operation.make_mut()?.selection_set.iter_mut().enumerate() {
+        if let Selection::Field(field) = selection {
+            if place % 2 == index % 2 {
+                select_type_name(alloc, &mut field.make_mut()?.selection_set, index / 2)?;
+            }
+        }
+    }
+    Ok(())
+}
+
+/// Leaves out the last field of an object type.
+fn rewrite_object_type(object: &mut Node<ObjectTypeDefinition>) -> Result<()> {
+    let _ = object.make_mut()?.fields.pop();
+    Ok(())
+}
+
+/// A copy of the document, changed in the definitions of which every so many has this index.
+fn rewritten(alloc: Global, document: &Document, index: usize) -> Result<Document> {
+    let mut copy = document.clone()?;
+    for (place, definition) in copy.definitions.iter_mut().enumerate() {
+        if place % 16 != index % 16 {
+            continue;
+        }
+        match definition {
+            Definition::OperationDefinition(operation) => {
+                rewrite_operation(alloc, operation, index)?
+            }
+            Definition::ObjectTypeDefinition(object) => rewrite_object_type(object)?,
+            _ => {}
+        }
+    }
+    Ok(copy)
+}
+
+/// A document of operations, with some definitions of types between them.
+fn mixed_document(alloc: Global, builder: &mut Builder<'_>, size: usize) -> Result<Document> {
+    let mut document = builder.schema(size / 8)?;
+    for _ in 0..size {
+        document.push(alloc, builder.operation()?)?;
+    }
+    Ok(document)
+}
+
+/// The line and the column of places all over a source text.
+fn add_positions(document: &Document, length: usize, digest: &mut Digest) {
+    for step in 0..32u64 {
+        let offset = (length as u64).wrapping_mul(step) / 32;
+        let offset = u32::try_from(offset).unwrap_or(0);
+        if let Some(span) = SourceSpan::new(FileId::new(1), offset, offset) {
+            if let Some(position) = document.line_column(span) {
+                digest.add_number(position.line as u64);
+                digest.add_number(position.column as u64);
+            }
+        }
+    }
+}
+
+/// Documents of so many operations and some types are rewritten: copied, changed in a few places, compared with what they
+/// were, tested for flaws, and printed. Where things stand in the text that was printed first is asked for too.
+pub fn rewrite(alloc: Global, task: Task, digest: &mut Digest) -> Result<()> {
+    let texts = Texts::plain(alloc, task.seed)?;
+    for index in 0..task.count {
+        let mut builder = Builder::new(alloc, &texts, task.seed_of(index));
+        let mut document = mixed_document(alloc, &mut builder, task.size)?;
+        let text = document.serialize().to_text(alloc)?;
+        let length = text.len();
+        let path = String::from_str(alloc, "a.graphql")?;
+        document
+            .sources
+            .insert(FileId::new(1), SourceFile { path, text })?;
+        let other = {
+            let mut builder = Builder::new(alloc, &texts, task.seed_of(index));
+            mixed_document(alloc, &mut builder, task.size)?
+        };
+        for round in 0..8 {
+            let copy = rewritten(alloc, &document, round)?;
+            let other_copy = rewritten(alloc, &other, round)?;
+            digest.add_number((copy == document) as u64);
+            digest.add_number((copy == other_copy) as u64);
+            digest.add_number(copy.is_well_formed() as u64);
+            digest.add_number(copy.find_placed_flaw().is_some() as u64);
+            digest.add(&copy.serialize().to_text(alloc)?);
+        }
+        add_positions(&document, length, digest);
+    }
+    Ok(())
+}

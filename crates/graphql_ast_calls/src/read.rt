@@ -1,16 +1,20 @@
 //! The tree that some JSON is of.
-ghost use Rattle.std.specs.Prelude.{◌≡◌, IfErr, IfOk, IsTrue, Some};
+ghost use Rattle.std.specs.Prelude.{◌≡◌, ℕ, List, IfErr, IfOk, IfSome, IsTrue, Some};
 ghost use Rattle.serde_json.specs.Read.{read};
 ghost use Rattle.serde_json.specs.View.{view};
-ghost use Rattle.graphql_ast_json.specs.code.NodeReading.{node_json};
+ghost use Rattle.graphql_ast_json.specs.code.JsonNodes.{node_data};
+ghost use Rattle.graphql_ast_json.specs.code.ParsedJson.{parsed_data};
 ghost use Rattle.graphql_ast_calls.specs.Answers.{IsJsonOf, reading};
 ghost use Rattle.graphql_ast_calls.specs.Refusals.{IsDataRefusal, IsIllFormedOrMemory, IsNoTreeOrMemory, IsNotJsonOrMemory, IsRefusal, IsTreeRefusal, TellsRefusal};
 
 use crate::message::{put_message, put_out_of_memory};
 use crate::status::Status;
 use graphql_ast::span::FileId;
-use graphql_ast_json::{AstJson, NodeReader, Unknown, WellFormedError, read_well_formed_ast_json};
+use graphql_ast_json::{
+    AstJson, JsonNode, Unknown, WellFormedError, parse_json, read_well_formed_json,
+};
 use graphql_text::engine::SyntaxTree;
+use json::{Scratch, Value as Parsed};
 use serde_json::Value as Json;
 use std::alloc::{AllocError, Global};
 
@@ -65,20 +69,53 @@ fn read_data(alloc: Global, json: &[u8]) -> Result<Json, Refusal>
     }
 }
 
-/// The reading of some JSON.
-fn node_of(alloc: Global, json: &Json, pass_over: bool) -> NodeReader<'_>
-    ensures json { node_json result ≡ view json.now }
-    ensures unknown { result.unknown ≡ reading pass_over }
+/// The JSON that some bytes are, if they are a text that is parsed.
+fn parse<'t>(
+    alloc: Global,
+    json: &'t [u8],
+    scratch: &'t mut Scratch,
+) -> Result<Option<Parsed<'t>>, Refusal>
+    ensures ok { IfOk result (λ found.
+        IfSome found (λ value. read json.now ≡ Some (parsed_data value))) }
+    ensures err { IfErr result (IsDataRefusal json.now) }
 {
-    NodeReader {
-        alloc,
-        json,
-        source: FileId::new(1),
-        unknown: if pass_over {
-            Unknown::PassOver
-        } else {
-            Unknown::Refuse
+    match str::from_utf8(json) {
+        Ok(text) => match parse_json(alloc, text, scratch) {
+            Ok(found) => Ok(found),
+            Err(_) => Err(Refusal::Memory),
         },
+        Err(_) => Ok(None),
+    }
+}
+
+/// What becomes of what is unknown.
+fn unknown(pass_over: bool) -> Unknown
+    ensures { result ≡ reading pass_over }
+{
+    if pass_over {
+        Unknown::PassOver
+    } else {
+        Unknown::Refuse
+    }
+}
+
+/// The file that locations are in, of which nothing is told.
+fn source() -> FileId {
+    FileId::new(1)
+}
+
+/// The tree that a node is of, or why there is none.
+fn tree_of<T: AstJson>(alloc: Global, node: JsonNode<'_, '_>) -> Result<T, Refusal>
+    ensures ok { IfOk result (λ tree. (json : List ℕ) → read json ≡ Some (node_data node.entry)
+        → IsJsonOf (T.is_json_of node.entry.unknown) json (T.tree tree)) }
+    ensures err { IfErr result (λ refusal. (json : List ℕ)
+        → read json ≡ Some (node_data node.entry)
+        → IsRefusal (T.is_json_of node.entry.unknown) json refusal) }
+{
+    match T::read_json(node) {
+        Ok(tree) => Ok(tree),
+        Err(error) if error.is_memory() => Err(Refusal::Memory),
+        Err(error) => Err(no_tree(format!(in alloc; "{error}"))),
     }
 }
 
@@ -92,11 +129,45 @@ pub(crate) fn read_tree<T: AstJson>(
         IsJsonOf (T.is_json_of (reading pass_over)) json.now (T.tree tree)) }
     ensures err { IfErr result (IsRefusal (T.is_json_of (reading pass_over)) json.now) }
 {
-    let json = read_data(alloc, json)?;
-    match T::read_ast_json(node_of(alloc, &json, pass_over)) {
+    let mut scratch = Scratch::new(alloc);
+    match parse(alloc, json, &mut scratch)? {
+        Some(value) => tree_of(
+            alloc,
+            JsonNode::parsed(alloc, &value, source(), unknown(pass_over)),
+        ),
+        None => {
+            let value = read_data(alloc, json)?;
+            tree_of(
+                alloc,
+                JsonNode::owned(alloc, &value, source(), unknown(pass_over)),
+            )
+        }
+    }
+}
+
+/// The tree that a node is of, if it is well formed, or why there is none.
+fn well_formed_tree_of<T: AstJson + SyntaxTree + Drop>(
+    alloc: Global,
+    node: JsonNode<'_, '_>,
+) -> Result<T, Refusal>
+    ensures ok { IfOk result (λ tree. (json : List ℕ) → read json ≡ Some (node_data node.entry)
+        → IsJsonOf (T.is_json_of node.entry.unknown) json (T.AstJson.tree tree)) }
+    ensures well_formed { IfOk result (λ tree. IsTrue (T.kind.obeys (T.SyntaxTree.tree tree))) }
+    ensures err { IfErr result (λ refusal. (json : List ℕ)
+        → read json ≡ Some (node_data node.entry)
+        → IsTreeRefusal (T.is_json_of node.entry.unknown) T.AstJson.tree
+        (λ tree. T.kind.obeys (T.SyntaxTree.tree tree)) json refusal) }
+{
+    match read_well_formed_json::<T>(node) {
         Ok(tree) => Ok(tree),
         Err(error) if error.is_memory() => Err(Refusal::Memory),
-        Err(error) => Err(no_tree(format!(in alloc; "{error}"))),
+        Err(error) => {
+            let message = format!(in alloc; "{error}");
+            match error {
+                WellFormedError::NotRead(_) => Err(no_tree(message)),
+                WellFormedError::IllFormed { .. } => Err(ill_formed(message)),
+            }
+        }
     }
 }
 
@@ -112,16 +183,18 @@ pub(crate) fn read_well_formed_tree<T: AstJson + SyntaxTree + Drop>(
     ensures err { IfErr result (IsTreeRefusal (T.is_json_of (reading pass_over)) T.AstJson.tree
         (λ tree. T.kind.obeys (T.SyntaxTree.tree tree)) json.now) }
 {
-    let json = read_data(alloc, json)?;
-    match read_well_formed_ast_json::<T>(node_of(alloc, &json, pass_over)) {
-        Ok(tree) => Ok(tree),
-        Err(error) if error.is_memory() => Err(Refusal::Memory),
-        Err(error) => {
-            let message = format!(in alloc; "{error}");
-            match error {
-                WellFormedError::NotRead(_) => Err(no_tree(message)),
-                WellFormedError::IllFormed { .. } => Err(ill_formed(message)),
-            }
+    let mut scratch = Scratch::new(alloc);
+    match parse(alloc, json, &mut scratch)? {
+        Some(value) => well_formed_tree_of(
+            alloc,
+            JsonNode::parsed(alloc, &value, source(), unknown(pass_over)),
+        ),
+        None => {
+            let value = read_data(alloc, json)?;
+            well_formed_tree_of(
+                alloc,
+                JsonNode::owned(alloc, &value, source(), unknown(pass_over)),
+            )
         }
     }
 }

@@ -7,7 +7,7 @@ ghost use Rattle.graphql_ast_json.specs.lemmas.DirectiveNodes.{argument_laws};
 use crate::ast_json::AstNode;
 use crate::error::AstJsonError;
 use crate::form::OnOneLine;
-use crate::read::NodeReader;
+use crate::read::{JsonNode, NodeReader};
 use crate::value::read::named_value;
 use crate::write::NodeWriter;
 use graphql_ast::ast::{Argument, Value};
@@ -25,6 +25,10 @@ impl AstNode for Argument {
     ghost laws = { argument_laws };
 
     fn read_node(node: NodeReader<'_>) -> Result<Argument, AstJsonError> {
+        Self::read_json_node(JsonNode::of(node))
+    }
+
+    fn read_json_node(node: JsonNode<'_, '_>) -> Result<Argument, AstJsonError> {
         let (name, value) = named_value(node, "Argument")?;
         Ok(Argument { name, value })
     }

@@ -7,6 +7,7 @@ ghost use Rattle.graphql_base.specs.Node.{node_location, node_value};
 ghost use Rattle.graphql_base.specs.declared.span.SourceSpan.{SourceSpan};
 ghost use Rattle.graphql_ast_json.specs.code.Drafts.{place_of};
 ghost use Rattle.graphql_ast_json.specs.code.Errors.{IsMemory};
+ghost use Rattle.graphql_ast_json.specs.code.JsonNodes.{IsFromNone, IsReadFrom, node_data};
 ghost use Rattle.graphql_ast_json.specs.code.NodeReading.{IsInFile, IsOfNone, IsReadAs, StandsAt, node_json};
 ghost use Rattle.graphql_ast_json.specs.declared.read.Unknown.{Unknown};
 ghost use Rattle.graphql_ast_json.specs.declared.read.Unknown.TheVariants.{Refuse};
@@ -14,12 +15,16 @@ ghost use Rattle.graphql_ast_json.specs.lemmas.Leaves.{json_laws};
 ghost use Rattle.graphql_ast_json.specs.nodes.Nodes.{IsLocated};
 ghost use Rattle.graphql_ast_json.specs.nodes.OneTree.{JsonLaws, NodeLaws};
 
+use crate::any_json::AnyJson;
 use crate::error::AstJsonError;
+use crate::owned::owned_json;
+use crate::parse::parse_json;
 use crate::read::text::read_json;
-use crate::read::{NodeReader, Unknown};
+use crate::read::{JsonNode, NodeReader, Unknown};
 use crate::write::NodeWriter;
 use graphql_base::node::Node;
 use graphql_base::span::{FileId, SourceSpan};
+use json::Scratch;
 use serde_json::Value as Json;
 use std::alloc::{AllocError, Global};
 
@@ -57,6 +62,23 @@ pub trait AstJson: Sized {
         ensures stands { IfOk result (λ value. stands value (node_json node.entry)) }
         ensures file { IfOk result (λ value. IsInFile node.entry.source (location value)) }
         ensures err { IfErr result (λ error. ¬ IsMemory error → IsOfNone is_json_of node.entry) };
+
+    /// The same of JSON in either form. It makes a value of `serde_json` of JSON in another form, unless the kind reads
+    /// that itself.
+    fn read_json(node: JsonNode<'_, '_>) -> Result<Self, AstJsonError>
+        ensures ok { IfOk result (λ value. IsReadFrom is_json_of node.entry (tree value)) }
+        ensures stands { IfOk result (λ value. stands value (node_data node.entry)) }
+        ensures file { IfOk result (λ value. IsInFile node.entry.source (location value)) }
+        ensures err { IfErr result (λ error. ¬ IsMemory error → IsFromNone is_json_of node.entry) }
+    {
+        match node.json {
+            AnyJson::Owned(json) => Self::read_ast_json(node.over(json)),
+            AnyJson::Parsed(value) => {
+                let json = owned_json(node.alloc, value)?;
+                Self::read_ast_json(node.over(&json))
+            }
+        }
+    }
 
     /// The tree as JSON. `AllocError` where memory is refused.
     fn to_ast_json(&self, alloc: Global) -> Result<Json, AllocError>
@@ -99,6 +121,23 @@ pub trait AstNode: Sized {
         ensures ok { IfOk result (λ value. IsReadAs is_node node.entry (tree value)) }
         ensures err { IfErr result (λ error. ¬ IsMemory error → IsOfNone is_node node.entry) };
 
+    /// The same of JSON in either form. It makes a value of `serde_json` of JSON in another form, unless the kind reads
+    /// that itself.
+    #[doc(hidden)]
+    fn read_json_node(node: JsonNode<'_, '_>) -> Result<Self, AstJsonError>
+        requires { IsLocated node.unknown (node_data node) }
+        ensures ok { IfOk result (λ value. IsReadFrom is_node node.entry (tree value)) }
+        ensures err { IfErr result (λ error. ¬ IsMemory error → IsFromNone is_node node.entry) }
+    {
+        match node.json {
+            AnyJson::Owned(json) => Self::read_node(node.over(json)),
+            AnyJson::Parsed(value) => {
+                let json = owned_json(node.alloc, value)?;
+                Self::read_node(node.over(&json))
+            }
+        }
+    }
+
     /// The tree as a node, at the location of the writer.
     #[doc(hidden)]
     fn write_node(&self, node: NodeWriter) -> Result<Json, AllocError>
@@ -137,8 +176,12 @@ impl<T: AstNode> AstJson for T {
     ghost laws = { json_laws T.laws };
 
     fn read_ast_json(node: NodeReader<'_>) -> Result<T, AstJsonError> {
+        Self::read_json(JsonNode::of(node))
+    }
+
+    fn read_json(node: JsonNode<'_, '_>) -> Result<T, AstJsonError> {
         node.location()?;
-        T::read_node(node)
+        T::read_json_node(node)
     }
 
     fn to_ast_json(&self, alloc: Global) -> Result<Json, AllocError> {
@@ -161,8 +204,13 @@ impl<T: AstNode + Drop> AstJson for Node<T> {
 
     /// The node, at its location if the JSON tells one.
     fn read_ast_json(node: NodeReader<'_>) -> Result<Node<T>, AstJsonError> {
+        Self::read_json(JsonNode::of(node))
+    }
+
+    /// The node, at its location if the JSON tells one.
+    fn read_json(node: JsonNode<'_, '_>) -> Result<Node<T>, AstJsonError> {
         let location = node.location()?;
-        let value = T::read_node(node)?;
+        let value = T::read_json_node(node)?;
         Ok(node_at(node.alloc, location, value)?)
     }
 
@@ -196,6 +244,22 @@ pub fn from_ast_json_str<T: AstJson>(
     text: &str,
     source: FileId,
 ) -> Result<T, AstJsonError>
+    ensures ok { IfOk result (λ value.
+        (json : Data) × (read text.now ≡ Some json) × T.is_json_of Refuse (T.tree value) json) }
+    ensures err { IfErr result (λ error. ¬ IsMemory error
+        → (json : Data) → read text.now ≡ Some json
+        → (tree : T.Tree) → ¬ T.is_json_of Refuse tree json) }
+{
+    let mut scratch = Scratch::new(alloc);
+    match parse_json(alloc, text, &mut scratch)? {
+        Some(value) => T::read_json(JsonNode::parsed(alloc, &value, source, Unknown::Refuse)),
+        None => read_otherwise(alloc, text, source),
+    }
+}
+
+/// The same of a text that is no JSON that is parsed: it is read again, for the error.
+#[cold]
+fn read_otherwise<T: AstJson>(alloc: Global, text: &str, source: FileId) -> Result<T, AstJsonError>
     ensures ok { IfOk result (λ value.
         (json : Data) × (read text.now ≡ Some json) × T.is_json_of Refuse (T.tree value) json) }
     ensures err { IfErr result (λ error. ¬ IsMemory error

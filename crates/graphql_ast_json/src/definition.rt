@@ -8,7 +8,7 @@ ghost use Rattle.graphql_ast_json.specs.lemmas.DocumentNodes.{any_definition_law
 
 use crate::ast_json::AstJson;
 use crate::error::AstJsonError;
-use crate::read::NodeReader;
+use crate::read::{JsonNode, NodeReader};
 use graphql_ast::ast::Definition;
 use graphql_base::node::Node;
 use serde_json::Value as Json;
@@ -28,31 +28,31 @@ impl AstJson for Definition {
     ghost laws = { any_definition_laws };
 
     fn read_ast_json(node: NodeReader<'_>) -> Result<Definition, AstJsonError> {
+        Self::read_json(JsonNode::of(node))
+    }
+
+    fn read_json(node: JsonNode<'_, '_>) -> Result<Definition, AstJsonError> {
         let kind = node.text("kind")?;
         match kind {
-            "OperationDefinition" => Ok(Self::OperationDefinition(Node::read_ast_json(node)?)),
-            "FragmentDefinition" => Ok(Self::FragmentDefinition(Node::read_ast_json(node)?)),
-            "DirectiveDefinition" => Ok(Self::DirectiveDefinition(Node::read_ast_json(node)?)),
-            "SchemaDefinition" => Ok(Self::SchemaDefinition(Node::read_ast_json(node)?)),
-            "ScalarTypeDefinition" => Ok(Self::ScalarTypeDefinition(Node::read_ast_json(node)?)),
-            "ObjectTypeDefinition" => Ok(Self::ObjectTypeDefinition(Node::read_ast_json(node)?)),
-            "InterfaceTypeDefinition" => Ok(Self::InterfaceTypeDefinition(Node::read_ast_json(
+            "OperationDefinition" => Ok(Self::OperationDefinition(Node::read_json(node)?)),
+            "FragmentDefinition" => Ok(Self::FragmentDefinition(Node::read_json(node)?)),
+            "DirectiveDefinition" => Ok(Self::DirectiveDefinition(Node::read_json(node)?)),
+            "SchemaDefinition" => Ok(Self::SchemaDefinition(Node::read_json(node)?)),
+            "ScalarTypeDefinition" => Ok(Self::ScalarTypeDefinition(Node::read_json(node)?)),
+            "ObjectTypeDefinition" => Ok(Self::ObjectTypeDefinition(Node::read_json(node)?)),
+            "InterfaceTypeDefinition" => Ok(Self::InterfaceTypeDefinition(Node::read_json(node)?)),
+            "UnionTypeDefinition" => Ok(Self::UnionTypeDefinition(Node::read_json(node)?)),
+            "EnumTypeDefinition" => Ok(Self::EnumTypeDefinition(Node::read_json(node)?)),
+            "InputObjectTypeDefinition" => Ok(Self::InputObjectTypeDefinition(Node::read_json(
                 node,
             )?)),
-            "UnionTypeDefinition" => Ok(Self::UnionTypeDefinition(Node::read_ast_json(node)?)),
-            "EnumTypeDefinition" => Ok(Self::EnumTypeDefinition(Node::read_ast_json(node)?)),
-            "InputObjectTypeDefinition" => Ok(Self::InputObjectTypeDefinition(Node::read_ast_json(
-                node,
-            )?)),
-            "SchemaExtension" => Ok(Self::SchemaExtension(Node::read_ast_json(node)?)),
-            "ScalarTypeExtension" => Ok(Self::ScalarTypeExtension(Node::read_ast_json(node)?)),
-            "ObjectTypeExtension" => Ok(Self::ObjectTypeExtension(Node::read_ast_json(node)?)),
-            "InterfaceTypeExtension" => Ok(Self::InterfaceTypeExtension(Node::read_ast_json(
-                node,
-            )?)),
-            "UnionTypeExtension" => Ok(Self::UnionTypeExtension(Node::read_ast_json(node)?)),
-            "EnumTypeExtension" => Ok(Self::EnumTypeExtension(Node::read_ast_json(node)?)),
-            "InputObjectTypeExtension" => Ok(Self::InputObjectTypeExtension(Node::read_ast_json(
+            "SchemaExtension" => Ok(Self::SchemaExtension(Node::read_json(node)?)),
+            "ScalarTypeExtension" => Ok(Self::ScalarTypeExtension(Node::read_json(node)?)),
+            "ObjectTypeExtension" => Ok(Self::ObjectTypeExtension(Node::read_json(node)?)),
+            "InterfaceTypeExtension" => Ok(Self::InterfaceTypeExtension(Node::read_json(node)?)),
+            "UnionTypeExtension" => Ok(Self::UnionTypeExtension(Node::read_json(node)?)),
+            "EnumTypeExtension" => Ok(Self::EnumTypeExtension(Node::read_json(node)?)),
+            "InputObjectTypeExtension" => Ok(Self::InputObjectTypeExtension(Node::read_json(
                 node,
             )?)),
             _ => Err(node.wrong_kind(kind, "a definition")),

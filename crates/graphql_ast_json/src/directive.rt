@@ -6,7 +6,7 @@ ghost use Rattle.graphql_ast_json.specs.lemmas.DirectiveNodes.{directive_laws};
 
 use crate::ast_json::AstNode;
 use crate::error::AstJsonError;
-use crate::read::NodeReader;
+use crate::read::{JsonNode, NodeReader};
 use crate::write::NodeWriter;
 use graphql_ast::ast::{Argument, Directive};
 use graphql_ast::name::Name;
@@ -24,6 +24,10 @@ impl AstNode for Directive {
     ghost laws = { directive_laws };
 
     fn read_node(node: NodeReader<'_>) -> Result<Directive, AstJsonError> {
+        Self::read_json_node(JsonNode::of(node))
+    }
+
+    fn read_json_node(node: JsonNode<'_, '_>) -> Result<Directive, AstJsonError> {
         node.check("Directive", &["name", "arguments"])?;
         Ok(Directive {
             name: node.member::<Name>("name")?,

@@ -6,7 +6,7 @@ ghost use Rattle.graphql_ast_json.specs.lemmas.DefinitionNodes.{directive_defini
 
 use crate::ast_json::AstNode;
 use crate::error::AstJsonError;
-use crate::read::NodeReader;
+use crate::read::{JsonNode, NodeReader};
 use crate::write::NodeWriter;
 use graphql_ast::ast::{DirectiveDefinition, DirectiveLocation, InputValueDefinition};
 use graphql_ast::name::Name;
@@ -25,6 +25,10 @@ impl AstNode for DirectiveDefinition {
     ghost laws = { directive_definition_laws };
 
     fn read_node(node: NodeReader<'_>) -> Result<DirectiveDefinition, AstJsonError> {
+        Self::read_json_node(JsonNode::of(node))
+    }
+
+    fn read_json_node(node: JsonNode<'_, '_>) -> Result<DirectiveDefinition, AstJsonError> {
         node.check(
             "DirectiveDefinition",
             &[

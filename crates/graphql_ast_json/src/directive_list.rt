@@ -7,7 +7,7 @@ ghost use Rattle.graphql_ast_json.specs.lemmas.DirectiveNodes.{directives_laws};
 
 use crate::ast_json::AstJson;
 use crate::error::AstJsonError;
-use crate::read::NodeReader;
+use crate::read::{JsonNode, NodeReader};
 use crate::write::write_list;
 use graphql_ast::ast::{Directive, DirectiveList};
 use graphql_base::node::Node;
@@ -28,6 +28,10 @@ impl AstJson for DirectiveList {
     ghost laws = { directives_laws };
 
     fn read_ast_json(node: NodeReader<'_>) -> Result<DirectiveList, AstJsonError> {
+        Self::read_json(JsonNode::of(node))
+    }
+
+    fn read_json(node: JsonNode<'_, '_>) -> Result<DirectiveList, AstJsonError> {
         Ok(DirectiveList(node.array::<Node<Directive>>()?))
     }
 

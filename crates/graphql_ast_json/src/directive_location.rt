@@ -7,7 +7,7 @@ ghost use Rattle.graphql_ast_json.specs.lemmas.DefinitionNodes.{location_laws};
 
 use crate::ast_json::AstNode;
 use crate::error::AstJsonError;
-use crate::read::NodeReader;
+use crate::read::{JsonNode, NodeReader};
 use crate::write::NodeWriter;
 use graphql_ast::ast::DirectiveLocation;
 use serde_json::Value as Json;
@@ -54,6 +54,10 @@ impl AstNode for DirectiveLocation {
     ghost laws = { location_laws };
 
     fn read_node(node: NodeReader<'_>) -> Result<DirectiveLocation, AstJsonError> {
+        Self::read_json_node(JsonNode::of(node))
+    }
+
+    fn read_json_node(node: JsonNode<'_, '_>) -> Result<DirectiveLocation, AstJsonError> {
         let text = node.text_of_kind("Name")?;
         match location_named(text) {
             Some(location) => Ok(location),

@@ -7,7 +7,7 @@ ghost use Rattle.graphql_ast_json.specs.lemmas.DocumentNodes.{document_laws};
 
 use crate::ast_json::AstNode;
 use crate::error::AstJsonError;
-use crate::read::NodeReader;
+use crate::read::{JsonNode, NodeReader};
 use crate::write::NodeWriter;
 use graphql_ast::ast::{Definition, Document};
 use serde_json::Value as Json;
@@ -24,6 +24,10 @@ impl AstNode for Document {
     ghost laws = { document_laws };
 
     fn read_node(node: NodeReader<'_>) -> Result<Document, AstJsonError> {
+        Self::read_json_node(JsonNode::of(node))
+    }
+
+    fn read_json_node(node: JsonNode<'_, '_>) -> Result<Document, AstJsonError> {
         node.check("Document", &["definitions"])?;
         let definitions = node.required_list::<Definition>("definitions")?;
         let mut document = Document::new(node.alloc);

@@ -6,7 +6,7 @@ ghost use Rattle.graphql_ast_json.specs.lemmas.TypeSystemNodes.{enum_type_defini
 
 use crate::ast_json::AstNode;
 use crate::error::AstJsonError;
-use crate::read::NodeReader;
+use crate::read::{JsonNode, NodeReader};
 use crate::write::NodeWriter;
 use graphql_ast::ast::{EnumTypeDefinition, EnumTypeExtension, EnumValueDefinition};
 use graphql_ast::name::Name;
@@ -24,6 +24,10 @@ impl AstNode for EnumTypeDefinition {
     ghost laws = { enum_type_definition_laws };
 
     fn read_node(node: NodeReader<'_>) -> Result<EnumTypeDefinition, AstJsonError> {
+        Self::read_json_node(JsonNode::of(node))
+    }
+
+    fn read_json_node(node: JsonNode<'_, '_>) -> Result<EnumTypeDefinition, AstJsonError> {
         node.check(
             "EnumTypeDefinition",
             &["description", "name", "directives", "values"],
@@ -56,6 +60,10 @@ impl AstNode for EnumTypeExtension {
     ghost laws = { enum_type_extension_laws };
 
     fn read_node(node: NodeReader<'_>) -> Result<EnumTypeExtension, AstJsonError> {
+        Self::read_json_node(JsonNode::of(node))
+    }
+
+    fn read_json_node(node: JsonNode<'_, '_>) -> Result<EnumTypeExtension, AstJsonError> {
         node.check("EnumTypeExtension", &["name", "directives", "values"])?;
         Ok(EnumTypeExtension {
             name: node.member::<Name>("name")?,

@@ -6,7 +6,7 @@ ghost use Rattle.graphql_ast_json.specs.lemmas.TypeSystemNodes.{enum_value_defin
 
 use crate::ast_json::AstNode;
 use crate::error::AstJsonError;
-use crate::read::NodeReader;
+use crate::read::{JsonNode, NodeReader};
 use crate::write::NodeWriter;
 use graphql_ast::ast::EnumValueDefinition;
 use graphql_ast::name::Name;
@@ -24,6 +24,10 @@ impl AstNode for EnumValueDefinition {
     ghost laws = { enum_value_definition_laws };
 
     fn read_node(node: NodeReader<'_>) -> Result<EnumValueDefinition, AstJsonError> {
+        Self::read_json_node(JsonNode::of(node))
+    }
+
+    fn read_json_node(node: JsonNode<'_, '_>) -> Result<EnumValueDefinition, AstJsonError> {
         node.check(
             "EnumValueDefinition",
             &["description", "name", "directives"],

@@ -6,7 +6,7 @@ ghost use Rattle.graphql_ast_json.specs.lemmas.TypeSystemNodes.{field_definition
 
 use crate::ast_json::AstNode;
 use crate::error::AstJsonError;
-use crate::read::NodeReader;
+use crate::read::{JsonNode, NodeReader};
 use crate::write::NodeWriter;
 use graphql_ast::ast::{FieldDefinition, InputValueDefinition, Type};
 use graphql_ast::name::Name;
@@ -25,6 +25,10 @@ impl AstNode for FieldDefinition {
     ghost laws = { field_definition_laws };
 
     fn read_node(node: NodeReader<'_>) -> Result<FieldDefinition, AstJsonError> {
+        Self::read_json_node(JsonNode::of(node))
+    }
+
+    fn read_json_node(node: JsonNode<'_, '_>) -> Result<FieldDefinition, AstJsonError> {
         node.check(
             "FieldDefinition",
             &["description", "name", "arguments", "type", "directives"],

@@ -8,7 +8,7 @@ ghost use Rattle.graphql_text.specs.lexical.Literals.{NameText};
 ghost use Rattle.graphql_executable.specs.trees.ExecutableTrees.{selection_trees};
 ghost use Rattle.graphql_executable.specs.kinds.Selections.{SelectionTrees};
 ghost use Rattle.graphql_ast_json.specs.code.Errors.{IsMemory};
-ghost use Rattle.graphql_ast_json.specs.code.NodeReading.{IsOfNone, IsReadAs};
+ghost use Rattle.graphql_ast_json.specs.code.JsonNodes.{IsFromNone, IsReadFrom};
 ghost use Rattle.graphql_ast_json.specs.declared.read.Unknown.{Unknown};
 ghost use Rattle.graphql_ast_json.specs.kinds.ExecutableJson.{IsSelectionSet, IsVariable};
 ghost use Rattle.graphql_ast_json.specs.kinds.TypeJson.{IsNamedType};
@@ -19,7 +19,7 @@ ghost use Rattle.graphql_ast_json.specs.nodes.OneTree.{JsonLaws};
 
 use crate::ast_json::{AstJson, AstNode};
 use crate::error::AstJsonError;
-use crate::read::NodeReader;
+use crate::read::JsonNode;
 use crate::selection::read::read_selection_set;
 use crate::selection::write::write_selection_set;
 use crate::types::read::read_named_type;
@@ -45,9 +45,9 @@ pub trait Form {
 
     ghost is_json_of: { Unknown → Tree → Data → Type 0 };
 
-    fn read(node: NodeReader<'_>) -> Result<Self::Value, AstJsonError>
-        ensures ok { IfOk result (λ value. IsReadAs is_json_of node.entry (tree value)) }
-        ensures err { IfErr result (λ error. ¬ IsMemory error → IsOfNone is_json_of node.entry) };
+    fn read(node: JsonNode<'_, '_>) -> Result<Self::Value, AstJsonError>
+        ensures ok { IfOk result (λ value. IsReadFrom is_json_of node.entry (tree value)) }
+        ensures err { IfErr result (λ error. ¬ IsMemory error → IsFromNone is_json_of node.entry) };
 
     fn write(alloc: Global, value: &Self::Value) -> Result<Json, AllocError>
         ensures { IfOk result (λ json. (unknown : Unknown)
@@ -67,8 +67,8 @@ impl<T: AstJson + Drop> Form for T {
 
     ghost laws = { T.laws };
 
-    fn read(node: NodeReader<'_>) -> Result<T, AstJsonError> {
-        T::read_ast_json(node)
+    fn read(node: JsonNode<'_, '_>) -> Result<T, AstJsonError> {
+        T::read_json(node)
     }
 
     fn write(alloc: Global, value: &T) -> Result<Json, AllocError> {
@@ -92,8 +92,8 @@ impl<T: AstNode + Drop> Form for OnOneLine<T> {
 
     ghost laws = { json_laws T.laws };
 
-    fn read(node: NodeReader<'_>) -> Result<Node<T>, AstJsonError> {
-        Node::read_ast_json(node)
+    fn read(node: JsonNode<'_, '_>) -> Result<Node<T>, AstJsonError> {
+        Node::read_json(node)
     }
 
     fn write(alloc: Global, value: &Node<T>) -> Result<Json, AllocError> {
@@ -117,7 +117,7 @@ impl Form for NamedTypeForm {
 
     ghost laws = { json_laws named_type_laws };
 
-    fn read(node: NodeReader<'_>) -> Result<NamedType, AstJsonError> {
+    fn read(node: JsonNode<'_, '_>) -> Result<NamedType, AstJsonError> {
         node.location()?;
         read_named_type(node)
     }
@@ -141,7 +141,7 @@ impl Form for VariableForm {
 
     ghost laws = { json_laws variable_laws };
 
-    fn read(node: NodeReader<'_>) -> Result<Name, AstJsonError> {
+    fn read(node: JsonNode<'_, '_>) -> Result<Name, AstJsonError> {
         node.location()?;
         variable_name(node)
     }
@@ -165,7 +165,7 @@ impl Form for SelectionSetForm {
 
     ghost laws = { json_laws selection_set_laws };
 
-    fn read(node: NodeReader<'_>) -> Result<Vec<Selection>, AstJsonError> {
+    fn read(node: JsonNode<'_, '_>) -> Result<Vec<Selection>, AstJsonError> {
         read_selection_set(node)
     }
 

@@ -7,7 +7,7 @@ ghost use Rattle.graphql_ast_json.specs.lemmas.ExecutableNodes.{fragment_definit
 use crate::ast_json::AstNode;
 use crate::error::AstJsonError;
 use crate::form::{NamedTypeForm, SelectionSetForm};
-use crate::read::NodeReader;
+use crate::read::{JsonNode, NodeReader};
 use crate::write::NodeWriter;
 use graphql_ast::ast::FragmentDefinition;
 use graphql_ast::name::Name;
@@ -25,6 +25,10 @@ impl AstNode for FragmentDefinition {
     ghost laws = { fragment_definition_laws };
 
     fn read_node(node: NodeReader<'_>) -> Result<FragmentDefinition, AstJsonError> {
+        Self::read_json_node(JsonNode::of(node))
+    }
+
+    fn read_json_node(node: JsonNode<'_, '_>) -> Result<FragmentDefinition, AstJsonError> {
         node.check(
             "FragmentDefinition",
             &[

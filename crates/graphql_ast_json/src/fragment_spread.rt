@@ -6,7 +6,7 @@ ghost use Rattle.graphql_ast_json.specs.lemmas.ExecutableNodes.{fragment_spread_
 
 use crate::ast_json::AstNode;
 use crate::error::AstJsonError;
-use crate::read::NodeReader;
+use crate::read::{JsonNode, NodeReader};
 use crate::write::NodeWriter;
 use graphql_ast::ast::FragmentSpread;
 use graphql_ast::name::Name;
@@ -23,6 +23,10 @@ impl AstNode for FragmentSpread {
     ghost laws = { fragment_spread_laws };
 
     fn read_node(node: NodeReader<'_>) -> Result<FragmentSpread, AstJsonError> {
+        Self::read_json_node(JsonNode::of(node))
+    }
+
+    fn read_json_node(node: JsonNode<'_, '_>) -> Result<FragmentSpread, AstJsonError> {
         node.check("FragmentSpread", &["name", "directives"])?;
         Ok(FragmentSpread {
             fragment_name: node.member::<Name>("name")?,

@@ -6,7 +6,7 @@ ghost use Rattle.graphql_ast_json.specs.lemmas.TypeSystemNodes.{input_object_typ
 
 use crate::ast_json::AstNode;
 use crate::error::AstJsonError;
-use crate::read::NodeReader;
+use crate::read::{JsonNode, NodeReader};
 use crate::write::NodeWriter;
 use graphql_ast::ast::{InputObjectTypeDefinition, InputObjectTypeExtension, InputValueDefinition};
 use graphql_ast::name::Name;
@@ -24,6 +24,10 @@ impl AstNode for InputObjectTypeDefinition {
     ghost laws = { input_object_type_definition_laws };
 
     fn read_node(node: NodeReader<'_>) -> Result<InputObjectTypeDefinition, AstJsonError> {
+        Self::read_json_node(JsonNode::of(node))
+    }
+
+    fn read_json_node(node: JsonNode<'_, '_>) -> Result<InputObjectTypeDefinition, AstJsonError> {
         node.check(
             "InputObjectTypeDefinition",
             &["description", "name", "directives", "fields"],
@@ -56,6 +60,10 @@ impl AstNode for InputObjectTypeExtension {
     ghost laws = { input_object_type_extension_laws };
 
     fn read_node(node: NodeReader<'_>) -> Result<InputObjectTypeExtension, AstJsonError> {
+        Self::read_json_node(JsonNode::of(node))
+    }
+
+    fn read_json_node(node: JsonNode<'_, '_>) -> Result<InputObjectTypeExtension, AstJsonError> {
         node.check(
             "InputObjectTypeExtension",
             &["name", "directives", "fields"],

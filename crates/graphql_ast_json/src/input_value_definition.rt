@@ -6,7 +6,7 @@ ghost use Rattle.graphql_ast_json.specs.lemmas.DefinitionNodes.{input_value_defi
 
 use crate::ast_json::AstNode;
 use crate::error::AstJsonError;
-use crate::read::NodeReader;
+use crate::read::{JsonNode, NodeReader};
 use crate::write::NodeWriter;
 use graphql_ast::ast::{InputValueDefinition, Type, Value};
 use graphql_ast::name::Name;
@@ -24,6 +24,10 @@ impl AstNode for InputValueDefinition {
     ghost laws = { input_value_definition_laws };
 
     fn read_node(node: NodeReader<'_>) -> Result<InputValueDefinition, AstJsonError> {
+        Self::read_json_node(JsonNode::of(node))
+    }
+
+    fn read_json_node(node: JsonNode<'_, '_>) -> Result<InputValueDefinition, AstJsonError> {
         node.check(
             "InputValueDefinition",
             &["description", "name", "type", "defaultValue", "directives"],

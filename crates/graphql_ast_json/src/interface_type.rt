@@ -7,7 +7,7 @@ ghost use Rattle.graphql_ast_json.specs.lemmas.TypeSystemNodes.{interface_type_d
 use crate::ast_json::AstNode;
 use crate::error::AstJsonError;
 use crate::form::NamedTypeForm;
-use crate::read::NodeReader;
+use crate::read::{JsonNode, NodeReader};
 use crate::write::NodeWriter;
 use graphql_ast::ast::{FieldDefinition, InterfaceTypeDefinition, InterfaceTypeExtension};
 use graphql_ast::name::Name;
@@ -25,6 +25,10 @@ impl AstNode for InterfaceTypeDefinition {
     ghost laws = { interface_type_definition_laws };
 
     fn read_node(node: NodeReader<'_>) -> Result<InterfaceTypeDefinition, AstJsonError> {
+        Self::read_json_node(JsonNode::of(node))
+    }
+
+    fn read_json_node(node: JsonNode<'_, '_>) -> Result<InterfaceTypeDefinition, AstJsonError> {
         node.check(
             "InterfaceTypeDefinition",
             &["description", "name", "interfaces", "directives", "fields"],
@@ -59,6 +63,10 @@ impl AstNode for InterfaceTypeExtension {
     ghost laws = { interface_type_extension_laws };
 
     fn read_node(node: NodeReader<'_>) -> Result<InterfaceTypeExtension, AstJsonError> {
+        Self::read_json_node(JsonNode::of(node))
+    }
+
+    fn read_json_node(node: JsonNode<'_, '_>) -> Result<InterfaceTypeExtension, AstJsonError> {
         node.check(
             "InterfaceTypeExtension",
             &["name", "interfaces", "directives", "fields"],

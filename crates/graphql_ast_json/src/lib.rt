@@ -2,6 +2,7 @@
 //!
 //! - `AstJson`: what can be read from AST JSON, and written as it; `AstNode`: of which each tree is one node.
 //! - `NodeReader`: JSON that is read, by a reading that refuses what is unknown or passes over it.
+//! - `parse_json`, `JsonNode`: JSON that was parsed from a text, and JSON that is read in that form or as a value of `serde_json`.
 //! - `from_ast_json_str`: a tree from the text of its JSON.
 //! - `error`: why JSON is of no tree, and where in it.
 //! - `from_well_formed_ast_json_str`: a well-formed tree from the text of its JSON, or where it has the first flaw.
@@ -9,6 +10,7 @@
 //! - `laws`: what holds of AST JSON, as contracts of functions that do nothing.
 #![tactic(auto)]
 
+mod any_json;
 mod argument;
 mod ast_json;
 mod definition;
@@ -29,10 +31,13 @@ mod input_value_definition;
 mod interface_type;
 pub mod laws;
 mod name;
+mod numbers;
 mod object_type;
 mod offsets;
 mod operation_definition;
 mod operation_type;
+mod owned;
+mod parse;
 mod read;
 mod root_operation;
 mod scalar_type;
@@ -46,10 +51,13 @@ mod variable_definition;
 mod well_formed;
 mod write;
 
+pub use crate::any_json::{AnyItems, AnyJson};
 pub use crate::ast_json::{AstJson, AstNode, from_ast_json_str};
 pub use crate::error::AstJsonError;
 pub use crate::offsets::Offsets;
-pub use crate::read::{NodeReader, Unknown};
+pub use crate::parse::parse_json;
+pub use crate::read::{JsonNode, NodeReader, Unknown};
 pub use crate::well_formed::{
     BrokenCondition, WellFormedError, from_well_formed_ast_json_str, read_well_formed_ast_json,
+    read_well_formed_json,
 };

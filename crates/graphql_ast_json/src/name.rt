@@ -4,13 +4,14 @@ ghost use Rattle.graphql_base.specs.Name.{name_location, name_text};
 ghost use Rattle.graphql_text.specs.trees.Leaves.{name_tree};
 ghost use Rattle.graphql_text.specs.lexical.Literals.{NameText};
 ghost use Rattle.graphql_ast_json.specs.code.Errors.{IsMemory};
-ghost use Rattle.graphql_ast_json.specs.code.NodeReading.{IsTextNode, NameStandsAt, node_json, stretch_of};
+ghost use Rattle.graphql_ast_json.specs.code.JsonNodes.{node_data};
+ghost use Rattle.graphql_ast_json.specs.code.NodeReading.{IsTextNode, NameStandsAt, stretch_of};
 ghost use Rattle.graphql_ast_json.specs.lemmas.Leaves.{json_laws, name_laws};
 ghost use Rattle.graphql_ast_json.specs.nodes.Nodes.{IsLocated, IsName, as_long_as};
 
 use crate::ast_json::AstJson;
 use crate::error::AstJsonError;
-use crate::read::NodeReader;
+use crate::read::{JsonNode, NodeReader};
 use crate::write::NodeWriter;
 use graphql_ast::name::Name;
 use graphql_base::span::SourceSpan;
@@ -18,13 +19,13 @@ use serde_json::Value as Json;
 use std::alloc::{AllocError, Global};
 
 /// The name that a node of this kind is.
-pub(crate) fn name_of_kind(node: NodeReader<'_>, kind: &str) -> Result<Name, AstJsonError>
-    requires { IsLocated node.unknown (node_json node) }
+pub(crate) fn name_of_kind(node: JsonNode<'_, '_>, kind: &str) -> Result<Name, AstJsonError>
+    requires { IsLocated node.unknown (node_data node) }
     ensures ok { IfOk result (λ name.
-        IsTextNode node.entry.unknown kind.now (name_tree name).text (node_json node.entry)) }
+        IsTextNode node.entry.unknown kind.now (name_tree name).text (node_data node.entry)) }
     ensures new { IfOk result (λ name. name_location name ≡ None) }
     ensures err { IfErr result (λ error. ¬ IsMemory error → (name : NameText)
-        → ¬ IsTextNode node.entry.unknown kind.now name.text (node_json node.entry)) }
+        → ¬ IsTextNode node.entry.unknown kind.now name.text (node_data node.entry)) }
 {
     let text = node.text_of_kind(kind)?;
     if Name::is_valid_syntax(text) {
@@ -70,6 +71,10 @@ impl AstJson for Name {
     ghost laws = { json_laws name_laws };
 
     fn read_ast_json(node: NodeReader<'_>) -> Result<Name, AstJsonError> {
+        Self::read_json(JsonNode::of(node))
+    }
+
+    fn read_json(node: JsonNode<'_, '_>) -> Result<Name, AstJsonError> {
         let location = node.location()?;
         let name = name_of_kind(node, "Name")?;
         Ok(name_at(name, location))

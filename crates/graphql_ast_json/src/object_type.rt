@@ -7,7 +7,7 @@ ghost use Rattle.graphql_ast_json.specs.lemmas.TypeSystemNodes.{object_type_defi
 use crate::ast_json::AstNode;
 use crate::error::AstJsonError;
 use crate::form::NamedTypeForm;
-use crate::read::NodeReader;
+use crate::read::{JsonNode, NodeReader};
 use crate::write::NodeWriter;
 use graphql_ast::ast::{FieldDefinition, ObjectTypeDefinition, ObjectTypeExtension};
 use graphql_ast::name::Name;
@@ -25,6 +25,10 @@ impl AstNode for ObjectTypeDefinition {
     ghost laws = { object_type_definition_laws };
 
     fn read_node(node: NodeReader<'_>) -> Result<ObjectTypeDefinition, AstJsonError> {
+        Self::read_json_node(JsonNode::of(node))
+    }
+
+    fn read_json_node(node: JsonNode<'_, '_>) -> Result<ObjectTypeDefinition, AstJsonError> {
         node.check(
             "ObjectTypeDefinition",
             &["description", "name", "interfaces", "directives", "fields"],
@@ -59,6 +63,10 @@ impl AstNode for ObjectTypeExtension {
     ghost laws = { object_type_extension_laws };
 
     fn read_node(node: NodeReader<'_>) -> Result<ObjectTypeExtension, AstJsonError> {
+        Self::read_json_node(JsonNode::of(node))
+    }
+
+    fn read_json_node(node: JsonNode<'_, '_>) -> Result<ObjectTypeExtension, AstJsonError> {
         node.check(
             "ObjectTypeExtension",
             &["name", "interfaces", "directives", "fields"],

@@ -7,7 +7,7 @@ ghost use Rattle.graphql_ast_json.specs.lemmas.ExecutableNodes.{operation_defini
 use crate::ast_json::AstNode;
 use crate::error::AstJsonError;
 use crate::form::SelectionSetForm;
-use crate::read::NodeReader;
+use crate::read::{JsonNode, NodeReader};
 use crate::write::NodeWriter;
 use graphql_ast::ast::{OperationDefinition, VariableDefinition};
 use graphql_ast::name::Name;
@@ -32,6 +32,10 @@ impl AstNode for OperationDefinition {
     ghost laws = { operation_definition_laws };
 
     fn read_node(node: NodeReader<'_>) -> Result<OperationDefinition, AstJsonError> {
+        Self::read_json_node(JsonNode::of(node))
+    }
+
+    fn read_json_node(node: JsonNode<'_, '_>) -> Result<OperationDefinition, AstJsonError> {
         node.check(
             "OperationDefinition",
             &[

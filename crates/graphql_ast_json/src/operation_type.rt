@@ -4,11 +4,11 @@ ghost use Rattle.serde_json.specs.Data.{string};
 ghost use Rattle.graphql_values.specs.trees.LocationTrees.{operation_type_tree};
 ghost use Rattle.graphql_values.specs.kinds.OperationTypes.{OperationTypeTree, operation_type_name};
 ghost use Rattle.graphql_ast_json.specs.code.Errors.{IsMemory};
-ghost use Rattle.graphql_ast_json.specs.code.NodeReading.{node_json};
+ghost use Rattle.graphql_ast_json.specs.code.JsonNodes.{node_data};
 ghost use Rattle.graphql_ast_json.specs.nodes.Nodes.{member_of};
 
 use crate::error::AstJsonError;
-use crate::read::NodeReader;
+use crate::read::JsonNode;
 use graphql_ast::ast::OperationType;
 
 /// The operation type whose word in the grammar the text is.
@@ -26,13 +26,13 @@ fn operation_type_named(text: &str) -> Option<OperationType>
     }
 }
 
-impl NodeReader<'_> {
+impl JsonNode<'_, '_> {
     /// The operation type that the member `operation` names.
     pub(crate) fn operation_type(self) -> Result<OperationType, AstJsonError>
-        ensures ok { IfOk result (λ type. member_of (codes "operation") (node_json self.entry)
+        ensures ok { IfOk result (λ type. member_of (codes "operation") (node_data self.entry)
             ≡ Some (string (operation_type_name (operation_type_tree type)))) }
         ensures err { IfErr result (λ error. ¬ IsMemory error → (tree : OperationTypeTree)
-            → ¬ (member_of (codes "operation") (node_json self.entry)
+            → ¬ (member_of (codes "operation") (node_data self.entry)
             ≡ Some (string (operation_type_name tree)))) }
     {
         let text = self.text("operation")?;

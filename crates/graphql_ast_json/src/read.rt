@@ -1,18 +1,24 @@
 //! JSON is read: a node's kind, the names of its members, and where it stands.
 ghost use Rattle.std.specs.Prelude.{◌≡◌, ◌<◌, ◌++◌, IfOk, IfErr, IfSome, OnOk, Some, None, codes, is_some, not, option_map};
-ghost use Rattle.serde_json.specs.Data.{depth};
+ghost use Rattle.json.specs.Value.{members_view as parsed_members};
+ghost use Rattle.serde_json.specs.Data.{depth, no_members};
 ghost use Rattle.serde_json.specs.Find.{get};
 ghost use Rattle.serde_json.specs.View.{members_view, view};
 ghost use Rattle.graphql_text.specs.grammar.Forms.{is_one_of};
+ghost use Rattle.graphql_ast_json.specs.code.AnyJson.{any_data};
 ghost use Rattle.graphql_ast_json.specs.code.Errors.{IsMemory};
+ghost use Rattle.graphql_ast_json.specs.code.JsonNodes.{has_other_names, node_data};
 ghost use Rattle.graphql_ast_json.specs.code.NodeReading.{IsInFile, StandsAt, node_json, stretch_of, texts_of};
+ghost use Rattle.graphql_ast_json.specs.code.ParsedJson.{parsed_data, with_members};
 ghost use Rattle.graphql_ast_json.specs.nodes.Nodes.{HasOnly, IsLocated, IsLocation, IsNode, member_of, names_among, offset_of, stretch_in};
 
 pub(crate) mod members;
 pub(crate) mod text;
 
+use crate::any_json::AnyJson;
 use crate::error::{AstJsonError, AstJsonProblem, JsonType};
 use graphql_base::span::{FileId, SourceSpan};
+use json::Value as Parsed;
 use members::MAX_OFFSET;
 use serde_json::{Map, Value as Json};
 use std::alloc::Global;
@@ -32,6 +38,24 @@ pub struct NodeReader<'j> {
     pub alloc: Global,
     pub json: &'j Json,
     /// The file that the locations of nodes are in.
+    pub source: FileId,
+    pub unknown: Unknown,
+}
+
+/// JSON that is read, as a rule a node of a syntax tree, in either form: a value of `serde_json`, or one that `parse_json`
+/// made of a text, which is read in a fraction of the time.
+///
+/// ```
+/// let mut scratch = Scratch::new(alloc);
+/// if let Some(value) = parse_json(alloc, text, &mut scratch)? {
+///     let node = JsonNode::parsed(alloc, &value, FileId::new(1), Unknown::PassOver);
+///     let document = Document::read_json(node)?;
+/// }
+/// ```
+#[derive(Clone, Copy)]
+pub struct JsonNode<'j, 't> {
+    pub alloc: Global,
+    pub json: AnyJson<'j, 't>,
     pub source: FileId,
     pub unknown: Unknown,
 }
@@ -70,10 +94,45 @@ fn unknown_name<'j>(
     None
 }
 
+/// The first name of a member that is none of these, in the order of the text.
+fn unknown_parsed_name<'t>(
+    members: &[(&'t str, Parsed<'t>)],
+    names: &[&str],
+    others: &[&str],
+) -> Option<&'t str>
+    ensures { is_some result ≡ not (names_among (texts_of names.now ++ texts_of others.now)
+        (with_members (parsed_members members.now) no_members)) }
+{
+    for (name, _) in members {
+        if !is_one_of_either(names, others, name) {
+            return Some(name);
+        }
+    }
+    None
+}
+
+/// The least of such names: the one of which an error tells.
+fn least_unknown_name<'j, 't>(
+    members: &'j [(&'t str, Parsed<'t>)],
+    names: &[&str],
+    others: &[&str],
+) -> Option<&'t str> {
+    let mut least: Option<&'j (&'t str, Parsed<'t>)> = None;
+    for member in members {
+        if !is_one_of_either(names, others, member.0) {
+            least = match least {
+                Some(found) if found.0 <= member.0 => Some(found),
+                _ => Some(member),
+            };
+        }
+    }
+    least.map(|member| member.0)
+}
+
 /// The member of this name. One that is null is the same as none.
-pub(crate) fn member<'j>(json: &'j Json, name: &str) -> Option<&'j Json>
-    ensures value { option_map (λ v. view v.now) result ≡ member_of name.now (view json.now) }
-    ensures inside { IfSome result (λ v. depth (view v.now) < depth (view json.now)) }
+pub(crate) fn member<'j, 't>(json: AnyJson<'j, 't>, name: &str) -> Option<AnyJson<'j, 't>>
+    ensures value { option_map any_data result ≡ member_of name.now (any_data json.entry) }
+    ensures inside { IfSome result (λ v. depth (any_data v) < depth (any_data json.entry)) }
 {
     match json.get(name) {
         Some(member) => { if member.is_null() { None } else { Some(member) } }
@@ -81,33 +140,118 @@ pub(crate) fn member<'j>(json: &'j Json, name: &str) -> Option<&'j Json>
     }
 }
 
-impl NodeReader<'_> {
+impl<'j, 't> JsonNode<'j, 't> {
+    /// The JSON of a reader.
+    pub(crate) fn of(node: NodeReader<'j>) -> JsonNode<'j, 't>
+        ensures json { node_data result ≡ node_json node.entry }
+        ensures source { result.source ≡ node.entry.source }
+        ensures unknown { result.unknown ≡ node.entry.unknown }
+    {
+        JsonNode {
+            alloc: node.alloc,
+            json: AnyJson::Owned(node.json),
+            source: node.source,
+            unknown: node.unknown,
+        }
+    }
+
+    /// A value of `serde_json`.
+    pub fn owned(
+        alloc: Global,
+        value: &'j Json,
+        source: FileId,
+        unknown: Unknown,
+    ) -> JsonNode<'j, 't>
+        ensures json { node_data result ≡ view value.now }
+        ensures source { result.source ≡ source }
+        ensures unknown { result.unknown ≡ unknown }
+    {
+        JsonNode {
+            alloc,
+            json: AnyJson::Owned(value),
+            source,
+            unknown,
+        }
+    }
+
+    /// A value that was parsed from a text.
+    pub fn parsed(
+        alloc: Global,
+        value: &'j Parsed<'t>,
+        source: FileId,
+        unknown: Unknown,
+    ) -> JsonNode<'j, 't>
+        ensures json { node_data result ≡ parsed_data value.now }
+        ensures source { result.source ≡ source }
+        ensures unknown { result.unknown ≡ unknown }
+    {
+        JsonNode {
+            alloc,
+            json: AnyJson::Parsed(value),
+            source,
+            unknown,
+        }
+    }
+
+    /// A reader of this JSON, by the same rules.
+    pub(crate) fn over<'v>(self, json: &'v Json) -> NodeReader<'v>
+        ensures json { result.json ≡ json.entry }
+        ensures source { result.source ≡ self.entry.source }
+        ensures unknown { result.unknown ≡ self.entry.unknown }
+    {
+        NodeReader {
+            alloc: self.alloc,
+            json,
+            source: self.source,
+            unknown: self.unknown,
+        }
+    }
+
+    /// The name of a member that is none of these, if it is an object that has one.
+    fn unknown_member(self, names: &[&str], others: &[&str]) -> Option<&'j str>
+        ensures { is_some result ≡ has_other_names (texts_of names.now ++ texts_of others.now)
+            (node_data self.entry) }
+    {
+        match self.json {
+            AnyJson::Owned(Json::Object(members)) => unknown_name(members, names, others),
+            AnyJson::Parsed(Parsed::Object(members)) => {
+                match unknown_parsed_name(members.as_slice(), names, others) {
+                    Some(first) => {
+                        Some(least_unknown_name(members.as_slice(), names, others).unwrap_or(first))
+                    }
+                    None => None,
+                }
+            }
+            _ => None,
+        }
+    }
+
     /// That the JSON is an object with no other members than these, unless others are passed over.
     fn check_names(self, names: &[&str], others: &[&str], of: &str) -> Result<(), AstJsonError>
         ensures ok { OnOk result
             (HasOnly self.entry.unknown (texts_of names.now ++ texts_of others.now)
-            (node_json self.entry)) }
+            (node_data self.entry)) }
         ensures err { IfErr result (λ error. ¬ IsMemory error →
             ¬ HasOnly self.entry.unknown (texts_of names.now ++ texts_of others.now)
-            (node_json self.entry)) }
+            (node_data self.entry)) }
     {
-        match self.json {
-            Json::Object(members) => match self.unknown {
-                Unknown::PassOver => Ok(()),
-                Unknown::Refuse => match unknown_name(members, names, others) {
-                    Some(name) => Err(self.unknown(name, of)),
-                    None => Ok(()),
-                },
+        if !self.json.is_object() {
+            return Err(self.wrong_type(self.json, JsonType::Object));
+        }
+        match self.unknown {
+            Unknown::PassOver => Ok(()),
+            Unknown::Refuse => match self.unknown_member(names, others) {
+                Some(name) => Err(self.unknown(name, of)),
+                None => Ok(()),
             },
-            _ => Err(self.wrong_type(self.json, JsonType::Object)),
         }
     }
 
     /// An offset of a location.
     fn offset(self, name: &str) -> Result<u32, AstJsonError>
-        ensures ok { IfOk result (λ n. offset_of (get name.now (node_json self.entry)) ≡ Some n) }
+        ensures ok { IfOk result (λ n. offset_of (get name.now (node_data self.entry)) ≡ Some n) }
         ensures err { IfErr result (λ error. ¬ IsMemory error
-            → offset_of (get name.now (node_json self.entry)) ≡ None) }
+            → offset_of (get name.now (node_data self.entry)) ≡ None) }
     {
         match self.json.get(name) {
             None => Err(self.missing(name, "location")),
@@ -120,12 +264,12 @@ impl NodeReader<'_> {
 
     /// The stretch of the source text that a location is.
     fn span(self) -> Result<SourceSpan, AstJsonError>
-        ensures is { OnOk result (IsLocation self.entry.unknown (node_json self.entry)) }
+        ensures is { OnOk result (IsLocation self.entry.unknown (node_data self.entry)) }
         ensures ok { IfOk result (λ span.
-            Some (stretch_of span) ≡ stretch_in (node_json self.entry)) }
+            Some (stretch_of span) ≡ stretch_in (node_data self.entry)) }
         ensures file { IfOk result (λ span. IsInFile self.entry.source (Some span)) }
         ensures err { IfErr result (λ error. ¬ IsMemory error
-            → ¬ IsLocation self.entry.unknown (node_json self.entry)) }
+            → ¬ IsLocation self.entry.unknown (node_data self.entry)) }
     {
         self.check_names(&["start", "end"], &[], "location")?;
         let start = self.offset("start")?;
@@ -138,15 +282,15 @@ impl NodeReader<'_> {
 
     /// Where the node stands in the source text, if it tells.
     pub(crate) fn location(self) -> Result<Option<SourceSpan>, AstJsonError>
-        ensures located { OnOk result (IsLocated self.entry.unknown (node_json self.entry)) }
-        ensures stands { IfOk result (λ location. StandsAt location (node_json self.entry)) }
+        ensures located { OnOk result (IsLocated self.entry.unknown (node_data self.entry)) }
+        ensures stands { IfOk result (λ location. StandsAt location (node_data self.entry)) }
         ensures file { IfOk result (IsInFile self.entry.source) }
         ensures err { IfErr result (λ error. ¬ IsMemory error
-            → ¬ IsLocated self.entry.unknown (node_json self.entry)) }
+            → ¬ IsLocated self.entry.unknown (node_data self.entry)) }
     {
         match member(self.json, "loc") {
             None => Ok(None),
-            Some(json) => match (NodeReader { json, ..self }).span() {
+            Some(json) => match (JsonNode { json, ..self }).span() {
                 Ok(span) => Ok(Some(span)),
                 Err(error) => Err(self.within("loc", error)),
             },
@@ -155,11 +299,11 @@ impl NodeReader<'_> {
 
     /// That the JSON, whose location was read, is a node of this kind with no other members than these.
     pub(crate) fn check(self, kind: &str, names: &[&str]) -> Result<(), AstJsonError>
-        requires { IsLocated self.unknown (node_json self) }
+        requires { IsLocated self.unknown (node_data self) }
         ensures ok { OnOk result
-            (IsNode self.entry.unknown kind.now (texts_of names.now) (node_json self.entry)) }
+            (IsNode self.entry.unknown kind.now (texts_of names.now) (node_data self.entry)) }
         ensures err { IfErr result (λ error. ¬ IsMemory error
-            → ¬ IsNode self.entry.unknown kind.now (texts_of names.now) (node_json self.entry)) }
+            → ¬ IsNode self.entry.unknown kind.now (texts_of names.now) (node_data self.entry)) }
     {
         let found = self.text("kind")?;
         if found != kind {

@@ -7,7 +7,7 @@ ghost use Rattle.graphql_ast_json.specs.lemmas.TypeSystemNodes.{root_operation_l
 use crate::ast_json::AstNode;
 use crate::error::AstJsonError;
 use crate::form::NamedTypeForm;
-use crate::read::NodeReader;
+use crate::read::{JsonNode, NodeReader};
 use crate::write::NodeWriter;
 use graphql_ast::ast::{NamedType, OperationType};
 use serde_json::Value as Json;
@@ -23,6 +23,10 @@ impl AstNode for (OperationType, NamedType) {
     ghost laws = { root_operation_laws };
 
     fn read_node(node: NodeReader<'_>) -> Result<(OperationType, NamedType), AstJsonError> {
+        Self::read_json_node(JsonNode::of(node))
+    }
+
+    fn read_json_node(node: JsonNode<'_, '_>) -> Result<(OperationType, NamedType), AstJsonError> {
         node.check("OperationTypeDefinition", &["operation", "type"])?;
         let operation_type = node.operation_type()?;
         let ty = node.member::<NamedTypeForm>("type")?;

@@ -6,7 +6,7 @@ ghost use Rattle.graphql_ast_json.specs.lemmas.TypeSystemNodes.{scalar_type_defi
 
 use crate::ast_json::AstNode;
 use crate::error::AstJsonError;
-use crate::read::NodeReader;
+use crate::read::{JsonNode, NodeReader};
 use crate::write::NodeWriter;
 use graphql_ast::ast::{ScalarTypeDefinition, ScalarTypeExtension};
 use graphql_ast::name::Name;
@@ -24,6 +24,10 @@ impl AstNode for ScalarTypeDefinition {
     ghost laws = { scalar_type_definition_laws };
 
     fn read_node(node: NodeReader<'_>) -> Result<ScalarTypeDefinition, AstJsonError> {
+        Self::read_json_node(JsonNode::of(node))
+    }
+
+    fn read_json_node(node: JsonNode<'_, '_>) -> Result<ScalarTypeDefinition, AstJsonError> {
         node.check(
             "ScalarTypeDefinition",
             &["description", "name", "directives"],
@@ -54,6 +58,10 @@ impl AstNode for ScalarTypeExtension {
     ghost laws = { scalar_type_extension_laws };
 
     fn read_node(node: NodeReader<'_>) -> Result<ScalarTypeExtension, AstJsonError> {
+        Self::read_json_node(JsonNode::of(node))
+    }
+
+    fn read_json_node(node: JsonNode<'_, '_>) -> Result<ScalarTypeExtension, AstJsonError> {
         node.check("ScalarTypeExtension", &["name", "directives"])?;
         Ok(ScalarTypeExtension {
             name: node.member::<Name>("name")?,

@@ -6,7 +6,7 @@ ghost use Rattle.graphql_ast_json.specs.lemmas.TypeSystemNodes.{schema_definitio
 
 use crate::ast_json::AstNode;
 use crate::error::AstJsonError;
-use crate::read::NodeReader;
+use crate::read::{JsonNode, NodeReader};
 use crate::write::NodeWriter;
 use graphql_ast::ast::{NamedType, OperationType, SchemaDefinition, SchemaExtension};
 use graphql_base::node::{Node, NodeStr};
@@ -23,6 +23,10 @@ impl AstNode for SchemaDefinition {
     ghost laws = { schema_definition_laws };
 
     fn read_node(node: NodeReader<'_>) -> Result<SchemaDefinition, AstJsonError> {
+        Self::read_json_node(JsonNode::of(node))
+    }
+
+    fn read_json_node(node: JsonNode<'_, '_>) -> Result<SchemaDefinition, AstJsonError> {
         node.check(
             "SchemaDefinition",
             &["description", "directives", "operationTypes"],
@@ -53,6 +57,10 @@ impl AstNode for SchemaExtension {
     ghost laws = { schema_extension_laws };
 
     fn read_node(node: NodeReader<'_>) -> Result<SchemaExtension, AstJsonError> {
+        Self::read_json_node(JsonNode::of(node))
+    }
+
+    fn read_json_node(node: JsonNode<'_, '_>) -> Result<SchemaExtension, AstJsonError> {
         node.check("SchemaExtension", &["directives", "operationTypes"])?;
         Ok(SchemaExtension {
             directives: node.directives()?,

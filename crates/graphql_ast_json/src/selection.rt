@@ -14,7 +14,7 @@ pub(crate) mod write;
 
 use crate::ast_json::{AstJson, AstNode};
 use crate::error::AstJsonError;
-use crate::read::NodeReader;
+use crate::read::{JsonNode, NodeReader};
 use crate::write::NodeWriter;
 use graphql_ast::ast::{Field, InlineFragment, Selection};
 use read::{read_field, read_inline_fragment, read_selection};
@@ -36,6 +36,10 @@ impl AstJson for Selection {
     ghost laws = { json_laws selection_laws };
 
     fn read_ast_json(node: NodeReader<'_>) -> Result<Selection, AstJsonError> {
+        Self::read_json(JsonNode::of(node))
+    }
+
+    fn read_json(node: JsonNode<'_, '_>) -> Result<Selection, AstJsonError> {
         read_selection(node)
     }
 
@@ -54,6 +58,10 @@ impl AstNode for Field {
     ghost laws = { field_laws };
 
     fn read_node(node: NodeReader<'_>) -> Result<Field, AstJsonError> {
+        Self::read_json_node(JsonNode::of(node))
+    }
+
+    fn read_json_node(node: JsonNode<'_, '_>) -> Result<Field, AstJsonError> {
         read_field(node)
     }
 
@@ -72,6 +80,10 @@ impl AstNode for InlineFragment {
     ghost laws = { inline_fragment_laws };
 
     fn read_node(node: NodeReader<'_>) -> Result<InlineFragment, AstJsonError> {
+        Self::read_json_node(JsonNode::of(node))
+    }
+
+    fn read_json_node(node: JsonNode<'_, '_>) -> Result<InlineFragment, AstJsonError> {
         read_inline_fragment(node)
     }
 

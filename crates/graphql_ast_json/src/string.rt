@@ -7,14 +7,15 @@ ghost use Rattle.graphql_text.specs.trees.Leaves.{description_tree};
 ghost use Rattle.graphql_text.specs.lexical.Literals.{StringText};
 ghost use Rattle.graphql_ast_json.specs.code.Drafts.{place_of};
 ghost use Rattle.graphql_ast_json.specs.code.Errors.{IsMemory};
-ghost use Rattle.graphql_ast_json.specs.code.NodeReading.{IsReadAs, IsStringOf, StandsAt, node_json};
+ghost use Rattle.graphql_ast_json.specs.code.JsonNodes.{node_data, IsReadFrom};
+ghost use Rattle.graphql_ast_json.specs.code.NodeReading.{IsStringOf, StandsAt};
 ghost use Rattle.graphql_ast_json.specs.declared.read.Unknown.{Unknown};
 ghost use Rattle.graphql_ast_json.specs.lemmas.Leaves.{json_laws, string_laws};
 ghost use Rattle.graphql_ast_json.specs.nodes.Nodes.{IsBoolean, IsLocated, IsStringValue, OptionalMember, member_of};
 
 use crate::ast_json::AstJson;
 use crate::error::{AstJsonError, JsonType};
-use crate::read::{NodeReader, member};
+use crate::read::{JsonNode, NodeReader, member};
 use crate::write::NodeWriter;
 use graphql_base::node::NodeStr;
 use graphql_base::span::SourceSpan;
@@ -23,23 +24,26 @@ use serde_json::Value as Json;
 use std::alloc::{AllocError, Global};
 
 /// That the member of this name is a boolean, if it is there.
-fn check_optional_boolean(node: NodeReader<'_>, name: &str) -> Result<(), AstJsonError>
-    ensures ok { IfOk result (λ _. OptionalMember name.now (node_json node.entry) IsBoolean) }
+fn check_optional_boolean(node: JsonNode<'_, '_>, name: &str) -> Result<(), AstJsonError>
+    ensures ok { IfOk result (λ _. OptionalMember name.now (node_data node.entry) IsBoolean) }
     ensures err { IfErr result (λ error. ¬ IsMemory error
-        → ¬ OptionalMember name.now (node_json node.entry) IsBoolean) }
+        → ¬ OptionalMember name.now (node_data node.entry) IsBoolean) }
 {
     match member(node.json, name) {
-        None | Some(Json::Bool(_)) => Ok(()),
-        Some(member) => Err(node.within(name, node.wrong_type(member, JsonType::Boolean))),
+        None => Ok(()),
+        Some(member) => match member.as_bool() {
+            Some(_) => Ok(()),
+            None => Err(node.within(name, node.wrong_type(member, JsonType::Boolean))),
+        },
     }
 }
 
 /// The text of the string that a node is.
-pub(crate) fn string_text<'j>(node: NodeReader<'j>) -> Result<&'j str, AstJsonError>
-    requires { IsLocated node.unknown (node_json node) }
-    ensures ok { IfOk result (λ text. IsReadAs IsStringOf node.entry text.now) }
+pub(crate) fn string_text<'j>(node: JsonNode<'j, '_>) -> Result<&'j str, AstJsonError>
+    requires { IsLocated node.unknown (node_data node) }
+    ensures ok { IfOk result (λ text. IsReadFrom IsStringOf node.entry text.now) }
     ensures err { IfErr result (λ error. ¬ IsMemory error
-        → (text : List ℕ) → ¬ IsReadAs IsStringOf node.entry text) }
+        → (text : List ℕ) → ¬ IsReadFrom IsStringOf node.entry text) }
 {
     node.check("StringValue", &["value", "block"])?;
     let text = node.text("value")?;
@@ -95,6 +99,10 @@ impl AstJson for NodeStr {
 
     /// The text, at its location if the JSON tells one.
     fn read_ast_json(node: NodeReader<'_>) -> Result<NodeStr, AstJsonError> {
+        Self::read_json(JsonNode::of(node))
+    }
+
+    fn read_json(node: JsonNode<'_, '_>) -> Result<NodeStr, AstJsonError> {
         let location = node.location()?;
         let text = string_text(node)?;
         Ok(text_at(node.alloc, location, text)?)

@@ -9,7 +9,7 @@ pub(crate) mod write;
 
 use crate::ast_json::AstNode;
 use crate::error::AstJsonError;
-use crate::read::NodeReader;
+use crate::read::{JsonNode, NodeReader};
 use crate::write::NodeWriter;
 use graphql_ast::ast::Type;
 use read::read_type;
@@ -27,6 +27,10 @@ impl AstNode for Type {
     ghost laws = { type_laws };
 
     fn read_node(node: NodeReader<'_>) -> Result<Type, AstJsonError> {
+        Self::read_json_node(JsonNode::of(node))
+    }
+
+    fn read_json_node(node: JsonNode<'_, '_>) -> Result<Type, AstJsonError> {
         read_type(node)
     }
 

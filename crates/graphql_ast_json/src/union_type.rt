@@ -7,7 +7,7 @@ ghost use Rattle.graphql_ast_json.specs.lemmas.TypeSystemNodes.{union_type_defin
 use crate::ast_json::AstNode;
 use crate::error::AstJsonError;
 use crate::form::NamedTypeForm;
-use crate::read::NodeReader;
+use crate::read::{JsonNode, NodeReader};
 use crate::write::NodeWriter;
 use graphql_ast::ast::{UnionTypeDefinition, UnionTypeExtension};
 use graphql_ast::name::Name;
@@ -25,6 +25,10 @@ impl AstNode for UnionTypeDefinition {
     ghost laws = { union_type_definition_laws };
 
     fn read_node(node: NodeReader<'_>) -> Result<UnionTypeDefinition, AstJsonError> {
+        Self::read_json_node(JsonNode::of(node))
+    }
+
+    fn read_json_node(node: JsonNode<'_, '_>) -> Result<UnionTypeDefinition, AstJsonError> {
         node.check(
             "UnionTypeDefinition",
             &["description", "name", "directives", "types"],
@@ -57,6 +61,10 @@ impl AstNode for UnionTypeExtension {
     ghost laws = { union_type_extension_laws };
 
     fn read_node(node: NodeReader<'_>) -> Result<UnionTypeExtension, AstJsonError> {
+        Self::read_json_node(JsonNode::of(node))
+    }
+
+    fn read_json_node(node: JsonNode<'_, '_>) -> Result<UnionTypeExtension, AstJsonError> {
         node.check("UnionTypeExtension", &["name", "directives", "types"])?;
         Ok(UnionTypeExtension {
             name: node.member::<Name>("name")?,

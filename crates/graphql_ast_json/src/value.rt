@@ -9,7 +9,7 @@ pub(crate) mod write;
 
 use crate::ast_json::AstNode;
 use crate::error::AstJsonError;
-use crate::read::NodeReader;
+use crate::read::{JsonNode, NodeReader};
 use crate::write::NodeWriter;
 use graphql_ast::ast::Value;
 use read::read_value;
@@ -27,6 +27,10 @@ impl AstNode for Value {
     ghost laws = { value_laws };
 
     fn read_node(node: NodeReader<'_>) -> Result<Value, AstJsonError> {
+        Self::read_json_node(JsonNode::of(node))
+    }
+
+    fn read_json_node(node: JsonNode<'_, '_>) -> Result<Value, AstJsonError> {
         read_value(node)
     }
 

@@ -7,7 +7,7 @@ ghost use Rattle.graphql_ast_json.specs.lemmas.ExecutableNodes.{variable_definit
 use crate::ast_json::AstNode;
 use crate::error::AstJsonError;
 use crate::form::VariableForm;
-use crate::read::NodeReader;
+use crate::read::{JsonNode, NodeReader};
 use crate::write::NodeWriter;
 use graphql_ast::ast::{Type, Value, VariableDefinition};
 use graphql_base::node::{Node, NodeStr};
@@ -24,6 +24,10 @@ impl AstNode for VariableDefinition {
     ghost laws = { variable_definition_laws };
 
     fn read_node(node: NodeReader<'_>) -> Result<VariableDefinition, AstJsonError> {
+        Self::read_json_node(JsonNode::of(node))
+    }
+
+    fn read_json_node(node: JsonNode<'_, '_>) -> Result<VariableDefinition, AstJsonError> {
         node.check(
             "VariableDefinition",
             &[

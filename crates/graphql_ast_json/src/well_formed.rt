@@ -4,6 +4,7 @@ ghost use Rattle.serde_json.specs.Data.{Data};
 ghost use Rattle.serde_json.specs.Read.{read};
 ghost use Rattle.graphql_text.specs.kinds.Flaws.{first_flaw};
 ghost use Rattle.graphql_ast_json.specs.code.Errors.{IsMemory};
+ghost use Rattle.graphql_ast_json.specs.code.JsonNodes.{IsFromNone, IsReadFrom, node_data};
 ghost use Rattle.graphql_ast_json.specs.code.NodeReading.{IsInFile, IsOfNone, IsReadAs, node_json};
 ghost use Rattle.graphql_ast_json.specs.code.WellFormed.{IfIllFormed, IfNotRead};
 ghost use Rattle.graphql_ast_json.specs.declared.read.Unknown.TheVariants.{Refuse};
@@ -12,12 +13,14 @@ mod search;
 
 use crate::ast_json::AstJson;
 use crate::error::{AstJsonError, JsonPath, NodePlace};
+use crate::parse::parse_json;
 use crate::read::text::read_json;
-use crate::read::{NodeReader, Unknown};
+use crate::read::{JsonNode, NodeReader, Unknown};
 use graphql_ast::name::Name;
 use graphql_base::span::FileId;
 use graphql_text::engine::SyntaxTree;
 use graphql_text::ill_formed::{IllFormed, SideCondition};
+use json::Scratch;
 use search::position_of;
 use std::alloc::{AllocError, Global};
 use std::fmt::{self, Display, Formatter, Write};
@@ -123,7 +126,26 @@ pub fn read_well_formed_ast_json<T: AstJson + SyntaxTree + Drop>(
         × IsReadAs T.is_json_of node.entry (T.AstJson.tree value)
         × (first_flaw (T.kind.flaws (T.SyntaxTree.tree value)) ≡ Some flaw))) }
 {
-    let tree = match T::read_ast_json(node) {
+    read_well_formed_json(JsonNode::of(node))
+}
+
+/// The same of JSON in either form.
+pub fn read_well_formed_json<T: AstJson + SyntaxTree + Drop>(
+    node: JsonNode<'_, '_>,
+) -> Result<T, WellFormedError>
+    ensures ok { IfOk result (λ value.
+        IsReadFrom T.is_json_of node.entry (T.AstJson.tree value)) }
+    ensures stands { IfOk result (λ value. T.stands value (node_data node.entry)) }
+    ensures file { IfOk result (λ value. IsInFile node.entry.source (T.location value)) }
+    ensures well_formed { IfOk result (λ value.
+        IsTrue (T.kind.obeys (T.SyntaxTree.tree value))) }
+    ensures err { IfErr result (λ error. IfNotRead error (λ refusal.
+        ¬ IsMemory refusal → IsFromNone T.is_json_of node.entry)) }
+    ensures ill_formed { IfErr result (λ error. IfIllFormed error (λ flaw. (value : T)
+        × IsReadFrom T.is_json_of node.entry (T.AstJson.tree value)
+        × (first_flaw (T.kind.flaws (T.SyntaxTree.tree value)) ≡ Some flaw))) }
+{
+    let tree = match T::read_json(node) {
         Ok(tree) => tree,
         Err(error) => return Err(WellFormedError::NotRead(error)),
     };
@@ -153,6 +175,37 @@ pub fn read_well_formed_ast_json<T: AstJson + SyntaxTree + Drop>(
 /// }
 /// ```
 pub fn from_well_formed_ast_json_str<T: AstJson + SyntaxTree + Drop>(
+    alloc: Global,
+    text: &str,
+    source: FileId,
+) -> Result<T, WellFormedError>
+    ensures ok { IfOk result (λ value. (json : Data)
+        × (read text.now ≡ Some json) × T.is_json_of Refuse (T.AstJson.tree value) json) }
+    ensures well_formed { IfOk result (λ value.
+        IsTrue (T.kind.obeys (T.SyntaxTree.tree value))) }
+    ensures err { IfErr result (λ error. IfNotRead error (λ refusal. ¬ IsMemory refusal
+        → (json : Data) → read text.now ≡ Some json
+        → (tree : T.Tree) → ¬ T.is_json_of Refuse tree json)) }
+    ensures ill_formed { IfErr result (λ error. IfIllFormed error (λ flaw.
+        (value : T) × (json : Data)
+        × (read text.now ≡ Some json) × T.is_json_of Refuse (T.AstJson.tree value) json
+        × (first_flaw (T.kind.flaws (T.SyntaxTree.tree value)) ≡ Some flaw))) }
+{
+    let mut scratch = Scratch::new(alloc);
+    match parse_json(alloc, text, &mut scratch)? {
+        Some(value) => read_well_formed_json(JsonNode::parsed(
+            alloc,
+            &value,
+            source,
+            Unknown::Refuse,
+        )),
+        None => read_otherwise(alloc, text, source),
+    }
+}
+
+/// The same of a text that is no JSON that is parsed: it is read again, for the error.
+#[cold]
+fn read_otherwise<T: AstJson + SyntaxTree + Drop>(
     alloc: Global,
     text: &str,
     source: FileId,

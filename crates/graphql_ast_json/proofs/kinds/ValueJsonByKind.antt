@@ -13,8 +13,7 @@ use Rattle.graphql_values.specs.declared.value.Value.{Value, String as TheString
 use Rattle.graphql_values.specs.trees.Literals.{string_tree}
 use Rattle.std.proofs.lemmas.Str.{IsUtf8-string_bytes, encodes-chars}
 use Rattle.serde_json.specs.Data.{Data}
-use Rattle.serde_json.specs.View.{view, items_view}
-use Rattle.serde_json.specs.declared.value.Value as json
+use Rattle.serde_json.specs.View.{items_of}
 use Rattle.graphql_ast_json.specs.code.NodeReading.{IsStringOf}
 use Rattle.graphql_ast_json.proofs.nodes.KindTexts.{initial, initial_of}
 use Rattle.graphql_ast_json.specs.lemmas.Leaves.{IsOfKind}
@@ -67,34 +66,34 @@ only_object unknown json e none tree is = let clash : initial (value_kind tree) 
     absurd (omega arith)
 
 -- one more item
-pub more_are_values : (unknown : Unknown) (nodes : List (Node Value)) (items : List json.Value) (node : Node Value) (item : json.Value) →
-    AreValues unknown (value_trees nodes) (items_view items) → IsValue unknown (value_tree (node_value node)) (view item)
-    → AreValues unknown (value_trees (nodes ++ node ∷ [])) (items_view (items ++ item ∷ []))
+pub more_are_values : (unknown : Unknown) (nodes : List (Node Value)) (items : List Data) (node : Node Value) (item : Data) →
+    AreValues unknown (value_trees nodes) (items_of items) → IsValue unknown (value_tree (node_value node)) item
+    → AreValues unknown (value_trees (nodes ++ node ∷ [])) (items_of (items ++ item ∷ []))
 more_are_values unknown [] [] node item are is = (is, tt)
 more_are_values unknown [] (first ∷ items) node item are is = absurd are
 more_are_values unknown (first ∷ nodes) [] node item are is = absurd are
 more_are_values unknown (first ∷ nodes) (other ∷ items) node item are is = (are.0, more_are_values unknown nodes items node item are.1 is)
 
-pub more_are_fields : (unknown : Unknown) (fields : List (Name × Node Value)) (items : List json.Value) (field : Name × Node Value) (item : json.Value) →
-    AreObjectFields unknown (object_field_trees fields) (items_view items)
-    → IsNamedValue unknown (codes "ObjectField") (name_tree field.0) (IsValue unknown (value_tree (node_value field.1))) (view item)
-    → AreObjectFields unknown (object_field_trees (fields ++ field ∷ [])) (items_view (items ++ item ∷ []))
+pub more_are_fields : (unknown : Unknown) (fields : List (Name × Node Value)) (items : List Data) (field : Name × Node Value) (item : Data) →
+    AreObjectFields unknown (object_field_trees fields) (items_of items)
+    → IsNamedValue unknown (codes "ObjectField") (name_tree field.0) (IsValue unknown (value_tree (node_value field.1))) item
+    → AreObjectFields unknown (object_field_trees (fields ++ field ∷ [])) (items_of (items ++ item ∷ []))
 more_are_fields unknown [] [] field item are is = (is, tt)
 more_are_fields unknown [] (first ∷ items) field item are is = absurd are
 more_are_fields unknown (first ∷ fields) [] field item are is = absurd are
 more_are_fields unknown (first ∷ fields) (other ∷ items) field item are is = (are.0, more_are_fields unknown fields items field item are.1 is)
 
 -- each item is a value, so where one is none, they are no values
-pub none_at : (unknown : Unknown) (items : List json.Value) (i : ℕ) (item : json.Value) → i < length items →
-    ((tree : ValueTree) → IsValue unknown tree (view (get_or items i item)) → ⊥) → (trees : ValueTrees) → AreValues unknown trees (items_view items) → ⊥
+pub none_at : (unknown : Unknown) (items : List Data) (i : ℕ) (item : Data) → i < length items →
+    ((tree : ValueTree) → IsValue unknown tree (get_or items i item) → ⊥) → (trees : ValueTrees) → AreValues unknown trees (items_of items) → ⊥
 none_at unknown [] i item lt none trees are = absurd (omega arith)
 none_at unknown (first ∷ items) i item lt none no_values are = are
 none_at unknown (first ∷ items) zero item lt none (more_values tree trees) are = none tree are.0
 none_at unknown (first ∷ items) (suc i) item lt none (more_values tree trees) are = none_at unknown items i item (omega arith) none trees are.1
 
-pub no_field_at : (unknown : Unknown) (items : List json.Value) (i : ℕ) (item : json.Value) → i < length items
-    → ((name : NameText) → (tree : ValueTree) → IsNamedValue unknown (codes "ObjectField") name (IsValue unknown tree) (view (get_or items i item)) → ⊥)
-    → (trees : ObjectFieldTrees) → AreObjectFields unknown trees (items_view items) → ⊥
+pub no_field_at : (unknown : Unknown) (items : List Data) (i : ℕ) (item : Data) → i < length items
+    → ((name : NameText) → (tree : ValueTree) → IsNamedValue unknown (codes "ObjectField") name (IsValue unknown tree) (get_or items i item) → ⊥)
+    → (trees : ObjectFieldTrees) → AreObjectFields unknown trees (items_of items) → ⊥
 no_field_at unknown [] i item lt none trees are = absurd (omega arith)
 no_field_at unknown (first ∷ items) i item lt none no_fields are = are
 no_field_at unknown (first ∷ items) zero item lt none (more_fields name tree trees) are = none name tree are.0

@@ -1,10 +1,10 @@
 -- What stands inside of JSON nests less deep than the JSON.
-use Rattle.std.proofs.Common.{ℕ, zero, suc, ◌<◌, ◌≤◌, List, [], ◌∷◌, length, get_or, Option, Some, None, IfSome, Ordering, Less, Equal, Greater, arith}
+use Rattle.std.proofs.Common.{◌≡◌, ℕ, zero, suc, ◌<◌, ◌≤◌, List, [], ◌∷◌, length, get_or, Option, Some, None, IfSome, sym, ap, arith}
+use Rattle.std.proofs.Common.{Ordering, Less, Equal, Greater}
 use Rattle.std.specs.Ordering.{match_ordering}
-use Rattle.serde_json.specs.Data.{Data, null, boolean, number, string, array, object, Members, no_members, member, depth, items_depth, members_depth}
-use Rattle.serde_json.specs.Find.{get, get_member}
-use Rattle.serde_json.specs.View.{view, items_view}
-use Rattle.serde_json.specs.declared.value.Value.{Value}
+use Rattle.serde_json.specs.Data.{Data, null, boolean, number, string, array, object, Items, Members, no_members, member, depth, items_depth, members_depth}
+use Rattle.serde_json.specs.Find.{as_array, get, get_member}
+use Rattle.serde_json.specs.View.{items_of}
 
 abbrev Within : ℕ → Option Data → Type 0
 Within n found = IfSome found (λ json. depth json ≤ n)
@@ -37,7 +37,16 @@ get-depth name (array items) = tt
 get-depth name (object members) = less (get_member name members) _ (get_member-depth name members)
 
 -- an item is no deeper than the items
-pub item-depth : (items : List Value) (i : ℕ) (other : Value) → i < length items → depth (view (get_or items i other)) ≤ items_depth (items_view items)
+pub item-depth : (items : List Data) (i : ℕ) (other : Data) → i < length items → depth (get_or items i other) ≤ items_depth (items_of items)
 item-depth [] i other h = absurd (omega arith)
 item-depth (first ∷ more) zero other h = omega arith
 item-depth (first ∷ more) (suc i) other h = omega (arith, item-depth more i other (omega arith))
+
+-- an array is one deeper than its items
+pub array-depth : (json : Data) (items : Items) → Some items ≡ as_array json → depth json ≡ suc (items_depth items)
+array-depth (array more) items is = let same : items ≡ more = cc in ap (λ them. suc (items_depth them)) (sym same)
+array-depth null items is = cc
+array-depth (boolean b) items is = cc
+array-depth (number n) items is = cc
+array-depth (string s) items is = cc
+array-depth (object them) items is = cc

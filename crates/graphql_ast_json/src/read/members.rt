@@ -2,39 +2,29 @@
 ghost use Rattle.std.specs.Prelude.{◌≡◌, ◌<◌, ◌+◌, ℕ, Bool, List, Option, IfOk, IfErr, IsSomeAnd, Some, None, map, option_map, option_and_then};
 ghost use Rattle.serde_json.specs.Data.{depth, items_depth, string};
 ghost use Rattle.serde_json.specs.Find.{as_array};
-ghost use Rattle.serde_json.specs.View.{view, items_view};
 ghost use Rattle.graphql_values.specs.kinds.Directives.{DirectiveTree};
 ghost use Rattle.graphql_values.specs.trees.DirectiveTrees.{directive_trees};
+ghost use Rattle.graphql_ast_json.specs.code.AnyJson.{any_data, items_data};
 ghost use Rattle.graphql_ast_json.specs.code.Errors.{IsMemory};
-ghost use Rattle.graphql_ast_json.specs.code.NodeReading.{IsTextNode, node_json};
+ghost use Rattle.graphql_ast_json.specs.code.JsonNodes.{node_data};
+ghost use Rattle.graphql_ast_json.specs.code.NodeReading.{IsTextNode};
 ghost use Rattle.graphql_ast_json.specs.kinds.DirectiveJson.{HasDirectives};
 ghost use Rattle.graphql_ast_json.specs.nodes.Nodes.{Each, IsFlag, IsLocated, IsOptional, ListMember, Member, OptionalListMember, items_or_none, member_of};
 
+use crate::any_json::{AnyItems, AnyJson};
 use crate::error::{AstJsonError, AstJsonProblem, JsonType};
 use crate::form::Form;
-use crate::read::{NodeReader, member};
+use crate::read::{JsonNode, member};
 use graphql_base::node::Node;
 use graphql_base::span::SourceSpan;
 use graphql_values::directive::Directive;
 use graphql_values::directive_list::DirectiveList;
-use serde_json::Value as Json;
 use std::alloc::AllocError;
 
 /// The greatest offset of a location.
 pub(crate) const MAX_OFFSET: u64 = 4294967295;
 
-fn type_of(json: &Json) -> JsonType {
-    match json {
-        Json::Null => JsonType::Null,
-        Json::Bool(_) => JsonType::Boolean,
-        Json::Number(_) => JsonType::Number,
-        Json::String(_) => JsonType::Text,
-        Json::Array(_) => JsonType::Array,
-        Json::Object(_) => JsonType::Object,
-    }
-}
-
-impl<'j> NodeReader<'j> {
+impl<'j, 't> JsonNode<'j, 't> {
     /// Where the node tells that it stands, for an error.
     pub(crate) fn place(self) -> Option<SourceSpan> {
         let location = self.json.get("loc")?;
@@ -50,8 +40,8 @@ impl<'j> NodeReader<'j> {
     /// The kind that the node tells, for an error.
     pub(crate) fn kind(self) -> &'j str {
         match self.json.get("kind") {
-            Some(Json::String(kind)) => kind.as_str(),
-            _ => "node",
+            Some(kind) => kind.as_str().unwrap_or("node"),
+            None => "node",
         }
     }
 
@@ -69,8 +59,8 @@ impl<'j> NodeReader<'j> {
     }
 
     /// The error of JSON that is of another type than the one that is wanted.
-    pub(crate) fn wrong_type(self, json: &Json, wanted: JsonType) -> AstJsonError {
-        let found = type_of(json);
+    pub(crate) fn wrong_type(self, json: AnyJson<'_, '_>, wanted: JsonType) -> AstJsonError {
+        let found = json.type_of();
         self.problem(AstJsonProblem::WrongType { found, wanted })
     }
 
@@ -108,12 +98,12 @@ impl<'j> NodeReader<'j> {
     }
 
     /// The JSON of the member of this name, which the node must have.
-    pub(crate) fn required(self, name: &str) -> Result<&'j Json, AstJsonError>
+    pub(crate) fn required(self, name: &str) -> Result<AnyJson<'j, 't>, AstJsonError>
         ensures ok { IfOk result (λ v.
-            member_of name.now (node_json self.entry) ≡ Some (view v.now)) }
-        ensures inside { IfOk result (λ v. depth (view v.now) < depth (node_json self.entry)) }
+            member_of name.now (node_data self.entry) ≡ Some (any_data v)) }
+        ensures inside { IfOk result (λ v. depth (any_data v) < depth (node_data self.entry)) }
         ensures err { IfErr result (λ error. ¬ IsMemory error
-            → member_of name.now (node_json self.entry) ≡ None) }
+            → member_of name.now (node_data self.entry) ≡ None) }
     {
         match member(self.json, name) {
             Some(member) => Ok(member),
@@ -124,9 +114,9 @@ impl<'j> NodeReader<'j> {
     /// The text that the member of this name is.
     pub(crate) fn text(self, name: &str) -> Result<&'j str, AstJsonError>
         ensures ok { IfOk result (λ text.
-            member_of name.now (node_json self.entry) ≡ Some (string text.now)) }
+            member_of name.now (node_data self.entry) ≡ Some (string text.now)) }
         ensures err { IfErr result (λ error. ¬ IsMemory error
-            → (text : List ℕ) → ¬ (member_of name.now (node_json self.entry)
+            → (text : List ℕ) → ¬ (member_of name.now (node_data self.entry)
             ≡ Some (string text))) }
     {
         match member(self.json, name) {
@@ -140,12 +130,12 @@ impl<'j> NodeReader<'j> {
 
     /// The text of a node of this kind that has one.
     pub(crate) fn text_of_kind(self, kind: &str) -> Result<&'j str, AstJsonError>
-        requires { IsLocated self.unknown (node_json self) }
+        requires { IsLocated self.unknown (node_data self) }
         ensures ok { IfOk result (λ text.
-            IsTextNode self.entry.unknown kind.now text.now (node_json self.entry)) }
+            IsTextNode self.entry.unknown kind.now text.now (node_data self.entry)) }
         ensures err { IfErr result (λ error. ¬ IsMemory error
             → (text : List ℕ) → ¬ IsTextNode self.entry.unknown kind.now text
-            (node_json self.entry)) }
+            (node_data self.entry)) }
     {
         self.check(kind, &["value"])?;
         self.text("value")
@@ -154,59 +144,64 @@ impl<'j> NodeReader<'j> {
     /// Whether the member of this name is true. One that isn't there is false.
     pub(crate) fn flag(self, name: &str) -> Result<bool, AstJsonError>
         ensures ok { IfOk result (λ is_so.
-            IsFlag is_so (member_of name.now (node_json self.entry))) }
+            IsFlag is_so (member_of name.now (node_data self.entry))) }
         ensures err { IfErr result (λ error. ¬ IsMemory error
-            → (is_so : Bool) → ¬ IsFlag is_so (member_of name.now (node_json self.entry))) }
+            → (is_so : Bool) → ¬ IsFlag is_so (member_of name.now (node_data self.entry))) }
     {
         match member(self.json, name) {
             None => Ok(false),
-            Some(Json::Bool(is_so)) => Ok(*is_so),
-            Some(member) => Err(self.within(name, self.wrong_type(member, JsonType::Boolean))),
+            Some(member) => match member.as_bool() {
+                Some(is_so) => Ok(is_so),
+                None => Err(self.within(name, self.wrong_type(member, JsonType::Boolean))),
+            },
         }
     }
 
     /// The items of the array that the member of this name is.
-    pub(crate) fn items(self, name: &str) -> Result<&'j [Json], AstJsonError>
+    pub(crate) fn items(self, name: &str) -> Result<AnyItems<'j, 't>, AstJsonError>
         ensures ok { IfOk result (λ items. option_and_then as_array
-            (member_of name.now (node_json self.entry)) ≡ Some (items_view items.now)) }
+            (member_of name.now (node_data self.entry)) ≡ Some (items_data items)) }
         ensures inside { IfOk result (λ items.
-            items_depth (items_view items.now) + 1 < depth (node_json self.entry)) }
+            items_depth (items_data items) + 1 < depth (node_data self.entry)) }
         ensures err { IfErr result (λ error. ¬ IsMemory error
-            → option_and_then as_array (member_of name.now (node_json self.entry)) ≡ None) }
+            → option_and_then as_array (member_of name.now (node_data self.entry)) ≡ None) }
     {
         let member = self.required(name)?;
-        match member {
-            Json::Array(items) => Ok(items.as_slice()),
-            _ => Err(self.within(name, self.wrong_type(member, JsonType::Array))),
+        match member.as_items() {
+            Some(items) => Ok(items),
+            None => Err(self.within(name, self.wrong_type(member, JsonType::Array))),
         }
     }
 
     /// The same, and none where the member is not there.
-    fn optional_items(self, name: &str) -> Result<&'j [Json], AstJsonError>
+    fn optional_items(self, name: &str) -> Result<AnyItems<'j, 't>, AstJsonError>
         ensures ok { IfOk result (λ items.
-            items_or_none (member_of name.now (node_json self.entry)) ≡ Some
-            (items_view items.now)) }
+            items_or_none (member_of name.now (node_data self.entry)) ≡ Some
+            (items_data items)) }
         ensures err { IfErr result (λ error. ¬ IsMemory error
-            → items_or_none (member_of name.now (node_json self.entry)) ≡ None) }
+            → items_or_none (member_of name.now (node_data self.entry)) ≡ None) }
     {
         match member(self.json, name) {
-            None => Ok(&[]),
-            Some(Json::Array(items)) => Ok(items.as_slice()),
-            Some(member) => Err(self.within(name, self.wrong_type(member, JsonType::Array))),
+            None => Ok(AnyItems::None),
+            Some(member) => match member.as_items() {
+                Some(items) => Ok(items),
+                None => Err(self.within(name, self.wrong_type(member, JsonType::Array))),
+            },
         }
     }
 
     /// The trees that these items are of, one by one.
-    fn trees<F: Form>(self, items: &[Json]) -> Result<Vec<F::Value>, AstJsonError>
+    fn trees<F: Form>(self, items: AnyItems<'j, 't>) -> Result<Vec<F::Value>, AstJsonError>
         ensures ok { IfOk result (λ values.
             Each (F.is_json_of self.entry.unknown) (map F.tree values.items)
-            (items_view items.now)) }
+            (items_data items.entry)) }
         ensures err { IfErr result (λ error. ¬ IsMemory error → (trees : List F.Tree)
-            → ¬ Each (F.is_json_of self.entry.unknown) trees (items_view items.now)) }
+            → ¬ Each (F.is_json_of self.entry.unknown) trees (items_data items.entry)) }
     {
         let mut values = Vec::with_capacity(self.alloc, items.len())?;
-        for (index, json) in items.iter().enumerate() {
-            match F::read(NodeReader { json, ..self }) {
+        for index in 0..items.len() {
+            let json = items.at(index);
+            match F::read(JsonNode { json, ..self }) {
                 Ok(value) => values.push(value)?,
                 Err(error) => return Err(error.in_item(self.alloc, index)),
             }
@@ -217,13 +212,13 @@ impl<'j> NodeReader<'j> {
     /// The tree that the member of this name is of, which the node must have.
     pub(crate) fn member<F: Form>(self, name: &str) -> Result<F::Value, AstJsonError>
         ensures ok { IfOk result (λ value.
-            Member name.now (node_json self.entry)
+            Member name.now (node_data self.entry)
             (F.is_json_of self.entry.unknown (F.tree value))) }
         ensures err { IfErr result (λ error. ¬ IsMemory error → (tree : F.Tree)
-            → ¬ Member name.now (node_json self.entry) (F.is_json_of self.entry.unknown tree)) }
+            → ¬ Member name.now (node_data self.entry) (F.is_json_of self.entry.unknown tree)) }
     {
         let json = self.required(name)?;
-        match F::read(NodeReader { json, ..self }) {
+        match F::read(JsonNode { json, ..self }) {
             Ok(value) => Ok(value),
             Err(error) => Err(self.within(name, error)),
         }
@@ -232,14 +227,14 @@ impl<'j> NodeReader<'j> {
     /// The tree that the member of this name is of, if the node has one.
     pub(crate) fn optional<F: Form>(self, name: &str) -> Result<Option<F::Value>, AstJsonError>
         ensures ok { IfOk result (λ value. IsOptional (F.is_json_of self.entry.unknown)
-            (option_map F.tree value) (member_of name.now (node_json self.entry))) }
+            (option_map F.tree value) (member_of name.now (node_data self.entry))) }
         ensures err { IfErr result (λ error. ¬ IsMemory error → (tree : Option F.Tree)
             → ¬ IsOptional (F.is_json_of self.entry.unknown) tree
-            (member_of name.now (node_json self.entry))) }
+            (member_of name.now (node_data self.entry))) }
     {
         match member(self.json, name) {
             None => Ok(None),
-            Some(json) => match F::read(NodeReader { json, ..self }) {
+            Some(json) => match F::read(JsonNode { json, ..self }) {
                 Ok(value) => Ok(Some(value)),
                 Err(error) => Err(self.within(name, error)),
             },
@@ -248,10 +243,10 @@ impl<'j> NodeReader<'j> {
 
     /// The trees that the items of the array are of that the member of this name is.
     pub(crate) fn required_list<F: Form>(self, name: &str) -> Result<Vec<F::Value>, AstJsonError>
-        ensures ok { IfOk result (λ values. ListMember name.now (node_json self.entry)
+        ensures ok { IfOk result (λ values. ListMember name.now (node_data self.entry)
             (Each (F.is_json_of self.entry.unknown) (map F.tree values.items))) }
         ensures err { IfErr result (λ error. ¬ IsMemory error → (trees : List F.Tree)
-            → ¬ ListMember name.now (node_json self.entry)
+            → ¬ ListMember name.now (node_data self.entry)
             (Each (F.is_json_of self.entry.unknown) trees)) }
     {
         let items = self.items(name)?;
@@ -263,10 +258,10 @@ impl<'j> NodeReader<'j> {
 
     /// The same, and none where the member is not there.
     pub(crate) fn list<F: Form>(self, name: &str) -> Result<Vec<F::Value>, AstJsonError>
-        ensures ok { IfOk result (λ values. OptionalListMember name.now (node_json self.entry)
+        ensures ok { IfOk result (λ values. OptionalListMember name.now (node_data self.entry)
             (Each (F.is_json_of self.entry.unknown) (map F.tree values.items))) }
         ensures err { IfErr result (λ error. ¬ IsMemory error → (trees : List F.Tree)
-            → ¬ OptionalListMember name.now (node_json self.entry)
+            → ¬ OptionalListMember name.now (node_data self.entry)
             (Each (F.is_json_of self.entry.unknown) trees)) }
     {
         let items = self.optional_items(name)?;
@@ -279,24 +274,24 @@ impl<'j> NodeReader<'j> {
     /// The directives of the node, which has none where it has no member `directives`.
     pub(crate) fn directives(self) -> Result<DirectiveList, AstJsonError>
         ensures ok { IfOk result (λ list.
-            HasDirectives self.entry.unknown (directive_trees list) (node_json self.entry)) }
+            HasDirectives self.entry.unknown (directive_trees list) (node_data self.entry)) }
         ensures err { IfErr result (λ error. ¬ IsMemory error → (trees : List DirectiveTree)
-            → ¬ HasDirectives self.entry.unknown trees (node_json self.entry)) }
+            → ¬ HasDirectives self.entry.unknown trees (node_data self.entry)) }
     {
         Ok(DirectiveList(self.list::<Node<Directive>>("directives")?))
     }
 
     /// The trees that the items of the array are of that the JSON is.
     pub(crate) fn array<F: Form>(self) -> Result<Vec<F::Value>, AstJsonError>
-        ensures ok { IfOk result (λ values. IsSomeAnd (as_array (node_json self.entry))
+        ensures ok { IfOk result (λ values. IsSomeAnd (as_array (node_data self.entry))
             (Each (F.is_json_of self.entry.unknown) (map F.tree values.items))) }
         ensures err { IfErr result (λ error. ¬ IsMemory error → (trees : List F.Tree)
-            → ¬ IsSomeAnd (as_array (node_json self.entry))
+            → ¬ IsSomeAnd (as_array (node_data self.entry))
             (Each (F.is_json_of self.entry.unknown) trees)) }
     {
-        match self.json {
-            Json::Array(items) => self.trees::<F>(items.as_slice()),
-            _ => Err(self.wrong_type(self.json, JsonType::Array)),
+        match self.json.as_items() {
+            Some(items) => self.trees::<F>(items),
+            None => Err(self.wrong_type(self.json, JsonType::Array)),
         }
     }
 }

@@ -1,35 +1,36 @@
 //! Selections and their sets from AST JSON.
 ghost use Rattle.std.specs.Prelude.{IfOk, IfErr};
-ghost use Rattle.serde_json.specs.View.{items_view};
 ghost use Rattle.graphql_executable.specs.code.SelectionQueries.{selection_location};
 ghost use Rattle.graphql_executable.specs.trees.ExecutableTrees.{field_tree, inline_fragment_tree, selection_tree, selection_trees};
 ghost use Rattle.graphql_executable.specs.kinds.Fields.{FieldTree};
 ghost use Rattle.graphql_executable.specs.kinds.InlineFragments.{InlineFragmentTree};
 ghost use Rattle.graphql_executable.specs.kinds.Selections.{SelectionTree, SelectionTrees};
+ghost use Rattle.graphql_ast_json.specs.code.AnyJson.{items_data};
 ghost use Rattle.graphql_ast_json.specs.code.Errors.{IsMemory};
-ghost use Rattle.graphql_ast_json.specs.code.NodeReading.{IsInFile, IsOfNone, IsReadAs, StandsAt, node_json};
+ghost use Rattle.graphql_ast_json.specs.code.JsonNodes.{node_data, IsFromNone, IsReadFrom};
+ghost use Rattle.graphql_ast_json.specs.code.NodeReading.{IsInFile, StandsAt};
 ghost use Rattle.graphql_ast_json.specs.kinds.ExecutableJson.{AreSelections, HasOptionalSetOf, HasSetOf, IsField, IsInlineFragment, IsSelection, IsSelectionSet};
 ghost use Rattle.graphql_ast_json.specs.nodes.Nodes.{IsLocated};
 
+use crate::any_json::AnyItems;
 use crate::ast_json::{AstNode, node_at};
 use crate::error::AstJsonError;
 use crate::form::NamedTypeForm;
-use crate::read::{NodeReader, member};
+use crate::read::{JsonNode, member};
 use graphql_ast::ast::{Argument, Field, FragmentSpread, InlineFragment, Selection};
 use graphql_ast::name::Name;
 use graphql_base::node::Node;
-use serde_json::Value as Json;
 
 /// The selection that a node is of, which stands where the node does.
 #[cycle(selection)]
-pub(crate) fn read_selection(node: NodeReader<'_>) -> Result<Selection, AstJsonError>
+pub(crate) fn read_selection(node: JsonNode<'_, '_>) -> Result<Selection, AstJsonError>
     ensures ok { IfOk result (λ selection.
-        IsReadAs IsSelection node.entry (selection_tree selection)) }
+        IsReadFrom IsSelection node.entry (selection_tree selection)) }
     ensures stands { IfOk result (λ selection.
-        StandsAt (selection_location selection) (node_json node.entry)) }
+        StandsAt (selection_location selection) (node_data node.entry)) }
     ensures file { IfOk result (λ selection.
         IsInFile node.entry.source (selection_location selection)) }
-    ensures err { IfErr result (λ error. ¬ IsMemory error → IsOfNone IsSelection node.entry) }
+    ensures err { IfErr result (λ error. ¬ IsMemory error → IsFromNone IsSelection node.entry) }
 {
     let location = node.location()?;
     let kind = node.text("kind")?;
@@ -39,7 +40,7 @@ pub(crate) fn read_selection(node: NodeReader<'_>) -> Result<Selection, AstJsonE
             Ok(Selection::Field(node_at(node.alloc, location, field)?))
         }
         "FragmentSpread" => {
-            let spread = FragmentSpread::read_node(node)?;
+            let spread = FragmentSpread::read_json_node(node)?;
             Ok(Selection::FragmentSpread(node_at(node.alloc, location, spread)?))
         }
         "InlineFragment" => {
@@ -52,10 +53,10 @@ pub(crate) fn read_selection(node: NodeReader<'_>) -> Result<Selection, AstJsonE
 
 /// The field that a node is of, whose location was read.
 #[cycle(selection)]
-pub(crate) fn read_field(node: NodeReader<'_>) -> Result<Field, AstJsonError>
-    requires { IsLocated node.unknown (node_json node) }
-    ensures ok { IfOk result (λ field. IsReadAs IsField node.entry (field_tree field)) }
-    ensures err { IfErr result (λ error. ¬ IsMemory error → IsOfNone IsField node.entry) }
+pub(crate) fn read_field(node: JsonNode<'_, '_>) -> Result<Field, AstJsonError>
+    requires { IsLocated node.unknown (node_data node) }
+    ensures ok { IfOk result (λ field. IsReadFrom IsField node.entry (field_tree field)) }
+    ensures err { IfErr result (λ error. ¬ IsMemory error → IsFromNone IsField node.entry) }
 {
     node.check(
         "Field",
@@ -72,11 +73,11 @@ pub(crate) fn read_field(node: NodeReader<'_>) -> Result<Field, AstJsonError>
 
 /// The inline fragment that a node is of, whose location was read.
 #[cycle(selection)]
-pub(crate) fn read_inline_fragment(node: NodeReader<'_>) -> Result<InlineFragment, AstJsonError>
-    requires { IsLocated node.unknown (node_json node) }
+pub(crate) fn read_inline_fragment(node: JsonNode<'_, '_>) -> Result<InlineFragment, AstJsonError>
+    requires { IsLocated node.unknown (node_data node) }
     ensures ok { IfOk result (λ fragment.
-        IsReadAs IsInlineFragment node.entry (inline_fragment_tree fragment)) }
-    ensures err { IfErr result (λ error. ¬ IsMemory error → IsOfNone IsInlineFragment node.entry) }
+        IsReadFrom IsInlineFragment node.entry (inline_fragment_tree fragment)) }
+    ensures err { IfErr result (λ error. ¬ IsMemory error → IsFromNone IsInlineFragment node.entry) }
 {
     node.check(
         "InlineFragment",
@@ -91,16 +92,16 @@ pub(crate) fn read_inline_fragment(node: NodeReader<'_>) -> Result<InlineFragmen
 
 /// The selections of the set that the node has, or none where it has no set.
 #[cycle(selection)]
-fn optional_set(node: NodeReader<'_>) -> Result<Vec<Selection>, AstJsonError>
+fn optional_set(node: JsonNode<'_, '_>) -> Result<Vec<Selection>, AstJsonError>
     ensures ok { IfOk result (λ set. HasOptionalSetOf node.entry.unknown
-        (AreSelections node.entry.unknown (selection_trees set.items)) (node_json node.entry)) }
+        (AreSelections node.entry.unknown (selection_trees set.items)) (node_data node.entry)) }
     ensures err { IfErr result (λ error. ¬ IsMemory error → (set : SelectionTrees)
         → ¬ HasOptionalSetOf node.entry.unknown (AreSelections node.entry.unknown set)
-        (node_json node.entry)) }
+        (node_data node.entry)) }
 {
     match member(node.json, "selectionSet") {
         None => Ok(Vec::new(node.alloc)),
-        Some(json) => match read_selection_set(NodeReader { json, ..node }) {
+        Some(json) => match read_selection_set(JsonNode { json, ..node }) {
             Ok(set) => Ok(set),
             Err(error) => Err(node.within("selectionSet", error)),
         },
@@ -109,15 +110,15 @@ fn optional_set(node: NodeReader<'_>) -> Result<Vec<Selection>, AstJsonError>
 
 /// The selections of the set that the node must have.
 #[cycle(selection)]
-fn required_set(node: NodeReader<'_>) -> Result<Vec<Selection>, AstJsonError>
+fn required_set(node: JsonNode<'_, '_>) -> Result<Vec<Selection>, AstJsonError>
     ensures ok { IfOk result (λ set. HasSetOf node.entry.unknown
-        (AreSelections node.entry.unknown (selection_trees set.items)) (node_json node.entry)) }
+        (AreSelections node.entry.unknown (selection_trees set.items)) (node_data node.entry)) }
     ensures err { IfErr result (λ error. ¬ IsMemory error → (set : SelectionTrees)
         → ¬ HasSetOf node.entry.unknown (AreSelections node.entry.unknown set)
-        (node_json node.entry)) }
+        (node_data node.entry)) }
 {
     let json = node.required("selectionSet")?;
-    match read_selection_set(NodeReader { json, ..node }) {
+    match read_selection_set(JsonNode { json, ..node }) {
         Ok(set) => Ok(set),
         Err(error) => Err(node.within("selectionSet", error)),
     }
@@ -125,10 +126,10 @@ fn required_set(node: NodeReader<'_>) -> Result<Vec<Selection>, AstJsonError>
 
 /// The selections of a set. Where the set itself stands is tested and left out.
 #[cycle(selection)]
-pub(crate) fn read_selection_set(node: NodeReader<'_>) -> Result<Vec<Selection>, AstJsonError>
+pub(crate) fn read_selection_set(node: JsonNode<'_, '_>) -> Result<Vec<Selection>, AstJsonError>
     ensures ok { IfOk result (λ set.
-        IsReadAs IsSelectionSet node.entry (selection_trees set.items)) }
-    ensures err { IfErr result (λ error. ¬ IsMemory error → IsOfNone IsSelectionSet node.entry) }
+        IsReadFrom IsSelectionSet node.entry (selection_trees set.items)) }
+    ensures err { IfErr result (λ error. ¬ IsMemory error → IsFromNone IsSelectionSet node.entry) }
 {
     node.location()?;
     node.check("SelectionSet", &["selections"])?;
@@ -140,16 +141,20 @@ pub(crate) fn read_selection_set(node: NodeReader<'_>) -> Result<Vec<Selection>,
 }
 
 #[cycle(selection)]
-fn selections(node: NodeReader<'_>, items: &[Json]) -> Result<Vec<Selection>, AstJsonError>
+fn selections(
+    node: JsonNode<'_, '_>,
+    items: AnyItems<'_, '_>,
+) -> Result<Vec<Selection>, AstJsonError>
     ensures ok { IfOk result (λ selections.
         AreSelections node.entry.unknown (selection_trees selections.items)
-        (items_view items.now)) }
+        (items_data items.entry)) }
     ensures err { IfErr result (λ error. ¬ IsMemory error → (trees : SelectionTrees)
-        → ¬ AreSelections node.entry.unknown trees (items_view items.now)) }
+        → ¬ AreSelections node.entry.unknown trees (items_data items.entry)) }
 {
     let mut selections = Vec::with_capacity(node.alloc, items.len())?;
-    for (index, json) in items.iter().enumerate() {
-        match read_selection(NodeReader { json, ..node }) {
+    for index in 0..items.len() {
+        let json = items.at(index);
+        match read_selection(JsonNode { json, ..node }) {
             Ok(selection) => selections.push(selection)?,
             Err(error) => return Err(error.in_item(node.alloc, index)),
         }

@@ -5,21 +5,21 @@ ghost use Rattle.graphql_text.specs.lexical.Literals.{NameText};
 ghost use Rattle.graphql_values.specs.kinds.TypeReferences.{TypeTree};
 ghost use Rattle.graphql_values.specs.trees.TypeTrees.{type_tree};
 ghost use Rattle.graphql_ast_json.specs.code.Errors.{IsMemory};
-ghost use Rattle.graphql_ast_json.specs.code.NodeReading.{IsOfNone, IsReadAs, node_json};
+ghost use Rattle.graphql_ast_json.specs.code.JsonNodes.{node_data, IsFromNone, IsReadFrom};
 ghost use Rattle.graphql_ast_json.specs.code.TypeReading.{IsWithoutNull};
 ghost use Rattle.graphql_ast_json.specs.kinds.TypeJson.{IsNamedType, IsTypeAround, IsTypeReference};
 ghost use Rattle.graphql_ast_json.specs.nodes.Nodes.{IsLocated};
 
 use crate::error::AstJsonError;
-use crate::read::NodeReader;
+use crate::read::JsonNode;
 use graphql_ast::ast::Type;
 use graphql_ast::name::Name;
 
 /// The name that a named type is.
-pub(crate) fn read_named_type(node: NodeReader<'_>) -> Result<Name, AstJsonError>
-    requires { IsLocated node.unknown (node_json node) }
-    ensures ok { IfOk result (λ name. IsReadAs IsNamedType node.entry (name_tree name)) }
-    ensures err { IfErr result (λ error. ¬ IsMemory error → IsOfNone IsNamedType node.entry) }
+pub(crate) fn read_named_type(node: JsonNode<'_, '_>) -> Result<Name, AstJsonError>
+    requires { IsLocated node.unknown (node_data node) }
+    ensures ok { IfOk result (λ name. IsReadFrom IsNamedType node.entry (name_tree name)) }
+    ensures err { IfErr result (λ error. ¬ IsMemory error → IsFromNone IsNamedType node.entry) }
 {
     node.check("NamedType", &["name"])?;
     node.member::<Name>("name")
@@ -27,10 +27,10 @@ pub(crate) fn read_named_type(node: NodeReader<'_>) -> Result<Name, AstJsonError
 
 /// The type reference that a node is of, whose location was read.
 #[cycle(types)]
-pub(crate) fn read_type(node: NodeReader<'_>) -> Result<Type, AstJsonError>
-    requires { IsLocated node.unknown (node_json node) }
-    ensures ok { IfOk result (λ ty. IsReadAs IsTypeReference node.entry (type_tree ty)) }
-    ensures err { IfErr result (λ error. ¬ IsMemory error → IsOfNone IsTypeReference node.entry) }
+pub(crate) fn read_type(node: JsonNode<'_, '_>) -> Result<Type, AstJsonError>
+    requires { IsLocated node.unknown (node_data node) }
+    ensures ok { IfOk result (λ ty. IsReadFrom IsTypeReference node.entry (type_tree ty)) }
+    ensures err { IfErr result (λ error. ¬ IsMemory error → IsFromNone IsTypeReference node.entry) }
 {
     let kind = node.text("kind")?;
     match kind {
@@ -46,17 +46,17 @@ pub(crate) fn read_type(node: NodeReader<'_>) -> Result<Type, AstJsonError>
 
 /// The type of the items of a list type.
 #[cycle(types)]
-fn list_item(node: NodeReader<'_>) -> Result<Type, AstJsonError>
-    requires { IsLocated node.unknown (node_json node) }
+fn list_item(node: JsonNode<'_, '_>) -> Result<Type, AstJsonError>
+    requires { IsLocated node.unknown (node_data node) }
     ensures ok { IfOk result (λ item. IsTypeAround node.entry.unknown (codes "ListType")
-        (IsTypeReference node.entry.unknown (type_tree item)) (node_json node.entry)) }
+        (IsTypeReference node.entry.unknown (type_tree item)) (node_data node.entry)) }
     ensures err { IfErr result (λ error. ¬ IsMemory error
         → (item : TypeTree) → ¬ IsTypeAround node.entry.unknown (codes "ListType")
-        (IsTypeReference node.entry.unknown item) (node_json node.entry)) }
+        (IsTypeReference node.entry.unknown item) (node_data node.entry)) }
 {
     node.check("ListType", &["type"])?;
     let json = node.required("type")?;
-    match inner_type(NodeReader { json, ..node }) {
+    match inner_type(JsonNode { json, ..node }) {
         Ok(item) => Ok(item),
         Err(error) => Err(node.within("type", error)),
     }
@@ -64,26 +64,26 @@ fn list_item(node: NodeReader<'_>) -> Result<Type, AstJsonError>
 
 /// A type in another. Where it stands is tested and left out.
 #[cycle(types)]
-fn inner_type(node: NodeReader<'_>) -> Result<Type, AstJsonError>
-    ensures ok { IfOk result (λ ty. IsReadAs IsTypeReference node.entry (type_tree ty)) }
-    ensures err { IfErr result (λ error. ¬ IsMemory error → IsOfNone IsTypeReference node.entry) }
+fn inner_type(node: JsonNode<'_, '_>) -> Result<Type, AstJsonError>
+    ensures ok { IfOk result (λ ty. IsReadFrom IsTypeReference node.entry (type_tree ty)) }
+    ensures err { IfErr result (λ error. ¬ IsMemory error → IsFromNone IsTypeReference node.entry) }
 {
     node.location()?;
     read_type(node)
 }
 
 #[cycle(types)]
-fn non_null_type(node: NodeReader<'_>) -> Result<Type, AstJsonError>
-    requires { IsLocated node.unknown (node_json node) }
+fn non_null_type(node: JsonNode<'_, '_>) -> Result<Type, AstJsonError>
+    requires { IsLocated node.unknown (node_data node) }
     ensures ok { IfOk result (λ ty. IsTypeAround node.entry.unknown (codes "NonNullType")
-        (IsWithoutNull node.entry.unknown (type_tree ty)) (node_json node.entry)) }
+        (IsWithoutNull node.entry.unknown (type_tree ty)) (node_data node.entry)) }
     ensures err { IfErr result (λ error. ¬ IsMemory error
         → (tree : TypeTree) → ¬ IsTypeAround node.entry.unknown (codes "NonNullType")
-        (IsWithoutNull node.entry.unknown tree) (node_json node.entry)) }
+        (IsWithoutNull node.entry.unknown tree) (node_data node.entry)) }
 {
     node.check("NonNullType", &["type"])?;
     let json = node.required("type")?;
-    match without_null(NodeReader { json, ..node }) {
+    match without_null(JsonNode { json, ..node }) {
         Ok(ty) => Ok(ty),
         Err(error) => Err(node.within("type", error)),
     }
@@ -91,9 +91,9 @@ fn non_null_type(node: NodeReader<'_>) -> Result<Type, AstJsonError>
 
 /// The non-null type around a type that is none itself. Where that stands is tested and left out.
 #[cycle(types)]
-fn without_null(node: NodeReader<'_>) -> Result<Type, AstJsonError>
-    ensures ok { IfOk result (λ ty. IsReadAs IsWithoutNull node.entry (type_tree ty)) }
-    ensures err { IfErr result (λ error. ¬ IsMemory error → IsOfNone IsWithoutNull node.entry) }
+fn without_null(node: JsonNode<'_, '_>) -> Result<Type, AstJsonError>
+    ensures ok { IfOk result (λ ty. IsReadFrom IsWithoutNull node.entry (type_tree ty)) }
+    ensures err { IfErr result (λ error. ¬ IsMemory error → IsFromNone IsWithoutNull node.entry) }
 {
     node.location()?;
     let kind = node.text("kind")?;

@@ -1,44 +1,45 @@
 //! Values from AST JSON.
 ghost use Rattle.std.specs.Prelude.{Bool, IfOk, IfErr, codes};
-ghost use Rattle.serde_json.specs.View.{items_view};
 ghost use Rattle.graphql_base.specs.Node.{node_location, node_value};
 ghost use Rattle.graphql_text.specs.trees.Leaves.{name_tree};
 ghost use Rattle.graphql_text.specs.lexical.Literals.{FloatText, IntText, NameText};
 ghost use Rattle.graphql_values.specs.trees.Literals.{float_tree, int_tree};
 ghost use Rattle.graphql_values.specs.kinds.Values.{ValueTree, ValueTrees, ObjectFieldTrees, variable, int_value, float_value, boolean_value, list_value, object_value};
 ghost use Rattle.graphql_values.specs.trees.ValueTrees.{value_tree, value_trees, object_field_trees};
+ghost use Rattle.graphql_ast_json.specs.code.AnyJson.{items_data};
 ghost use Rattle.graphql_ast_json.specs.code.Errors.{IsMemory};
-ghost use Rattle.graphql_ast_json.specs.code.NodeReading.{IsInFile, IsOfNone, IsReadAs, StandsAt, node_json};
+ghost use Rattle.graphql_ast_json.specs.code.JsonNodes.{node_data, IsFromNone, IsReadFrom};
+ghost use Rattle.graphql_ast_json.specs.code.NodeReading.{IsInFile, StandsAt};
 ghost use Rattle.graphql_ast_json.specs.kinds.ValueJson.{IsValue, AreValues, AreObjectFields, IsNamedValue};
 ghost use Rattle.graphql_ast_json.specs.nodes.Nodes.{IsLocated};
 
+use crate::any_json::AnyItems;
 use crate::ast_json::node_at;
 use crate::error::{AstJsonError, JsonType};
 use crate::name::name_of_kind;
-use crate::read::NodeReader;
+use crate::read::JsonNode;
 use crate::string::string_text;
 use graphql_ast::ast::{FloatValue, IntValue, Value};
 use graphql_ast::name::Name;
 use graphql_base::node::Node;
-use serde_json::Value as Json;
 
 /// The name of a variable.
-pub(crate) fn variable_name(node: NodeReader<'_>) -> Result<Name, AstJsonError>
-    requires { IsLocated node.unknown (node_json node) }
-    ensures ok { IfOk result (λ name. IsReadAs IsValue node.entry (variable (name_tree name))) }
+pub(crate) fn variable_name(node: JsonNode<'_, '_>) -> Result<Name, AstJsonError>
+    requires { IsLocated node.unknown (node_data node) }
+    ensures ok { IfOk result (λ name. IsReadFrom IsValue node.entry (variable (name_tree name))) }
     ensures err { IfErr result (λ error. ¬ IsMemory error
-        → (name : NameText) → ¬ IsReadAs IsValue node.entry (variable name)) }
+        → (name : NameText) → ¬ IsReadFrom IsValue node.entry (variable name)) }
 {
     node.check("Variable", &["name"])?;
     node.member::<Name>("name")
 }
 
 /// An integer.
-fn int(node: NodeReader<'_>) -> Result<IntValue, AstJsonError>
-    requires { IsLocated node.unknown (node_json node) }
-    ensures ok { IfOk result (λ int. IsReadAs IsValue node.entry (int_value (int_tree int))) }
+fn int(node: JsonNode<'_, '_>) -> Result<IntValue, AstJsonError>
+    requires { IsLocated node.unknown (node_data node) }
+    ensures ok { IfOk result (λ int. IsReadFrom IsValue node.entry (int_value (int_tree int))) }
     ensures err { IfErr result (λ error. ¬ IsMemory error
-        → (int : IntText) → ¬ IsReadAs IsValue node.entry (int_value int)) }
+        → (int : IntText) → ¬ IsReadFrom IsValue node.entry (int_value int)) }
 {
     let text = node.text_of_kind("IntValue")?;
     if IntValue::valid_syntax(text) {
@@ -49,12 +50,12 @@ fn int(node: NodeReader<'_>) -> Result<IntValue, AstJsonError>
 }
 
 /// A number with a fraction or an exponent.
-fn float(node: NodeReader<'_>) -> Result<FloatValue, AstJsonError>
-    requires { IsLocated node.unknown (node_json node) }
+fn float(node: JsonNode<'_, '_>) -> Result<FloatValue, AstJsonError>
+    requires { IsLocated node.unknown (node_data node) }
     ensures ok { IfOk result (λ float.
-        IsReadAs IsValue node.entry (float_value (float_tree float))) }
+        IsReadFrom IsValue node.entry (float_value (float_tree float))) }
     ensures err { IfErr result (λ error. ¬ IsMemory error
-        → (float : FloatText) → ¬ IsReadAs IsValue node.entry (float_value float)) }
+        → (float : FloatText) → ¬ IsReadFrom IsValue node.entry (float_value float)) }
 {
     let text = node.text_of_kind("FloatValue")?;
     if FloatValue::valid_syntax(text) {
@@ -65,17 +66,17 @@ fn float(node: NodeReader<'_>) -> Result<FloatValue, AstJsonError>
 }
 
 /// A boolean.
-fn boolean(node: NodeReader<'_>) -> Result<bool, AstJsonError>
-    requires { IsLocated node.unknown (node_json node) }
-    ensures ok { IfOk result (λ is_true. IsReadAs IsValue node.entry (boolean_value is_true)) }
+fn boolean(node: JsonNode<'_, '_>) -> Result<bool, AstJsonError>
+    requires { IsLocated node.unknown (node_data node) }
+    ensures ok { IfOk result (λ is_true. IsReadFrom IsValue node.entry (boolean_value is_true)) }
     ensures err { IfErr result (λ error. ¬ IsMemory error
-        → (is_true : Bool) → ¬ IsReadAs IsValue node.entry (boolean_value is_true)) }
+        → (is_true : Bool) → ¬ IsReadFrom IsValue node.entry (boolean_value is_true)) }
 {
     node.check("BooleanValue", &["value"])?;
     let value = node.required("value")?;
-    match value {
-        Json::Bool(is_true) => Ok(*is_true),
-        _ => Err(node.within("value", node.wrong_type(value, JsonType::Boolean))),
+    match value.as_bool() {
+        Some(is_true) => Ok(is_true),
+        None => Err(node.within("value", node.wrong_type(value, JsonType::Boolean))),
     }
 }
 
@@ -83,10 +84,10 @@ fn boolean(node: NodeReader<'_>) -> Result<bool, AstJsonError>
 ///
 /// `{"kind":"IntValue","value":"4"}` is of the value `4`.
 #[cycle(value)]
-pub(crate) fn read_value(node: NodeReader<'_>) -> Result<Value, AstJsonError>
-    requires { IsLocated node.unknown (node_json node) }
-    ensures ok { IfOk result (λ value. IsReadAs IsValue node.entry (value_tree value)) }
-    ensures err { IfErr result (λ error. ¬ IsMemory error → IsOfNone IsValue node.entry) }
+pub(crate) fn read_value(node: JsonNode<'_, '_>) -> Result<Value, AstJsonError>
+    requires { IsLocated node.unknown (node_data node) }
+    ensures ok { IfOk result (λ value. IsReadFrom IsValue node.entry (value_tree value)) }
+    ensures err { IfErr result (λ error. ¬ IsMemory error → IsFromNone IsValue node.entry) }
 {
     let kind = node.text("kind")?;
     match kind {
@@ -111,12 +112,12 @@ pub(crate) fn read_value(node: NodeReader<'_>) -> Result<Value, AstJsonError>
 
 /// The value as a node, at its location.
 #[cycle(value)]
-fn read_value_node(node: NodeReader<'_>) -> Result<Node<Value>, AstJsonError>
+fn read_value_node(node: JsonNode<'_, '_>) -> Result<Node<Value>, AstJsonError>
     ensures ok { IfOk result (λ value.
-        IsReadAs IsValue node.entry (value_tree (node_value value))) }
-    ensures stands { IfOk result (λ value. StandsAt (node_location value) (node_json node.entry)) }
+        IsReadFrom IsValue node.entry (value_tree (node_value value))) }
+    ensures stands { IfOk result (λ value. StandsAt (node_location value) (node_data node.entry)) }
     ensures file { IfOk result (λ value. IsInFile node.entry.source (node_location value)) }
-    ensures err { IfErr result (λ error. ¬ IsMemory error → IsOfNone IsValue node.entry) }
+    ensures err { IfErr result (λ error. ¬ IsMemory error → IsFromNone IsValue node.entry) }
 {
     let location = node.location()?;
     let value = read_value(node)?;
@@ -125,12 +126,12 @@ fn read_value_node(node: NodeReader<'_>) -> Result<Node<Value>, AstJsonError>
 
 /// The items of a list.
 #[cycle(value)]
-fn list_items(node: NodeReader<'_>) -> Result<Vec<Node<Value>>, AstJsonError>
-    requires { IsLocated node.unknown (node_json node) }
+fn list_items(node: JsonNode<'_, '_>) -> Result<Vec<Node<Value>>, AstJsonError>
+    requires { IsLocated node.unknown (node_data node) }
     ensures ok { IfOk result (λ items.
-        IsReadAs IsValue node.entry (list_value (value_trees items.items))) }
+        IsReadFrom IsValue node.entry (list_value (value_trees items.items))) }
     ensures err { IfErr result (λ error. ¬ IsMemory error
-        → (items : ValueTrees) → ¬ IsReadAs IsValue node.entry (list_value items)) }
+        → (items : ValueTrees) → ¬ IsReadFrom IsValue node.entry (list_value items)) }
 {
     node.check("ListValue", &["values"])?;
     let items = node.items("values")?;
@@ -141,15 +142,16 @@ fn list_items(node: NodeReader<'_>) -> Result<Vec<Node<Value>>, AstJsonError>
 }
 
 #[cycle(value)]
-fn values(node: NodeReader<'_>, items: &[Json]) -> Result<Vec<Node<Value>>, AstJsonError>
+fn values(node: JsonNode<'_, '_>, items: AnyItems<'_, '_>) -> Result<Vec<Node<Value>>, AstJsonError>
     ensures ok { IfOk result (λ values.
-        AreValues node.entry.unknown (value_trees values.items) (items_view items.now)) }
+        AreValues node.entry.unknown (value_trees values.items) (items_data items.entry)) }
     ensures err { IfErr result (λ error. ¬ IsMemory error
-        → (trees : ValueTrees) → ¬ AreValues node.entry.unknown trees (items_view items.now)) }
+        → (trees : ValueTrees) → ¬ AreValues node.entry.unknown trees (items_data items.entry)) }
 {
     let mut values = Vec::with_capacity(node.alloc, items.len())?;
-    for (index, json) in items.iter().enumerate() {
-        match read_value_node(NodeReader { json, ..node }) {
+    for index in 0..items.len() {
+        let json = items.at(index);
+        match read_value_node(JsonNode { json, ..node }) {
             Ok(value) => values.push(value)?,
             Err(error) => return Err(error.in_item(node.alloc, index)),
         }
@@ -159,13 +161,13 @@ fn values(node: NodeReader<'_>, items: &[Json]) -> Result<Vec<Node<Value>>, AstJ
 
 /// The fields of an object.
 #[cycle(value)]
-fn object_fields(node: NodeReader<'_>) -> Result<Vec<(Name, Node<Value>)>, AstJsonError>
-    requires { IsLocated node.unknown (node_json node) }
+fn object_fields(node: JsonNode<'_, '_>) -> Result<Vec<(Name, Node<Value>)>, AstJsonError>
+    requires { IsLocated node.unknown (node_data node) }
     ensures ok { IfOk result (λ fields.
-        IsReadAs IsValue node.entry (object_value (object_field_trees fields.items))) }
+        IsReadFrom IsValue node.entry (object_value (object_field_trees fields.items))) }
     ensures err { IfErr result (λ error. ¬ IsMemory error
         → (fields : ObjectFieldTrees)
-        → ¬ IsReadAs IsValue node.entry (object_value fields)) }
+        → ¬ IsReadFrom IsValue node.entry (object_value fields)) }
 {
     node.check("ObjectValue", &["fields"])?;
     let items = node.items("fields")?;
@@ -176,17 +178,21 @@ fn object_fields(node: NodeReader<'_>) -> Result<Vec<(Name, Node<Value>)>, AstJs
 }
 
 #[cycle(value)]
-fn fields(node: NodeReader<'_>, items: &[Json]) -> Result<Vec<(Name, Node<Value>)>, AstJsonError>
+fn fields(
+    node: JsonNode<'_, '_>,
+    items: AnyItems<'_, '_>,
+) -> Result<Vec<(Name, Node<Value>)>, AstJsonError>
     ensures ok { IfOk result (λ fields.
         AreObjectFields node.entry.unknown (object_field_trees fields.items)
-        (items_view items.now)) }
+        (items_data items.entry)) }
     ensures err { IfErr result (λ error. ¬ IsMemory error
         → (trees : ObjectFieldTrees) → ¬ AreObjectFields node.entry.unknown trees
-        (items_view items.now)) }
+        (items_data items.entry)) }
 {
     let mut fields = Vec::with_capacity(node.alloc, items.len())?;
-    for (index, json) in items.iter().enumerate() {
-        match object_field(NodeReader { json, ..node }) {
+    for index in 0..items.len() {
+        let json = items.at(index);
+        match object_field(JsonNode { json, ..node }) {
             Ok(field) => fields.push(field)?,
             Err(error) => return Err(error.in_item(node.alloc, index)),
         }
@@ -196,13 +202,13 @@ fn fields(node: NodeReader<'_>, items: &[Json]) -> Result<Vec<(Name, Node<Value>
 
 /// A field of an object. Where it stands is tested and left out.
 #[cycle(value)]
-fn object_field(node: NodeReader<'_>) -> Result<(Name, Node<Value>), AstJsonError>
+fn object_field(node: JsonNode<'_, '_>) -> Result<(Name, Node<Value>), AstJsonError>
     ensures ok { IfOk result (λ pair. IsNamedValue node.entry.unknown (codes "ObjectField")
         (name_tree pair.0) (IsValue node.entry.unknown (value_tree (node_value pair.1)))
-        (node_json node.entry)) }
+        (node_data node.entry)) }
     ensures err { IfErr result (λ error. ¬ IsMemory error
         → (name : NameText) → (value : ValueTree) → ¬ IsNamedValue node.entry.unknown
-        (codes "ObjectField") name (IsValue node.entry.unknown value) (node_json node.entry)) }
+        (codes "ObjectField") name (IsValue node.entry.unknown value) (node_data node.entry)) }
 {
     node.location()?;
     named_value(node, "ObjectField")
@@ -211,21 +217,21 @@ fn object_field(node: NodeReader<'_>) -> Result<(Name, Node<Value>), AstJsonErro
 /// The name and the value of a node of this kind that has both.
 #[cycle(value)]
 pub(crate) fn named_value(
-    node: NodeReader<'_>,
+    node: JsonNode<'_, '_>,
     kind: &str,
 ) -> Result<(Name, Node<Value>), AstJsonError>
-    requires { IsLocated node.unknown (node_json node) }
+    requires { IsLocated node.unknown (node_data node) }
     ensures ok { IfOk result (λ pair. IsNamedValue node.entry.unknown kind.now
         (name_tree pair.0) (IsValue node.entry.unknown (value_tree (node_value pair.1)))
-        (node_json node.entry)) }
+        (node_data node.entry)) }
     ensures err { IfErr result (λ error. ¬ IsMemory error
         → (name : NameText) → (value : ValueTree) → ¬ IsNamedValue node.entry.unknown
-        kind.now name (IsValue node.entry.unknown value) (node_json node.entry)) }
+        kind.now name (IsValue node.entry.unknown value) (node_data node.entry)) }
 {
     node.check(kind, &["name", "value"])?;
     let name = node.member::<Name>("name")?;
     let json = node.required("value")?;
-    match read_value_node(NodeReader { json, ..node }) {
+    match read_value_node(JsonNode { json, ..node }) {
         Ok(value) => Ok((name, value)),
         Err(error) => Err(node.within("value", error)),
     }

@@ -1,12 +1,12 @@
 //! Where in the JSON of a tree the first flaw is: one walk in the order of print.
+use crate::any_json::AnyJson;
 use crate::error::JsonPath;
-use crate::read::{NodeReader, member};
+use crate::read::{JsonNode, member};
 use graphql_base::span::SourceSpan;
 use graphql_text::ill_formed::SideCondition::{
     self, AddsSomething, HasDefinition, HasLocation, HasRootOperation, HasSelection, IsConstant,
     IsNotOn, IsNotReserved,
 };
-use serde_json::Value as Json;
 use std::alloc::AllocError;
 
 /// The words that no enum value may be.
@@ -21,7 +21,7 @@ pub(crate) struct Position {
 
 impl Position {
     /// The node itself.
-    fn of(node: NodeReader<'_>) -> Position {
+    fn of(node: JsonNode<'_, '_>) -> Position {
         Position {
             path: JsonPath::root(node.alloc),
             place: node.place(),
@@ -29,7 +29,7 @@ impl Position {
     }
 
     /// The same position, told from the node that has it in this member.
-    fn in_member(self, node: NodeReader<'_>, name: &str) -> Result<Position, AllocError> {
+    fn in_member(self, node: JsonNode<'_, '_>, name: &str) -> Result<Position, AllocError> {
         Ok(Position {
             path: self.path.in_member(node.alloc, name)?,
             place: self.place.or(node.place()),
@@ -37,7 +37,7 @@ impl Position {
     }
 
     /// The same position, told from the array that has it in this item.
-    fn in_item(self, array: NodeReader<'_>, index: usize) -> Result<Position, AllocError> {
+    fn in_item(self, array: JsonNode<'_, '_>, index: usize) -> Result<Position, AllocError> {
         Ok(Position {
             path: self.path.in_item(array.alloc, index)?,
             place: self.place,
@@ -74,34 +74,40 @@ fn parts_of(kind: &str) -> &'static [&'static str] {
 }
 
 /// Whether there is nothing in the list that the member of this name is.
-fn lacks(json: &Json, name: &str) -> bool {
+fn lacks(json: AnyJson<'_, '_>, name: &str) -> bool {
     match member(json, name) {
-        Some(Json::Array(items)) => items.is_empty(),
-        _ => true,
+        Some(found) => match found.as_items() {
+            Some(items) => items.is_empty(),
+            None => true,
+        },
+        None => true,
     }
 }
 
 /// Whether the text of the node is one of these.
-fn is_any_of(texts: &[&str], json: &Json) -> bool {
+fn is_any_of(texts: &[&str], json: AnyJson<'_, '_>) -> bool {
     match member(json, "value") {
-        Some(Json::String(text)) => texts.contains(&text.as_str()),
-        _ => false,
+        Some(found) => match found.as_str() {
+            Some(text) => texts.contains(&text),
+            None => false,
+        },
+        None => false,
     }
 }
 
 /// What is looked for: the first node that breaks this condition.
 #[derive(Clone, Copy)]
-struct Search<'j> {
-    node: NodeReader<'j>,
+struct Search<'j, 't> {
+    node: JsonNode<'j, 't>,
     condition: SideCondition,
     /// Whether only constants may stand here.
     is_constant: bool,
 }
 
-impl<'j> Search<'j> {
+impl<'j, 't> Search<'j, 't> {
     /// What breaks the condition in this node, if something does: its name within the node, and the innermost node that
     /// it is or stands in.
-    fn broken_part(self, kind: &str) -> Option<(&'static str, &'j Json)> {
+    fn broken_part(self, kind: &str) -> Option<(&'static str, AnyJson<'j, 't>)> {
         let json = self.node.json;
         let (is_broken, part) = match (self.condition, kind) {
             (HasDefinition, "Document") => (lacks(json, "definitions"), ("", json)),
@@ -143,13 +149,13 @@ impl<'j> Search<'j> {
     fn in_node(self) -> Result<Option<Position>, AllocError> {
         let kind = self.node.kind();
         if let Some((name, json)) = self.broken_part(kind) {
-            let part = Position::of(NodeReader { json, ..self.node });
+            let part = Position::of(JsonNode { json, ..self.node });
             return Ok(Some(part.in_member(self.node, name)?));
         }
         let is_constant = self.is_constant_in(kind);
         for name in parts_of(kind) {
             if let Some(json) = member(self.node.json, name) {
-                let node = NodeReader { json, ..self.node };
+                let node = JsonNode { json, ..self.node };
                 let part = Search {
                     node,
                     is_constant,
@@ -166,11 +172,12 @@ impl<'j> Search<'j> {
     /// The position in this node, or in the nodes of this array.
     #[cycle(search)]
     fn find(self) -> Result<Option<Position>, AllocError> {
-        let Json::Array(items) = self.node.json else {
+        let Some(items) = self.node.json.as_items() else {
             return self.in_node();
         };
-        for (index, json) in items.iter().enumerate() {
-            let node = NodeReader { json, ..self.node };
+        for index in 0..items.len() {
+            let json = items.at(index);
+            let node = JsonNode { json, ..self.node };
             let item = Search { node, ..self };
             if let Some(position) = item.in_node()? {
                 return Ok(Some(position.in_item(self.node, index)?));
@@ -182,7 +189,7 @@ impl<'j> Search<'j> {
 
 /// The position of the first flaw of the tree that a node is of, which breaks this condition.
 pub(crate) fn position_of(
-    node: NodeReader<'_>,
+    node: JsonNode<'_, '_>,
     condition: SideCondition,
 ) -> Result<Position, AllocError> {
     let search = Search {

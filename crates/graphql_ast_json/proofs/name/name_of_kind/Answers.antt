@@ -1,11 +1,12 @@
 use Rattle.graphql_text.specs.lexical.Literals.{NameText}
 use Rattle.graphql_ast_json.specs.code.Errors.{IsMemory}
-use Rattle.graphql_ast_json.specs.code.NodeReading.{IsTextNode, node_json}
+use Rattle.graphql_ast_json.specs.code.JsonNodes.{node_data}
+use Rattle.graphql_ast_json.specs.code.NodeReading.{IsTextNode}
 use Rattle.graphql_ast_json.proofs.general.PassedErrors.{passed}
 use Rattle.graphql_ast_json.proofs.name.name_of_kind.Goals as goal
 
 pub returns-in_err-text-clause-err : goal.returns-in_err-text-clause-err
 returns-in_err-text-clause-err c =
-    let none : ¬ IsMemory c.in_err-text.field-0.0 → (name : NameText) → ¬ IsTextNode c.args.node.unknown c.args.kind.now name.text (node_json c.args.node) =
+    let none : ¬ IsMemory c.in_err-text.field-0.0 → (name : NameText) → ¬ IsTextNode c.args.node.unknown c.args.kind.now name.text (node_data c.args.node) =
     λ m name is. c.in_err-text.ensures.err m name.text is in
     passed _ _ _ none c.from_residual.ensures.1

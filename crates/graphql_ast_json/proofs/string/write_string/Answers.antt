@@ -1,4 +1,4 @@
-use Rattle.std.proofs.Common.{◌≡◌, [], ◌∷◌, Bool, true, false, ap, codes, refl, Option, None, Some, sym, ◌∙◌, subst, MatchOption}
+use Rattle.std.proofs.Common.{[], ◌∷◌, Bool, true, false, ap, codes, refl, Option, None, Some, sym, ◌∙◌, subst, MatchOption}
 use Rattle.std.proofs.Common.{if◌then◌else◌}
 use Rattle.std.specs.Prelude.{⊤}
 use Rattle.serde_json.specs.Data.{Data, boolean, string}

@@ -3,7 +3,7 @@ use Rattle.serde_json.proofs.Views.{view-Array}
 use Rattle.serde_json.specs.Find.{as_array}
 use Rattle.serde_json.specs.View.{items_view}
 use Rattle.graphql_ast_json.specs.nodes.Nodes.{Each}
-use Rattle.graphql_ast_json.proofs.nodes.NodeLists.{one_more, take_next}
+use Rattle.graphql_ast_json.proofs.nodes.NodeLists.{one_more_written, take_next}
 use Rattle.graphql_ast_json.proofs.write.write_list.Goals as goal
 
 pub loop-value-preserved : goal.loop-value-preserved
@@ -15,7 +15,7 @@ loop-value-preserved g c = λ unknown.
     let value = c.value-item.result in
     subst₂ (λ taken jsons. Each Is (map tree taken) (items_view jsons))
     (sym (take_next values i value c.loop-value-test.true c.value-item.is)) (sym c.in_ok-push.ensures.ok)
-    (one_more Is tree (take i values) c.loop-value.list.items value c.in_ok-json.json (c.loop-value.invariant unknown) (c.in_ok-json.ensures unknown))
+    (one_more_written Is tree (take i values) c.loop-value.list.items value c.in_ok-json.json (c.loop-value.invariant unknown) (c.in_ok-json.ensures unknown))
 
 pub returns : goal.returns
 returns g c = λ unknown.

@@ -1,34 +1,18 @@
-use Rattle.graphql_type_system.specs.kinds.EnumTypes.{enum_type_extension_kind}
-use Rattle.graphql_ast_json.specs.code.Errors.{IsMemory}
-use Rattle.graphql_ast_json.specs.code.NodeReading.{node_json}
+use Rattle.std.proofs.Common.{sym, subst₂}
+use Rattle.graphql_type_system.specs.trees.TypeSystemTrees.{enum_type_extension_tree}
 use Rattle.graphql_ast_json.specs.kinds.TypeSystemJson.{IsEnumTypeExtension}
-use Rattle.graphql_ast_json.proofs.general.PassedErrors.{passed}
+use Rattle.graphql_ast_json.proofs.general.OkValues.{one_then}
+use Rattle.graphql_ast_json.proofs.general.PassedErrors.{turned}
 use Rattle.graphql_ast_json.proofs.enum_type.EnumTypeExtensionAstNode.read_node.Goals as goal
 
-pub returns-in_err-check-clause-err : goal.returns-in_err-check-clause-err
-returns-in_err-check-clause-err c =
-    let none : ¬ IsMemory c.in_err-check.field-0.0 → (tree : enum_type_extension_kind.Tree) →
-    ¬ IsEnumTypeExtension c.args.node.unknown tree (node_json c.args.node) =
-    λ m tree is. c.in_err-check.ensures.err m is.0 in
-    passed _ _ _ none c.from_residual.ensures.1
+pub returns-clause-ok : goal.returns-clause-ok
+returns-clause-ok c =
+    one_then c.read_json_node.result c.read_json_node.ensures.ok (λ value is.
+    subst₂ (λ unknown json. IsEnumTypeExtension unknown (enum_type_extension_tree value) json) c.of.ensures.unknown c.of.ensures.json is)
 
-pub returns-in_err-member-clause-err : goal.returns-in_err-member-clause-err
-returns-in_err-member-clause-err c =
-    let none : ¬ IsMemory c.in_err-member.field-0.0 → (tree : enum_type_extension_kind.Tree) →
-    ¬ IsEnumTypeExtension c.args.node.unknown tree (node_json c.args.node) =
-    λ m tree is. c.in_err-member.ensures.err m tree.name is.1.0 in
-    passed _ _ _ none c.from_residual-in_err-member.ensures.1
-
-pub returns-in_err-directives-clause-err : goal.returns-in_err-directives-clause-err
-returns-in_err-directives-clause-err c =
-    let none : ¬ IsMemory c.in_err-directives.field-0.0 → (tree : enum_type_extension_kind.Tree) →
-    ¬ IsEnumTypeExtension c.args.node.unknown tree (node_json c.args.node) =
-    λ m tree is. c.in_err-directives.ensures.err m tree.directives is.1.1 in
-    passed _ _ _ none c.from_residual-in_err-directives.ensures.1
-
-pub returns-in_err-list-clause-err : goal.returns-in_err-list-clause-err
-returns-in_err-list-clause-err c =
-    let none : ¬ IsMemory c.in_err-list.field-0.0 → (tree : enum_type_extension_kind.Tree) →
-    ¬ IsEnumTypeExtension c.args.node.unknown tree (node_json c.args.node) =
-    λ m tree is. c.in_err-list.ensures.err m tree.members is.1.2 in
-    passed _ _ _ none c.from_residual-in_err-list.ensures.1
+pub returns-clause-err : goal.returns-clause-err
+returns-clause-err c =
+    turned c.read_json_node.result _ _
+    (λ error none m tree is.
+    none m tree (subst₂ (λ unknown json. IsEnumTypeExtension unknown tree json) (sym c.of.ensures.unknown) (sym c.of.ensures.json) is))
+    c.read_json_node.ensures.err

@@ -1,12 +1,10 @@
-use Rattle.graphql_text.specs.lexical.Literals.{NameText}
-use Rattle.graphql_ast_json.specs.code.Errors.{IsMemory}
-use Rattle.graphql_ast_json.specs.code.NodeReading.{node_json}
+use Rattle.std.proofs.Common.{sym, subst₂}
 use Rattle.graphql_ast_json.specs.nodes.Nodes.{IsName}
-use Rattle.graphql_ast_json.proofs.general.PassedErrors.{passed}
+use Rattle.graphql_ast_json.proofs.general.PassedErrors.{turned}
 use Rattle.graphql_ast_json.proofs.name.NameAstJson.read_ast_json.Goals as goal
 
-pub returns-in_err-name-clause-err : goal.returns-in_err-name-clause-err
-returns-in_err-name-clause-err c =
-    let none : ¬ IsMemory c.in_err-name.field-0.0 → (name : NameText) → ¬ IsName c.args.node.unknown name (node_json c.args.node) =
-    c.in_err-name.ensures.err in
-    passed _ _ _ none c.from_residual-in_err-name.ensures.1
+pub returns-clause-err : goal.returns-clause-err
+returns-clause-err c =
+    turned c.read_json.result _ _
+    (λ error none m name is. none m name (subst₂ (λ unknown json. IsName unknown name json) (sym c.of.ensures.unknown) (sym c.of.ensures.json) is))
+    c.read_json.ensures.err

@@ -1,50 +1,57 @@
-use Rattle.std.proofs.Common.{ℕ, ◌≤◌, List, [], ◌∷◌, ◌++◌, take, Option, Some, MatchOption, IsSomeAnd, codes, sym, ap, subst, subst₂, ◌∙◌, arith}
+use Rattle.std.proofs.Common.{ℕ, ◌<◌, ◌≤◌, List, length, take, Option, Some, MatchOption, IsSomeAnd, codes, sym, ap, subst, subst₂, ◌∙◌, arith}
 use Rattle.std.proofs.lemmas.Grind.{common_steps}
-use Rattle.std.proofs.lemmas.List.{take_more}
-use Rattle.serde_json.specs.Data.{Data, depth, items_depth, no_items, string}
-use Rattle.serde_json.specs.View.{view, items_view}
-use Rattle.serde_json.specs.declared.value.Value as json
+use Rattle.std.proofs.lemmas.List.{take_all}
+use Rattle.serde_json.specs.Data.{Data, depth, items_depth, no_items, null, string}
+use Rattle.serde_json.specs.View.{items_of}
+use Rattle.graphql_ast_json.specs.code.AnyJson.{any_data, item_datas}
 use Rattle.graphql_executable.specs.trees.ExecutableTrees.{selection_trees}
 use Rattle.graphql_executable.specs.kinds.InlineFragments.{InlineFragmentTree}
 use Rattle.graphql_executable.specs.kinds.Selections.{SelectionTree}
-use Rattle.graphql_ast_json.specs.code.NodeReading.{node_json}
+use Rattle.graphql_ast_json.specs.code.JsonNodes.{node_data}
 use Rattle.graphql_ast_json.specs.code.Errors.{IsMemory}
 use Rattle.graphql_ast_json.specs.kinds.ExecutableJson.{AreSelections, IsInlineFragment, IsSelection, IsSelectionSet}
 use Rattle.graphql_ast_json.specs.lemmas.Leaves.{IsOfKind}
 use Rattle.graphql_ast_json.proofs.nodes.JsonDepths.{item-depth}
+use Rattle.graphql_ast_json.proofs.nodes.NodeLists.{take_item}
 use Rattle.graphql_ast_json.proofs.general.PassedErrors.{passed}
 use Rattle.graphql_ast_json.proofs.kinds.SelectionJsonByKind.{none_at, only_field, only_inline_fragment, selections_more}
 use Rattle.graphql_ast_json.proofs.selection.read.+selection.Goals as goal
 
 pub selections-read_selection-requires : goal.selections-read_selection-requires
 selections-read_selection-requires t c =
-    let items = c.args.items.now in
-    let item = c.index-items-index.result in
-    let deep : depth (view item) ≤ items_depth (items_view items) =
-    subst (λ (v : json.Value). depth (view v) ≤ items_depth (items_view items)) (sym c.index-items-index.is)
-    (item-depth items c.loop-index.index item c.loop-index-test.true) in
+    let items = item_datas c.args.items in
+    let within : c.loop-index.index < length items = omega (arith, c.len.ensures) in
+    let deep : depth (any_data c.at-json.result) ≤ items_depth (items_of items) =
+    subst (λ (d : Data). depth d ≤ items_depth (items_of items)) (sym c.at-json.ensures) (item-depth items c.loop-index.index null within) in
     (omega arith, tt)
 
 pub selections-returns-in-Err-clause-err : goal.selections-returns-in-Err-clause-err
 selections-returns-in-Err-clause-err t c refused =
-    none_at c.args.node.unknown c.args.items.now c.loop-index.index c.index-items-index.result c.loop-index-test.true
-    (λ tree is.
-    c.in-Err.ensures.err (λ m. refused (c.in_item.ensures m)) tree
-    (subst (λ (v : json.Value). IsSelection c.args.node.unknown tree (view v)) (sym c.index-items-index.is) is))
+    let items = item_datas c.args.items in
+    let within : c.loop-index.index < length items = omega (arith, c.len.ensures) in
+    none_at c.args.node.unknown items c.loop-index.index null within (λ tree is. c.in-Err.ensures.err (λ m. refused (c.in_item.ensures m)) tree
+    (subst (λ (d : Data). IsSelection c.args.node.unknown tree d) (sym c.at-json.ensures) is))
 
 pub selections-loop-index-preserved : goal.selections-loop-index-preserved
 selections-loop-index-preserved t c =
-    let items = c.args.items.now in
+    let items = item_datas c.args.items in
     let i = c.loop-index.index in
-    let item = c.index-items-index.result in
-    let taken = take_more items i item c.loop-index-test.true ∙ ap (λ (v : json.Value). take i items ++ v ∷ []) (sym c.index-items-index.is) in
-    subst₂ (λ selections jsons. AreSelections c.args.node.unknown (selection_trees selections) (items_view jsons)) (sym c.in_ok-push-in-Ok.ensures.items)
+    let item = any_data c.at-json.result in
+    let within : i < length items = omega (arith, c.len.ensures) in
+    let taken = take_item items i item null within c.at-json.ensures in
+    subst₂ (λ selections jsons. AreSelections c.args.node.unknown (selection_trees selections) (items_of jsons)) (sym c.in_ok-push-in-Ok.ensures.items)
     (sym taken)
     (selections_more c.args.node.unknown c.loop-index.selections.items (take i items) c.in-Ok.selection item c.loop-index.invariant c.in-Ok.ensures.ok)
 
+pub selections-returns-clause-ok : goal.selections-returns-clause-ok
+selections-returns-clause-ok t c =
+    let items = item_datas c.args.items in
+    subst (λ (ds : List Data). AreSelections c.args.node.unknown (selection_trees c.loop-index.selections.items) (items_of ds))
+    (take_all c.loop-index.index items (omega (arith, c.len.ensures))) c.loop-index.invariant
+
 pub read_selection-returns-in_err-field-in-Field-clause-err : goal.read_selection-returns-in_err-field-in-Field-clause-err
 read_selection-returns-in_err-field-in-Field-clause-err t c =
-    let json = node_json c.args.node in
+    let json = node_data c.args.node in
     let kind : IsOfKind (codes "Field") json = c.in_ok-kind.ensures.ok ∙ ap (λ (s : List ℕ). Some (string s)) c.in-Field.is in
     let none : ¬ IsMemory c.in_err-field-in-Field.field-0.0 → (tree : SelectionTree) → ¬ IsSelection c.args.node.unknown tree json =
     λ m. only_field c.args.node.unknown json kind (c.in_err-field-in-Field.ensures.err m) in
@@ -52,7 +59,7 @@ read_selection-returns-in_err-field-in-Field-clause-err t c =
 
 pub read_selection-returns-in_err-fragment-in-InlineFragment-clause-err : goal.read_selection-returns-in_err-fragment-in-InlineFragment-clause-err
 read_selection-returns-in_err-fragment-in-InlineFragment-clause-err t c =
-    let json = node_json c.args.node in
+    let json = node_data c.args.node in
     let kind : IsOfKind (codes "InlineFragment") json = c.in_ok-kind.ensures.ok ∙ ap (λ (s : List ℕ). Some (string s)) c.in-InlineFragment.is in
     let none : ¬ IsMemory c.in_err-fragment-in-InlineFragment.field-0.0 → (tree : SelectionTree) → ¬ IsSelection c.args.node.unknown tree json =
     λ m. only_inline_fragment c.args.node.unknown json kind (c.in_err-fragment-in-InlineFragment.ensures.err m) in
@@ -60,7 +67,7 @@ read_selection-returns-in_err-fragment-in-InlineFragment-clause-err t c =
 
 pub read_inline_fragment-returns-in_err-required_set-clause-err : goal.read_inline_fragment-returns-in_err-required_set-clause-err
 read_inline_fragment-returns-in_err-required_set-clause-err t c =
-    let json = node_json c.args.node in
+    let json = node_data c.args.node in
     let none : ¬ IsMemory c.in_err-required_set.field-0.0 → (fragment : InlineFragmentTree) → ¬ IsInlineFragment c.args.node.unknown fragment json =
     λ m fragment is. c.in_err-required_set.ensures.err m fragment.selections is.2 in
     passed _ _ _ none c.from_residual-in_err-required_set.ensures.1

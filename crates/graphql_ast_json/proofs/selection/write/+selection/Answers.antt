@@ -8,7 +8,7 @@ use Rattle.graphql_ast_json.proofs.general.OkValues.{both_then}
 use Rattle.graphql_ast_json.proofs.nodes.DraftsAreNodes.{begun, ended, gained, given_member, is_node, stands}
 use Rattle.graphql_ast_json.proofs.nodes.GivenMembers.{list_is}
 use Rattle.graphql_ast_json.proofs.nodes.NodeLists.{take_next}
-use Rattle.graphql_ast_json.proofs.kinds.SelectionJsonByKind.{selections_more}
+use Rattle.graphql_ast_json.proofs.kinds.SelectionJsonByKind.{selections_more_written}
 use Rattle.graphql_ast_json.proofs.trees.SelectionTrees.{field_of_parts, given_optional_set, given_set, inline_fragment_of_parts}
 use Rattle.graphql_ast_json.proofs.selection.write.+selection.Goals as goal
 
@@ -19,7 +19,7 @@ write_selections-loop-selection-preserved t c = λ unknown.
     let selection = c.selection-item.result in
     subst₂ (λ taken jsons. AreSelections unknown (selection_trees taken) (items_view jsons))
     (sym (take_next selections i selection c.loop-selection-test.true c.selection-item.is)) (sym c.in_ok-push.ensures.ok)
-    (selections_more unknown (take i selections) c.loop-selection.list.items selection c.in_ok-json.json (c.loop-selection.invariant unknown)
+    (selections_more_written unknown (take i selections) c.loop-selection.list.items selection c.in_ok-json.json (c.loop-selection.invariant unknown)
     (c.in_ok-json.ensures.ok unknown))
 
 pub write_selections-returns : goal.write_selections-returns

@@ -1,19 +1,20 @@
-use Rattle.std.proofs.Common.{◌≡◌, ℕ, ◌+◌, ◌≤◌, List, [], ◌∷◌, ◌++◌, take, Some, codes, string_bytes, sym, ap, subst, ◌∙◌, arith}
+use Rattle.std.proofs.Common.{◌≡◌, ℕ, ◌+◌, ◌<◌, ◌≤◌, List, [], ◌∷◌, ◌++◌, length, take, Some, codes, string_bytes, sym, ap, subst, ◌∙◌, arith}
 use Rattle.std.proofs.lemmas.Grind.{common_steps}
-use Rattle.std.proofs.lemmas.List.{take_all, take_more}
+use Rattle.std.proofs.lemmas.List.{take_all}
 use Rattle.graphql_base.specs.declared.name.Name.{Name}
 use Rattle.graphql_base.specs.declared.node.Node.{Node}
 use Rattle.graphql_values.specs.trees.ValueTrees.{value_trees, object_field_trees}
 use Rattle.graphql_values.specs.declared.value.Value.{Value}
 use Rattle.graphql_values.specs.kinds.Values.{ValueTree}
-use Rattle.serde_json.specs.Data.{depth, items_depth, string}
-use Rattle.serde_json.specs.View.{view, items_view}
-use Rattle.serde_json.specs.declared.value.Value as json
-use Rattle.graphql_ast_json.specs.code.NodeReading.{node_json}
+use Rattle.serde_json.specs.Data.{Data, depth, items_depth, null, string}
+use Rattle.serde_json.specs.View.{items_of}
+use Rattle.graphql_ast_json.specs.code.AnyJson.{any_data, item_datas}
+use Rattle.graphql_ast_json.specs.code.JsonNodes.{node_data}
 use Rattle.graphql_ast_json.specs.code.Errors.{IsMemory}
 use Rattle.graphql_ast_json.specs.nodes.Nodes.{member_of}
 use Rattle.graphql_ast_json.specs.kinds.ValueJson.{IsValue, AreValues, AreObjectFields, IsNamedValue}
 use Rattle.graphql_ast_json.proofs.nodes.JsonDepths.{item-depth}
+use Rattle.graphql_ast_json.proofs.nodes.NodeLists.{take_item}
 use Rattle.graphql_ast_json.proofs.general.PassedErrors.{passed}
 use Rattle.graphql_ast_json.proofs.kinds.ValueJsonByKind.{only_enum, only_string, only_float, only_int, only_boolean, only_list}
 use Rattle.graphql_ast_json.proofs.kinds.ValueJsonByKind.{only_object, more_are_values, more_are_fields, none_at, no_field_at, string_is}
@@ -21,7 +22,7 @@ use Rattle.graphql_ast_json.proofs.value.read.+value.Goals as goal
 
 pub read_value-returns-in_err-name_of_kind-in-EnumValue-clause-err : goal.read_value-returns-in_err-name_of_kind-in-EnumValue-clause-err
 read_value-returns-in_err-name_of_kind-in-EnumValue-clause-err t c =
-    let json = node_json c.args.node in
+    let json = node_data c.args.node in
     let kind : member_of (codes "kind") json ≡ Some (string (codes "EnumValue")) =
     c.in_ok-kind.ensures.ok ∙ ap (λ (s : List ℕ). Some (string s)) c.in-EnumValue.is in
     let none : ¬ IsMemory c.in_err-name_of_kind-in-EnumValue.field-0.0 → (tree : ValueTree) → ¬ IsValue c.args.node.unknown tree json =
@@ -30,7 +31,7 @@ read_value-returns-in_err-name_of_kind-in-EnumValue-clause-err t c =
 
 pub read_value-returns-in_err-text-in-StringValue-clause-err : goal.read_value-returns-in_err-text-in-StringValue-clause-err
 read_value-returns-in_err-text-in-StringValue-clause-err t c =
-    let json = node_json c.args.node in
+    let json = node_data c.args.node in
     let kind : member_of (codes "kind") json ≡ Some (string (codes "StringValue")) =
     c.in_ok-kind.ensures.ok ∙ ap (λ (s : List ℕ). Some (string s)) c.in-StringValue.is in
     let none : ¬ IsMemory c.in_err-text-in-StringValue.field-0.0 → (tree : ValueTree) → ¬ IsValue c.args.node.unknown tree json =
@@ -39,7 +40,7 @@ read_value-returns-in_err-text-in-StringValue-clause-err t c =
 
 pub read_value-returns-in_err-float-in-FloatValue-clause-err : goal.read_value-returns-in_err-float-in-FloatValue-clause-err
 read_value-returns-in_err-float-in-FloatValue-clause-err t c =
-    let json = node_json c.args.node in
+    let json = node_data c.args.node in
     let kind : member_of (codes "kind") json ≡ Some (string (codes "FloatValue")) =
     c.in_ok-kind.ensures.ok ∙ ap (λ (s : List ℕ). Some (string s)) c.in-FloatValue.is in
     let none : ¬ IsMemory c.in_err-float-in-FloatValue.field-0.0 → (tree : ValueTree) → ¬ IsValue c.args.node.unknown tree json =
@@ -48,7 +49,7 @@ read_value-returns-in_err-float-in-FloatValue-clause-err t c =
 
 pub read_value-returns-in_err-int-in-IntValue-clause-err : goal.read_value-returns-in_err-int-in-IntValue-clause-err
 read_value-returns-in_err-int-in-IntValue-clause-err t c =
-    let json = node_json c.args.node in
+    let json = node_data c.args.node in
     let kind : member_of (codes "kind") json ≡ Some (string (codes "IntValue")) =
     c.in_ok-kind.ensures.ok ∙ ap (λ (s : List ℕ). Some (string s)) c.in-IntValue.is in
     let none : ¬ IsMemory c.in_err-int-in-IntValue.field-0.0 → (tree : ValueTree) → ¬ IsValue c.args.node.unknown tree json =
@@ -57,7 +58,7 @@ read_value-returns-in_err-int-in-IntValue-clause-err t c =
 
 pub read_value-returns-in_err-boolean-in-BooleanValue-clause-err : goal.read_value-returns-in_err-boolean-in-BooleanValue-clause-err
 read_value-returns-in_err-boolean-in-BooleanValue-clause-err t c =
-    let json = node_json c.args.node in
+    let json = node_data c.args.node in
     let kind : member_of (codes "kind") json ≡ Some (string (codes "BooleanValue")) =
     c.in_ok-kind.ensures.ok ∙ ap (λ (s : List ℕ). Some (string s)) c.in-BooleanValue.is in
     let none : ¬ IsMemory c.in_err-boolean-in-BooleanValue.field-0.0 → (tree : ValueTree) → ¬ IsValue c.args.node.unknown tree json =
@@ -66,7 +67,7 @@ read_value-returns-in_err-boolean-in-BooleanValue-clause-err t c =
 
 pub read_value-returns-in_err-list_items-in-ListValue-clause-err : goal.read_value-returns-in_err-list_items-in-ListValue-clause-err
 read_value-returns-in_err-list_items-in-ListValue-clause-err t c =
-    let json = node_json c.args.node in
+    let json = node_data c.args.node in
     let kind : member_of (codes "kind") json ≡ Some (string (codes "ListValue")) =
     c.in_ok-kind.ensures.ok ∙ ap (λ (s : List ℕ). Some (string s)) c.in-ListValue.is in
     let none : ¬ IsMemory c.in_err-list_items-in-ListValue.field-0.0 → (tree : ValueTree) → ¬ IsValue c.args.node.unknown tree json =
@@ -75,7 +76,7 @@ read_value-returns-in_err-list_items-in-ListValue-clause-err t c =
 
 pub read_value-returns-in_err-object_fields-in-ObjectValue-clause-err : goal.read_value-returns-in_err-object_fields-in-ObjectValue-clause-err
 read_value-returns-in_err-object_fields-in-ObjectValue-clause-err t c =
-    let json = node_json c.args.node in
+    let json = node_data c.args.node in
     let kind : member_of (codes "kind") json ≡ Some (string (codes "ObjectValue")) =
     c.in_ok-kind.ensures.ok ∙ ap (λ (s : List ℕ). Some (string s)) c.in-ObjectValue.is in
     let none : ¬ IsMemory c.in_err-object_fields-in-ObjectValue.field-0.0 → (tree : ValueTree) → ¬ IsValue c.args.node.unknown tree json =
@@ -86,73 +87,75 @@ pub read_value-returns-in_ok-from_str-in-StringValue-clause-ok : goal.read_value
 read_value-returns-in_ok-from_str-in-StringValue-clause-ok t c =
     let text = c.in_ok-from_str-in-StringValue.field-0 in
     let same : string_bytes text ≡ c.in_ok-text-in-StringValue.text.now = grind arith in
-    string_is c.args.node.unknown text c.in_ok-text-in-StringValue.text.now (node_json c.args.node) same c.in_ok-text-in-StringValue.ensures.ok
+    string_is c.args.node.unknown text c.in_ok-text-in-StringValue.text.now (node_data c.args.node) same c.in_ok-text-in-StringValue.ensures.ok
 
 pub values-read_value_node-requires : goal.values-read_value_node-requires
 values-read_value_node-requires t c =
-    let items = c.args.items.now in
-    let item = c.index-items-index.result in
-    let deep : depth (view item) ≤ items_depth (items_view items) =
-    subst (λ (v : json.Value). depth (view v) ≤ items_depth (items_view items)) (sym c.index-items-index.is)
-    (item-depth items c.loop-index.index item c.loop-index-test.true) in
+    let items = item_datas c.args.items in
+    let within : c.loop-index.index < length items = omega (arith, c.len.ensures) in
+    let deep : depth (any_data c.at-json.result) ≤ items_depth (items_of items) =
+    subst (λ (d : Data). depth d ≤ items_depth (items_of items)) (sym c.at-json.ensures) (item-depth items c.loop-index.index null within) in
     (omega arith, tt)
 
 pub values-returns-in-Err-clause-err : goal.values-returns-in-Err-clause-err
 values-returns-in-Err-clause-err t c refused =
-    none_at c.args.node.unknown c.args.items.now c.loop-index.index c.index-items-index.result c.loop-index-test.true (λ tree is.
-    c.in-Err.ensures.err (λ m. refused (c.in_item.ensures m)) tree
-    (subst (λ (v : json.Value). IsValue c.args.node.unknown tree (view v)) (sym c.index-items-index.is) is))
+    let items = item_datas c.args.items in
+    let within : c.loop-index.index < length items = omega (arith, c.len.ensures) in
+    none_at c.args.node.unknown items c.loop-index.index null within (λ tree is. c.in-Err.ensures.err (λ m. refused (c.in_item.ensures m)) tree
+    (subst (λ (d : Data). IsValue c.args.node.unknown tree d) (sym c.at-json.ensures) is))
 
 pub values-loop-index-preserved : goal.values-loop-index-preserved
 values-loop-index-preserved t c =
-    let items = c.args.items.now in
+    let items = item_datas c.args.items in
     let i = c.loop-index.index in
-    let item = c.index-items-index.result in
+    let item = any_data c.at-json.result in
     let old = c.loop-index.values.items in
+    let within : i < length items = omega (arith, c.len.ensures) in
     let next = more_are_values c.args.node.unknown old (take i items) c.in-Ok.value item c.loop-index.invariant c.in-Ok.ensures.ok in
-    let taken = take_more items i item c.loop-index-test.true ∙ ap (λ (v : json.Value). take i items ++ v ∷ []) (sym c.index-items-index.is) in
-    subst (λ (ns : List (Node Value)). AreValues c.args.node.unknown (value_trees ns) (items_view (take (i + 1) items))) (sym c.in_ok-push-in-Ok.ensures.items)
-    (subst (λ (vs : List json.Value). AreValues c.args.node.unknown (value_trees (old ++ c.in-Ok.value ∷ [])) (items_view vs)) (sym taken) next)
+    let taken = take_item items i item null within c.at-json.ensures in
+    subst (λ (ns : List (Node Value)). AreValues c.args.node.unknown (value_trees ns) (items_of (take (i + 1) items))) (sym c.in_ok-push-in-Ok.ensures.items)
+    (subst (λ (ds : List Data). AreValues c.args.node.unknown (value_trees (old ++ c.in-Ok.value ∷ [])) (items_of ds)) (sym taken) next)
 
 pub values-returns-clause-ok : goal.values-returns-clause-ok
 values-returns-clause-ok t c =
-    let items = c.args.items.now in
-    subst (λ (vs : List json.Value). AreValues c.args.node.unknown (value_trees c.loop-index.values.items) (items_view vs))
-    (take_all c.loop-index.index items (omega arith)) c.loop-index.invariant
+    let items = item_datas c.args.items in
+    subst (λ (ds : List Data). AreValues c.args.node.unknown (value_trees c.loop-index.values.items) (items_of ds))
+    (take_all c.loop-index.index items (omega (arith, c.len.ensures))) c.loop-index.invariant
 
 pub fields-object_field-requires : goal.fields-object_field-requires
 fields-object_field-requires t c =
-    let items = c.args.items.now in
-    let item = c.index-items-index.result in
-    let deep : depth (view item) ≤ items_depth (items_view items) =
-    subst (λ (v : json.Value). depth (view v) ≤ items_depth (items_view items)) (sym c.index-items-index.is)
-    (item-depth items c.loop-index.index item c.loop-index-test.true) in
+    let items = item_datas c.args.items in
+    let within : c.loop-index.index < length items = omega (arith, c.len.ensures) in
+    let deep : depth (any_data c.at-json.result) ≤ items_depth (items_of items) =
+    subst (λ (d : Data). depth d ≤ items_depth (items_of items)) (sym c.at-json.ensures) (item-depth items c.loop-index.index null within) in
     (omega arith, tt)
 
 pub fields-returns-in-Err-clause-err : goal.fields-returns-in-Err-clause-err
 fields-returns-in-Err-clause-err t c refused =
-    no_field_at c.args.node.unknown c.args.items.now c.loop-index.index c.index-items-index.result c.loop-index-test.true (λ name tree is.
+    let items = item_datas c.args.items in
+    let within : c.loop-index.index < length items = omega (arith, c.len.ensures) in
+    no_field_at c.args.node.unknown items c.loop-index.index null within (λ name tree is.
     c.in-Err.ensures.err (λ m. refused (c.in_item.ensures m)) name tree
-    (subst (λ (v : json.Value). IsNamedValue c.args.node.unknown (codes "ObjectField") name (IsValue c.args.node.unknown tree) (view v))
-    (sym c.index-items-index.is) is))
+    (subst (λ (d : Data). IsNamedValue c.args.node.unknown (codes "ObjectField") name (IsValue c.args.node.unknown tree) d) (sym c.at-json.ensures) is))
 
 pub fields-loop-index-preserved : goal.fields-loop-index-preserved
 fields-loop-index-preserved t c =
-    let items = c.args.items.now in
+    let items = item_datas c.args.items in
     let i = c.loop-index.index in
-    let item = c.index-items-index.result in
+    let item = any_data c.at-json.result in
     let old = c.loop-index.fields.items in
+    let within : i < length items = omega (arith, c.len.ensures) in
     let next = more_are_fields c.args.node.unknown old (take i items) c.in-Ok.field item c.loop-index.invariant c.in-Ok.ensures.ok in
-    let taken = take_more items i item c.loop-index-test.true ∙ ap (λ (v : json.Value). take i items ++ v ∷ []) (sym c.index-items-index.is) in
-    subst (λ (ns : List (Name × Node Value)). AreObjectFields c.args.node.unknown (object_field_trees ns) (items_view (take (i + 1) items)))
-    (sym c.in_ok-push-in-Ok.ensures.items) (subst
-    (λ (vs : List json.Value). AreObjectFields c.args.node.unknown (object_field_trees (old ++ c.in-Ok.field ∷ [])) (items_view vs)) (sym taken) next)
+    let taken = take_item items i item null within c.at-json.ensures in
+    subst (λ (ns : List (Name × Node Value)). AreObjectFields c.args.node.unknown (object_field_trees ns) (items_of (take (i + 1) items)))
+    (sym c.in_ok-push-in-Ok.ensures.items)
+    (subst (λ (ds : List Data). AreObjectFields c.args.node.unknown (object_field_trees (old ++ c.in-Ok.field ∷ [])) (items_of ds)) (sym taken) next)
 
 pub fields-returns-clause-ok : goal.fields-returns-clause-ok
 fields-returns-clause-ok t c =
-    let items = c.args.items.now in
-    subst (λ (vs : List json.Value). AreObjectFields c.args.node.unknown (object_field_trees c.loop-index.fields.items) (items_view vs))
-    (take_all c.loop-index.index items (omega arith)) c.loop-index.invariant
+    let items = item_datas c.args.items in
+    subst (λ (ds : List Data). AreObjectFields c.args.node.unknown (object_field_trees c.loop-index.fields.items) (items_of ds))
+    (take_all c.loop-index.index items (omega (arith, c.len.ensures))) c.loop-index.invariant
 
 pub fields-returns-in_err-push-in-Ok-clause-err : goal.fields-returns-in_err-push-in-Ok-clause-err
 fields-returns-in_err-push-in-Ok-clause-err t c = grind (arith, common_steps)

@@ -1,19 +1,17 @@
-use Rattle.std.proofs.Common.{◌≡◌, ◌≤◌, suc, sym, ap, subst, ◌∙◌, arith}
-use Rattle.serde_json.proofs.Views.{view-Array}
-use Rattle.serde_json.specs.Data.{depth, items_depth}
-use Rattle.serde_json.specs.View.{view, items_view}
-use Rattle.serde_json.specs.declared.value.Value as json
-use Rattle.graphql_ast_json.specs.code.NodeReading.{node_json}
-use Rattle.graphql_ast_json.proofs.nodes.JsonDepths.{item-depth}
+use Rattle.std.proofs.Common.{◌≡◌, ◌<◌, ◌≤◌, length, suc, sym, subst, arith}
+use Rattle.serde_json.specs.Data.{Data, depth, items_depth, null}
+use Rattle.serde_json.specs.View.{items_of}
+use Rattle.graphql_ast_json.specs.code.AnyJson.{any_data, item_datas}
+use Rattle.graphql_ast_json.specs.code.JsonNodes.{node_data}
+use Rattle.graphql_ast_json.proofs.nodes.JsonDepths.{array-depth, item-depth}
 use Rattle.graphql_ast_json.proofs.well_formed.search.Search.+search.Goals as goal
 
 pub find-in_node-requires-in-loop-index : goal.find-in_node-requires-in-loop-index
 find-in_node-requires-in-loop-index t c =
-    let items = c.deref-json-items.result.now in
-    let deep : depth (view c.json-item.result) ≤ items_depth (items_view items) =
-    subst (λ (v : json.Value). depth (view v) ≤ items_depth (items_view items)) (sym c.json-item.is)
-    (item-depth items c.loop-index.index c.json-item.result c.loop-index-test.true) in
-    let whole : depth (node_json c.args.self.node) ≡ suc (items_depth (items_view items)) =
-    ap (λ (v : json.Value). depth (view v)) c.in-Array.is ∙ ap depth (view-Array c.in-Array.items)
-    ∙ ap (λ l. suc (items_depth (items_view l))) (sym c.deref-json-items.ensures.value) in
+    let items = item_datas c.in-Some.items in
+    let within : c.loop-index.index < length items = omega (arith, c.len-index-end.ensures) in
+    let deep : depth (any_data c.at-json.result) ≤ items_depth (items_of items) =
+    subst (λ (d : Data). depth d ≤ items_depth (items_of items)) (sym c.at-json.ensures) (item-depth items c.loop-index.index null within) in
+    let whole : depth (node_data c.args.self.node) ≡ suc (items_depth (items_of items)) =
+    array-depth (node_data c.args.self.node) (items_of items) c.in-Some.ensures in
     (omega arith, tt)

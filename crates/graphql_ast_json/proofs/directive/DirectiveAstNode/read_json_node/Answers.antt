@@ -1,0 +1,24 @@
+use Rattle.graphql_values.specs.kinds.Directives.{DirectiveTree}
+use Rattle.graphql_ast_json.specs.code.Errors.{IsMemory}
+use Rattle.graphql_ast_json.specs.code.JsonNodes.{node_data}
+use Rattle.graphql_ast_json.specs.kinds.DirectiveJson.{IsDirective}
+use Rattle.graphql_ast_json.proofs.general.PassedErrors.{passed}
+use Rattle.graphql_ast_json.proofs.directive.DirectiveAstNode.read_json_node.Goals as goal
+
+pub returns-in_err-check-clause-err : goal.returns-in_err-check-clause-err
+returns-in_err-check-clause-err c =
+    let none : ¬ IsMemory c.in_err-check.field-0.0 → (tree : DirectiveTree) → ¬ IsDirective c.args.node.unknown tree (node_data c.args.node) =
+    λ m tree is. c.in_err-check.ensures.err m is.0 in
+    passed _ _ _ none c.from_residual.ensures.1
+
+pub returns-in_err-member-clause-err : goal.returns-in_err-member-clause-err
+returns-in_err-member-clause-err c =
+    let none : ¬ IsMemory c.in_err-member.field-0.0 → (tree : DirectiveTree) → ¬ IsDirective c.args.node.unknown tree (node_data c.args.node) =
+    λ m tree is. c.in_err-member.ensures.err m tree.name is.1 in
+    passed _ _ _ none c.from_residual-in_err-member.ensures.1
+
+pub returns-in_err-list-clause-err : goal.returns-in_err-list-clause-err
+returns-in_err-list-clause-err c =
+    let none : ¬ IsMemory c.in_err-list.field-0.0 → (tree : DirectiveTree) → ¬ IsDirective c.args.node.unknown tree (node_data c.args.node) =
+    λ m tree is. c.in_err-list.ensures.err m tree.arguments is.2 in
+    passed _ _ _ none c.from_residual-in_err-list.ensures.1

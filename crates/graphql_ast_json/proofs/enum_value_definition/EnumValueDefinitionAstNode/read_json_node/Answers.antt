@@ -1,0 +1,34 @@
+use Rattle.graphql_type_system.specs.kinds.EnumValueDefinitions.{enum_value_definition_kind}
+use Rattle.graphql_ast_json.specs.code.Errors.{IsMemory}
+use Rattle.graphql_ast_json.specs.code.JsonNodes.{node_data}
+use Rattle.graphql_ast_json.specs.kinds.TypeSystemJson.{IsEnumValueDefinition}
+use Rattle.graphql_ast_json.proofs.general.PassedErrors.{passed}
+use Rattle.graphql_ast_json.proofs.enum_value_definition.EnumValueDefinitionAstNode.read_json_node.Goals as goal
+
+pub returns-in_err-check-clause-err : goal.returns-in_err-check-clause-err
+returns-in_err-check-clause-err c =
+    let none : ¬ IsMemory c.in_err-check.field-0.0 → (tree : enum_value_definition_kind.Tree) →
+    ¬ IsEnumValueDefinition c.args.node.unknown tree (node_data c.args.node) =
+    λ m tree is. c.in_err-check.ensures.err m is.0 in
+    passed _ _ _ none c.from_residual.ensures.1
+
+pub returns-in_err-optional-clause-err : goal.returns-in_err-optional-clause-err
+returns-in_err-optional-clause-err c =
+    let none : ¬ IsMemory c.in_err-optional.field-0.0 → (tree : enum_value_definition_kind.Tree) →
+    ¬ IsEnumValueDefinition c.args.node.unknown tree (node_data c.args.node) =
+    λ m tree is. c.in_err-optional.ensures.err m tree.description is.1 in
+    passed _ _ _ none c.from_residual-in_err-optional.ensures.1
+
+pub returns-in_err-member-clause-err : goal.returns-in_err-member-clause-err
+returns-in_err-member-clause-err c =
+    let none : ¬ IsMemory c.in_err-member.field-0.0 → (tree : enum_value_definition_kind.Tree) →
+    ¬ IsEnumValueDefinition c.args.node.unknown tree (node_data c.args.node) =
+    λ m tree is. c.in_err-member.ensures.err m tree.body.value is.2.0 in
+    passed _ _ _ none c.from_residual-in_err-member.ensures.1
+
+pub returns-in_err-directives-clause-err : goal.returns-in_err-directives-clause-err
+returns-in_err-directives-clause-err c =
+    let none : ¬ IsMemory c.in_err-directives.field-0.0 → (tree : enum_value_definition_kind.Tree) →
+    ¬ IsEnumValueDefinition c.args.node.unknown tree (node_data c.args.node) =
+    λ m tree is. c.in_err-directives.ensures.err m tree.body.directives is.2.1 in
+    passed _ _ _ none c.from_residual-in_err-directives.ensures.1

@@ -1,0 +1,24 @@
+use Rattle.graphql_executable.specs.kinds.FragmentSpreads.{FragmentSpreadTree}
+use Rattle.graphql_ast_json.specs.code.Errors.{IsMemory}
+use Rattle.graphql_ast_json.specs.code.JsonNodes.{node_data}
+use Rattle.graphql_ast_json.specs.kinds.ExecutableJson.{IsFragmentSpread}
+use Rattle.graphql_ast_json.proofs.general.PassedErrors.{passed}
+use Rattle.graphql_ast_json.proofs.fragment_spread.FragmentSpreadAstNode.read_json_node.Goals as goal
+
+pub returns-in_err-check-clause-err : goal.returns-in_err-check-clause-err
+returns-in_err-check-clause-err c =
+    let none : ¬ IsMemory c.in_err-check.field-0.0 → (tree : FragmentSpreadTree) → ¬ IsFragmentSpread c.args.node.unknown tree (node_data c.args.node) =
+    λ m tree is. c.in_err-check.ensures.err m is.0 in
+    passed _ _ _ none c.from_residual.ensures.1
+
+pub returns-in_err-member-clause-err : goal.returns-in_err-member-clause-err
+returns-in_err-member-clause-err c =
+    let none : ¬ IsMemory c.in_err-member.field-0.0 → (tree : FragmentSpreadTree) → ¬ IsFragmentSpread c.args.node.unknown tree (node_data c.args.node) =
+    λ m tree is. c.in_err-member.ensures.err m tree.name is.1 in
+    passed _ _ _ none c.from_residual-in_err-member.ensures.1
+
+pub returns-in_err-directives-clause-err : goal.returns-in_err-directives-clause-err
+returns-in_err-directives-clause-err c =
+    let none : ¬ IsMemory c.in_err-directives.field-0.0 → (tree : FragmentSpreadTree) → ¬ IsFragmentSpread c.args.node.unknown tree (node_data c.args.node) =
+    λ m tree is. c.in_err-directives.ensures.err m tree.directives is.2 in
+    passed _ _ _ none c.from_residual-in_err-directives.ensures.1

@@ -1,0 +1,41 @@
+use Rattle.graphql_type_system.specs.kinds.InputObjectTypes.{input_object_type_definition_kind}
+use Rattle.graphql_ast_json.specs.code.Errors.{IsMemory}
+use Rattle.graphql_ast_json.specs.code.JsonNodes.{node_data}
+use Rattle.graphql_ast_json.specs.kinds.TypeSystemJson.{IsInputObjectTypeDefinition}
+use Rattle.graphql_ast_json.proofs.general.PassedErrors.{passed}
+use Rattle.graphql_ast_json.proofs.input_object_type.InputObjectTypeDefinitionAstNode.read_json_node.Goals as goal
+
+pub returns-in_err-check-clause-err : goal.returns-in_err-check-clause-err
+returns-in_err-check-clause-err c =
+    let none : ¬ IsMemory c.in_err-check.field-0.0 → (tree : input_object_type_definition_kind.Tree) →
+    ¬ IsInputObjectTypeDefinition c.args.node.unknown tree (node_data c.args.node) =
+    λ m tree is. c.in_err-check.ensures.err m is.0 in
+    passed _ _ _ none c.from_residual.ensures.1
+
+pub returns-in_err-optional-clause-err : goal.returns-in_err-optional-clause-err
+returns-in_err-optional-clause-err c =
+    let none : ¬ IsMemory c.in_err-optional.field-0.0 → (tree : input_object_type_definition_kind.Tree) →
+    ¬ IsInputObjectTypeDefinition c.args.node.unknown tree (node_data c.args.node) =
+    λ m tree is. c.in_err-optional.ensures.err m tree.description is.1 in
+    passed _ _ _ none c.from_residual-in_err-optional.ensures.1
+
+pub returns-in_err-member-clause-err : goal.returns-in_err-member-clause-err
+returns-in_err-member-clause-err c =
+    let none : ¬ IsMemory c.in_err-member.field-0.0 → (tree : input_object_type_definition_kind.Tree) →
+    ¬ IsInputObjectTypeDefinition c.args.node.unknown tree (node_data c.args.node) =
+    λ m tree is. c.in_err-member.ensures.err m tree.body.name is.2.0 in
+    passed _ _ _ none c.from_residual-in_err-member.ensures.1
+
+pub returns-in_err-directives-clause-err : goal.returns-in_err-directives-clause-err
+returns-in_err-directives-clause-err c =
+    let none : ¬ IsMemory c.in_err-directives.field-0.0 → (tree : input_object_type_definition_kind.Tree) →
+    ¬ IsInputObjectTypeDefinition c.args.node.unknown tree (node_data c.args.node) =
+    λ m tree is. c.in_err-directives.ensures.err m tree.body.directives is.2.1 in
+    passed _ _ _ none c.from_residual-in_err-directives.ensures.1
+
+pub returns-in_err-list-clause-err : goal.returns-in_err-list-clause-err
+returns-in_err-list-clause-err c =
+    let none : ¬ IsMemory c.in_err-list.field-0.0 → (tree : input_object_type_definition_kind.Tree) →
+    ¬ IsInputObjectTypeDefinition c.args.node.unknown tree (node_data c.args.node) =
+    λ m tree is. c.in_err-list.ensures.err m tree.body.members is.2.2 in
+    passed _ _ _ none c.from_residual-in_err-list.ensures.1

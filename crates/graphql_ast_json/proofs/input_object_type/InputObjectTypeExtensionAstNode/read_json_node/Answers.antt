@@ -1,0 +1,34 @@
+use Rattle.graphql_type_system.specs.kinds.InputObjectTypes.{input_object_type_extension_kind}
+use Rattle.graphql_ast_json.specs.code.Errors.{IsMemory}
+use Rattle.graphql_ast_json.specs.code.JsonNodes.{node_data}
+use Rattle.graphql_ast_json.specs.kinds.TypeSystemJson.{IsInputObjectTypeExtension}
+use Rattle.graphql_ast_json.proofs.general.PassedErrors.{passed}
+use Rattle.graphql_ast_json.proofs.input_object_type.InputObjectTypeExtensionAstNode.read_json_node.Goals as goal
+
+pub returns-in_err-check-clause-err : goal.returns-in_err-check-clause-err
+returns-in_err-check-clause-err c =
+    let none : ¬ IsMemory c.in_err-check.field-0.0 → (tree : input_object_type_extension_kind.Tree) →
+    ¬ IsInputObjectTypeExtension c.args.node.unknown tree (node_data c.args.node) =
+    λ m tree is. c.in_err-check.ensures.err m is.0 in
+    passed _ _ _ none c.from_residual.ensures.1
+
+pub returns-in_err-member-clause-err : goal.returns-in_err-member-clause-err
+returns-in_err-member-clause-err c =
+    let none : ¬ IsMemory c.in_err-member.field-0.0 → (tree : input_object_type_extension_kind.Tree) →
+    ¬ IsInputObjectTypeExtension c.args.node.unknown tree (node_data c.args.node) =
+    λ m tree is. c.in_err-member.ensures.err m tree.name is.1.0 in
+    passed _ _ _ none c.from_residual-in_err-member.ensures.1
+
+pub returns-in_err-directives-clause-err : goal.returns-in_err-directives-clause-err
+returns-in_err-directives-clause-err c =
+    let none : ¬ IsMemory c.in_err-directives.field-0.0 → (tree : input_object_type_extension_kind.Tree) →
+    ¬ IsInputObjectTypeExtension c.args.node.unknown tree (node_data c.args.node) =
+    λ m tree is. c.in_err-directives.ensures.err m tree.directives is.1.1 in
+    passed _ _ _ none c.from_residual-in_err-directives.ensures.1
+
+pub returns-in_err-list-clause-err : goal.returns-in_err-list-clause-err
+returns-in_err-list-clause-err c =
+    let none : ¬ IsMemory c.in_err-list.field-0.0 → (tree : input_object_type_extension_kind.Tree) →
+    ¬ IsInputObjectTypeExtension c.args.node.unknown tree (node_data c.args.node) =
+    λ m tree is. c.in_err-list.ensures.err m tree.members is.1.2 in
+    passed _ _ _ none c.from_residual-in_err-list.ensures.1

@@ -1,0 +1,41 @@
+use Rattle.graphql_type_system.specs.kinds.ObjectTypes.{object_type_extension_kind}
+use Rattle.graphql_ast_json.specs.code.Errors.{IsMemory}
+use Rattle.graphql_ast_json.specs.code.JsonNodes.{node_data}
+use Rattle.graphql_ast_json.specs.kinds.TypeSystemJson.{IsObjectTypeExtension}
+use Rattle.graphql_ast_json.proofs.general.PassedErrors.{passed}
+use Rattle.graphql_ast_json.proofs.object_type.ObjectTypeExtensionAstNode.read_json_node.Goals as goal
+
+pub returns-in_err-check-clause-err : goal.returns-in_err-check-clause-err
+returns-in_err-check-clause-err c =
+    let none : ¬ IsMemory c.in_err-check.field-0.0 → (tree : object_type_extension_kind.Tree) →
+    ¬ IsObjectTypeExtension c.args.node.unknown tree (node_data c.args.node) =
+    λ m tree is. c.in_err-check.ensures.err m is.0 in
+    passed _ _ _ none c.from_residual.ensures.1
+
+pub returns-in_err-member-clause-err : goal.returns-in_err-member-clause-err
+returns-in_err-member-clause-err c =
+    let none : ¬ IsMemory c.in_err-member.field-0.0 → (tree : object_type_extension_kind.Tree) →
+    ¬ IsObjectTypeExtension c.args.node.unknown tree (node_data c.args.node) =
+    λ m tree is. c.in_err-member.ensures.err m tree.name is.1.0 in
+    passed _ _ _ none c.from_residual-in_err-member.ensures.1
+
+pub returns-in_err-list-clause-err : goal.returns-in_err-list-clause-err
+returns-in_err-list-clause-err c =
+    let none : ¬ IsMemory c.in_err-list.field-0.0 → (tree : object_type_extension_kind.Tree) →
+    ¬ IsObjectTypeExtension c.args.node.unknown tree (node_data c.args.node) =
+    λ m tree is. c.in_err-list.ensures.err m tree.interfaces is.1.1 in
+    passed _ _ _ none c.from_residual-in_err-list.ensures.1
+
+pub returns-in_err-directives-clause-err : goal.returns-in_err-directives-clause-err
+returns-in_err-directives-clause-err c =
+    let none : ¬ IsMemory c.in_err-directives.field-0.0 → (tree : object_type_extension_kind.Tree) →
+    ¬ IsObjectTypeExtension c.args.node.unknown tree (node_data c.args.node) =
+    λ m tree is. c.in_err-directives.ensures.err m tree.directives is.1.2 in
+    passed _ _ _ none c.from_residual-in_err-directives.ensures.1
+
+pub returns-in_err-list-2-clause-err : goal.returns-in_err-list-2-clause-err
+returns-in_err-list-2-clause-err c =
+    let none : ¬ IsMemory c.in_err-list-2.field-0.0 → (tree : object_type_extension_kind.Tree) →
+    ¬ IsObjectTypeExtension c.args.node.unknown tree (node_data c.args.node) =
+    λ m tree is. c.in_err-list-2.ensures.err m tree.fields is.1.3 in
+    passed _ _ _ none c.from_residual-in_err-list-2.ensures.1

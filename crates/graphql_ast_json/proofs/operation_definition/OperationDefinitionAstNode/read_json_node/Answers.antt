@@ -1,0 +1,55 @@
+use Rattle.graphql_executable.specs.kinds.OperationDefinitions.{operation_definition_kind}
+use Rattle.graphql_ast_json.specs.code.Errors.{IsMemory}
+use Rattle.graphql_ast_json.specs.code.JsonNodes.{node_data}
+use Rattle.graphql_ast_json.specs.kinds.ExecutableJson.{IsOperationDefinition}
+use Rattle.graphql_ast_json.proofs.general.PassedErrors.{passed}
+use Rattle.graphql_ast_json.proofs.operation_definition.OperationDefinitionAstNode.read_json_node.Goals as goal
+
+pub returns-in_err-check-clause-err : goal.returns-in_err-check-clause-err
+returns-in_err-check-clause-err c =
+    let none : ¬ IsMemory c.in_err-check.field-0.0 → (tree : operation_definition_kind.Tree) →
+    ¬ IsOperationDefinition c.args.node.unknown tree (node_data c.args.node) =
+    λ m tree is. c.in_err-check.ensures.err m is.0 in
+    passed _ _ _ none c.from_residual.ensures.1
+
+pub returns-in_err-optional-clause-err : goal.returns-in_err-optional-clause-err
+returns-in_err-optional-clause-err c =
+    let none : ¬ IsMemory c.in_err-optional.field-0.0 → (tree : operation_definition_kind.Tree) →
+    ¬ IsOperationDefinition c.args.node.unknown tree (node_data c.args.node) =
+    λ m tree is. c.in_err-optional.ensures.err m tree.description is.1 in
+    passed _ _ _ none c.from_residual-in_err-optional.ensures.1
+
+pub returns-in_err-operation_type-clause-err : goal.returns-in_err-operation_type-clause-err
+returns-in_err-operation_type-clause-err c =
+    let none : ¬ IsMemory c.in_err-operation_type.field-0.0 → (tree : operation_definition_kind.Tree) →
+    ¬ IsOperationDefinition c.args.node.unknown tree (node_data c.args.node) =
+    λ m tree is. c.in_err-operation_type.ensures.err m tree.body.operation_type is.2.0 in
+    passed _ _ _ none c.from_residual-in_err-operation_type.ensures.1
+
+pub returns-in_err-optional-2-clause-err : goal.returns-in_err-optional-2-clause-err
+returns-in_err-optional-2-clause-err c =
+    let none : ¬ IsMemory c.in_err-optional-2.field-0.0 → (tree : operation_definition_kind.Tree) →
+    ¬ IsOperationDefinition c.args.node.unknown tree (node_data c.args.node) =
+    λ m tree is. c.in_err-optional-2.ensures.err m tree.body.name is.2.1 in
+    passed _ _ _ none c.from_residual-in_err-optional-2.ensures.1
+
+pub returns-in_err-list-clause-err : goal.returns-in_err-list-clause-err
+returns-in_err-list-clause-err c =
+    let none : ¬ IsMemory c.in_err-list.field-0.0 → (tree : operation_definition_kind.Tree) →
+    ¬ IsOperationDefinition c.args.node.unknown tree (node_data c.args.node) =
+    λ m tree is. c.in_err-list.ensures.err m tree.body.variables is.2.2 in
+    passed _ _ _ none c.from_residual-in_err-list.ensures.1
+
+pub returns-in_err-directives-clause-err : goal.returns-in_err-directives-clause-err
+returns-in_err-directives-clause-err c =
+    let none : ¬ IsMemory c.in_err-directives.field-0.0 → (tree : operation_definition_kind.Tree) →
+    ¬ IsOperationDefinition c.args.node.unknown tree (node_data c.args.node) =
+    λ m tree is. c.in_err-directives.ensures.err m tree.body.directives is.2.3 in
+    passed _ _ _ none c.from_residual-in_err-directives.ensures.1
+
+pub returns-in_err-member-clause-err : goal.returns-in_err-member-clause-err
+returns-in_err-member-clause-err c =
+    let none : ¬ IsMemory c.in_err-member.field-0.0 → (tree : operation_definition_kind.Tree) →
+    ¬ IsOperationDefinition c.args.node.unknown tree (node_data c.args.node) =
+    λ m tree is. c.in_err-member.ensures.err m tree.body.selections is.2.4 in
+    passed _ _ _ none c.from_residual-in_err-member.ensures.1

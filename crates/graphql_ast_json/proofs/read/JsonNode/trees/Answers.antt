@@ -1,0 +1,37 @@
+use Rattle.std.proofs.Common.{◌<◌, List, length, take, map, sym, subst, subst₂, arith}
+use Rattle.std.proofs.lemmas.Grind.{common_steps}
+use Rattle.std.proofs.lemmas.List.{take_all}
+use Rattle.serde_json.specs.Data.{Data, null}
+use Rattle.serde_json.specs.View.{items_of}
+use Rattle.graphql_ast_json.specs.code.AnyJson.{any_data, item_datas}
+use Rattle.graphql_ast_json.specs.nodes.Nodes.{Each}
+use Rattle.graphql_ast_json.proofs.nodes.NodeLists.{one_more, none_each, take_item}
+use Rattle.graphql_ast_json.proofs.read.JsonNode.trees.Goals as goal
+
+pub returns-in-Err-clause-err : goal.returns-in-Err-clause-err
+returns-in-Err-clause-err g c refused =
+    let Is = g.F.Form.is_json_of c.args.self.unknown in
+    let items = item_datas c.args.items in
+    let within : c.loop-index.index < length items = omega (arith, c.len.ensures) in
+    none_each Is items c.loop-index.index null within
+    (λ tree is. c.in-Err.ensures.err (λ m. refused (c.in_item.ensures m)) tree (subst (λ (d : Data). Is tree d) (sym c.at-json.ensures) is))
+
+pub returns-in_err-push-in-Ok-clause-err : goal.returns-in_err-push-in-Ok-clause-err
+returns-in_err-push-in-Ok-clause-err g c = grind (arith, common_steps)
+
+pub loop-index-preserved : goal.loop-index-preserved
+loop-index-preserved g c =
+    let Is = g.F.Form.is_json_of c.args.self.unknown in
+    let tree = g.F.Form.tree in
+    let items = item_datas c.args.items in
+    let i = c.loop-index.index in
+    let within : i < length items = omega (arith, c.len.ensures) in
+    let taken = take_item items i (any_data c.at-json.result) null within c.at-json.ensures in
+    subst₂ (λ values jsons. Each Is (map tree values) (items_of jsons)) (sym c.in_ok-push-in-Ok.ensures.items) (sym taken)
+    (one_more Is tree c.loop-index.values.items (take i items) c.in-Ok.value (any_data c.at-json.result) c.loop-index.invariant c.in-Ok.ensures.ok)
+
+pub returns-clause-ok : goal.returns-clause-ok
+returns-clause-ok g c =
+    let items = item_datas c.args.items in
+    subst (λ (ds : List Data). Each (g.F.Form.is_json_of c.args.self.unknown) (map g.F.Form.tree c.loop-index.values.items) (items_of ds))
+    (take_all c.loop-index.index items (omega (arith, c.len.ensures))) c.loop-index.invariant

@@ -1,0 +1,34 @@
+use Rattle.graphql_type_system.specs.kinds.Schemas.{schema_definition_kind}
+use Rattle.graphql_ast_json.specs.code.Errors.{IsMemory}
+use Rattle.graphql_ast_json.specs.code.JsonNodes.{node_data}
+use Rattle.graphql_ast_json.specs.kinds.TypeSystemJson.{IsSchemaDefinition}
+use Rattle.graphql_ast_json.proofs.general.PassedErrors.{passed}
+use Rattle.graphql_ast_json.proofs.schema.SchemaDefinitionAstNode.read_json_node.Goals as goal
+
+pub returns-in_err-check-clause-err : goal.returns-in_err-check-clause-err
+returns-in_err-check-clause-err c =
+    let none : ¬ IsMemory c.in_err-check.field-0.0 → (tree : schema_definition_kind.Tree) →
+    ¬ IsSchemaDefinition c.args.node.unknown tree (node_data c.args.node) =
+    λ m tree is. c.in_err-check.ensures.err m is.0 in
+    passed _ _ _ none c.from_residual.ensures.1
+
+pub returns-in_err-optional-clause-err : goal.returns-in_err-optional-clause-err
+returns-in_err-optional-clause-err c =
+    let none : ¬ IsMemory c.in_err-optional.field-0.0 → (tree : schema_definition_kind.Tree) →
+    ¬ IsSchemaDefinition c.args.node.unknown tree (node_data c.args.node) =
+    λ m tree is. c.in_err-optional.ensures.err m tree.description is.1 in
+    passed _ _ _ none c.from_residual-in_err-optional.ensures.1
+
+pub returns-in_err-directives-clause-err : goal.returns-in_err-directives-clause-err
+returns-in_err-directives-clause-err c =
+    let none : ¬ IsMemory c.in_err-directives.field-0.0 → (tree : schema_definition_kind.Tree) →
+    ¬ IsSchemaDefinition c.args.node.unknown tree (node_data c.args.node) =
+    λ m tree is. c.in_err-directives.ensures.err m tree.body.directives is.2.0 in
+    passed _ _ _ none c.from_residual-in_err-directives.ensures.1
+
+pub returns-in_err-list-clause-err : goal.returns-in_err-list-clause-err
+returns-in_err-list-clause-err c =
+    let none : ¬ IsMemory c.in_err-list.field-0.0 → (tree : schema_definition_kind.Tree) →
+    ¬ IsSchemaDefinition c.args.node.unknown tree (node_data c.args.node) =
+    λ m tree is. c.in_err-list.ensures.err m tree.body.root_operations is.2.1 in
+    passed _ _ _ none c.from_residual-in_err-list.ensures.1

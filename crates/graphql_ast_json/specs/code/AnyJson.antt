@@ -1,0 +1,22 @@
+-- JSON that is read, in either form.
+use Rattle.std.specs.Prelude.{List, [], map}
+use Rattle.serde_json.specs.Data.{Data, Items}
+use Rattle.serde_json.specs.View.{items_of, view}
+use Rattle.graphql_ast_json.specs.code.ParsedJson.{parsed_data}
+use Rattle.graphql_ast_json.specs.declared.any_json.AnyJson.{AnyJson}
+use Rattle.graphql_ast_json.specs.declared.any_json.AnyJson.TheVariants as json
+use Rattle.graphql_ast_json.specs.declared.any_json.AnyItems.{AnyItems}
+use Rattle.graphql_ast_json.specs.declared.any_json.AnyItems.TheVariants as items
+
+abbrev pub any_data : AnyJson → Data
+any_data (json.Owned value) = view value.now
+any_data (json.Parsed value) = parsed_data value.now
+
+-- the items of an array, one by one
+abbrev pub item_datas : AnyItems → List Data
+item_datas (items.Owned values) = map view values.now
+item_datas (items.Parsed values) = map parsed_data values.now
+item_datas items.None = []
+
+abbrev pub items_data : AnyItems → Items
+items_data values = items_of (item_datas values)

@@ -1,0 +1,53 @@
+//! Numbers of JSON that is kept as it was parsed: texts.
+ghost use Rattle.std.specs.Prelude.{◌≡◌, false, option_and_then, option_map, true};
+ghost use Rattle.fast_float.specs.Text.{scan};
+ghost use Rattle.serde_json.specs.Find.{as_u64};
+ghost use Rattle.serde_json.specs.Read.{number_from, number_of};
+ghost use Rattle.serde_json.specs.View.{number_view};
+
+use fast_float::Numeral;
+use serde_json::Number;
+
+/// The number that these digits stand for behind a minus sign: an integer below 0 that 64 bits hold, or else the nearest
+/// float, if that is finite.
+fn number_below_zero(digits: &[u8]) -> Option<Number>
+    ensures { option_map number_view result ≡ number_from true (scan digits.now) }
+{
+    let numeral = Numeral::scan(digits);
+    match numeral.to_i64(true) {
+        Some(integer) if integer < 0 => Some(Number::from(integer)),
+        _ => Number::from_f64(numeral.to_float::<f64>(true)),
+    }
+}
+
+/// The same of digits without a sign.
+fn number_from_zero(digits: &[u8]) -> Option<Number>
+    ensures { option_map number_view result ≡ number_from false (scan digits.now) }
+{
+    let numeral = Numeral::scan(digits);
+    match numeral.to_u64() {
+        Some(integer) => Some(Number::from(integer)),
+        None => Number::from_f64(numeral.to_float::<f64>(false)),
+    }
+}
+
+/// The number of a text that stands for one, or `None` where it is too large for a float.
+#[tactic(auto, unfolding(serde_json::specs::Read::number_of))]
+pub(crate) fn number_of(text: &str) -> Option<Number>
+    ensures { option_map number_view result ≡ number_of text.now }
+{
+    match text.as_bytes() {
+        [b'-', digits @ ..] => number_below_zero(digits),
+        digits => number_from_zero(digits),
+    }
+}
+
+/// The same, if it is an integer from 0 on that 64 bits hold.
+pub(crate) fn unsigned_number(text: &str) -> Option<u64>
+    ensures { result ≡ option_and_then as_u64 (number_of text.now) }
+{
+    match number_of(text) {
+        Some(number) => number.as_u64(),
+        None => None,
+    }
+}

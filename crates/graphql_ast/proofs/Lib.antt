@@ -10,5 +10,7 @@ pub mod FirstDefinition
 pub mod FilteredLengths
 -- of LinesAndColumns: what one character more changes
 pub mod LinesAndColumnsSteps
+-- of LinesAndColumns: line terminators, and the characters of the last line, counted by bytes
+pub mod LineEnds
 -- what worked examples are proved by
 pub mod examples

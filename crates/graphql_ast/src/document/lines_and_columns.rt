@@ -1,5 +1,7 @@
 //! Positions in source texts: the line and the column, as messages name them.
-ghost use Rattle.std.specs.Prelude.{◌≡◌, ◌+◌, ◌^◌, ◌<◌, ◌==◌, ◌&&◌, ◌||◌, not, if◌then◌else◌, chars, length, option_copied, string_bytes};
+ghost use Rattle.std.specs.Prelude.{◌≡◌, ◌+◌, ◌^◌, ◌<◌, ◌≤◌, ◌==◌, ◌&&◌, ◌||◌, [], ◌++◌, chars, codes, count_by, if◌then◌else◌, length, nat_lt, not, option_copied, string_bytes};
+ghost use Rattle.std.specs.List.{suffix_len};
+ghost use Rattle.graphql_text.specs.strings.BlockStringValue.{with_lf};
 ghost use Rattle.graphql_ast.specs.LinesAndColumns.{IsPositionAt, IsStartPosition, position_behind, source_file_of};
 
 use crate::document::{Document, SourceFile};
@@ -68,35 +70,77 @@ fn position_behind(text: &str) -> LineColumn
     requires { length text.now < 2 ^ 63 }
     ensures { result ≡ position_behind (chars text.now) }
 {
-    let mut position = LineColumn { line: 1, column: 1 };
-    let mut is_behind_return = false;
-    for character in text.chars() {
-        position = next_position(position, is_behind_return, character);
-        is_behind_return = character == '\r';
+    LineColumn {
+        line: 1 + line_terminators(text),
+        column: 1 + last_line_len(text),
     }
-    position
 }
 
-/// The position behind one character more, where a CR may stand before it.
-fn next_position(position: LineColumn, is_behind_return: bool, character: char) -> LineColumn
-    requires { position.line + position.column < 2 ^ 63 + 2 }
-    ensures { result ≡
-        (if (character == 0xD) || ((character == 0xA) && not is_behind_return)
-        then record { line = position.line + 1; column = 1 }
-        else if character == 0xA then position
-        else record { line = position.line; column = position.column + 1 }) }
+/// How many bytes are counted at a time: so few that their count fits in a byte, and many are counted by one instruction.
+const CHUNK: usize = 240;
+
+/// How many line terminators a text has.
+fn line_terminators(text: &str) -> usize
+    requires { length text.now < 2 ^ 63 }
+    ensures count { result ≡ count_by (λ c. c == 0xA) (with_lf (chars text.now)) }
+    ensures most { result ≤ length text.now }
 {
-    if character == '\r' || character == '\n' && !is_behind_return {
-        LineColumn {
-            line: position.line + 1,
-            column: 1,
+    let mut count = 0;
+    let mut is_behind_return = false;
+    for bytes in text.as_bytes().chunks(CHUNK) {
+        count += line_ends(bytes, is_behind_return) as usize;
+        is_behind_return = match bytes.last() {
+            Some(last) => *last == b'\r',
+            None => is_behind_return,
+        };
+    }
+    count
+}
+
+/// Whether a line ends with this byte, where a CR may stand before it: a LF ends none then.
+fn ends_line(byte: u8, is_behind_return: bool) -> bool
+    ensures { result ≡ ((byte == 0xD) || ((byte == 0xA) && not is_behind_return)) }
+{
+    byte == b'\r' || byte == b'\n' && !is_behind_return
+}
+
+/// How many line terminators more a text has with these bytes behind it, where it ends with a CR or not.
+fn line_ends(bytes: &[u8], is_behind_return: bool) -> u8
+    requires { length bytes.now < 256 }
+    ensures { let before = if is_behind_return then codes "\r" else [] in
+        count_by (λ c. c == 0xA) (with_lf (before ++ bytes.now))
+            ≡ count_by (λ c. c == 0xA) (with_lf before) + result }
+{
+    let mut count = 0;
+    let mut is_behind_return = is_behind_return;
+    for byte in bytes {
+        count += ends_line(*byte, is_behind_return) as u8;
+        is_behind_return = *byte == b'\r';
+    }
+    count
+}
+
+/// Whether a character begins with this byte: each byte of one but the first is from 0x80 to 0xBF.
+fn begins_character(byte: u8) -> bool
+    ensures { result ≡ (nat_lt byte 0x80 || nat_lt 0xBF byte) }
+{
+    byte < 0x80 || byte > 0xBF
+}
+
+/// How many characters stand behind the last line terminator of a text.
+fn last_line_len(text: &str) -> usize
+    requires { length text.now < 2 ^ 63 }
+    ensures count { result ≡ suffix_len (λ c. not (c == 0xA)) (with_lf (chars text.now)) }
+    ensures most { result ≤ length text.now }
+{
+    let mut len = 0;
+    for byte in text.as_bytes().iter().rev() {
+        if ends_line(*byte, false) {
+            return len;
         }
-    } else if character == '\n' {
-        position
-    } else {
-        LineColumn {
-            line: position.line,
-            column: position.column + 1,
+        if begins_character(*byte) {
+            len += 1;
         }
     }
+    len
 }

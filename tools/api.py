@@ -175,8 +175,9 @@ def user_modules():
             found += ALIAS.findall(text)
             for whole, word in uses(source(crate, module)):
                 crate_below, _, inner = whole.partition("::")
-                if crate_below.startswith("graphql_"):
-                    found.append((crate_below, inner or word))
+                if source(crate_below, "lib").exists():
+                    module_below = inner or word
+                    found.append((crate_below, module_below if source(crate_below, module_below).exists() else "lib"))
     return sorted(set(found))
 
 

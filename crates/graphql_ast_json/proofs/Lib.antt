@@ -4,8 +4,6 @@
 pub mod general
 -- of nodes of any kind
 pub mod nodes
--- of JSON that was parsed from a text
-pub mod parsed
 -- of the JSON of kinds
 pub mod kinds
 -- of the trees that types of the code stand for

@@ -8,6 +8,10 @@ pub mod GivenMembers
 pub mod KindTexts
 -- of Nodes: whether a name is one of some names
 pub mod NamesAmong
+-- of Nodes: the names of the members of JSON that was parsed
+pub mod ParsedNames
+-- of JsonNodes: what tells the type of JSON
+pub mod JsonTypes
 -- of Nodes.Each: lists of nodes go item by item
 pub mod NodeLists
 -- what stands inside of JSON nests less deep than the JSON

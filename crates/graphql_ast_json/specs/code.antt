@@ -8,10 +8,6 @@ pub mod Errors
 pub mod WellFormed
 -- positions within JSON, as `fields[0].value`
 pub mod Paths
--- JSON as it is parsed from a text
-pub mod ParsedJson
--- JSON that is read, in either form
-pub mod AnyJson
 -- JSON that is read as a node, in either form
 pub mod JsonNodes
 -- what a reader finds in a node: its kind, its members and where it stands

@@ -15,16 +15,14 @@ ghost use Rattle.graphql_ast_json.specs.lemmas.Leaves.{json_laws};
 ghost use Rattle.graphql_ast_json.specs.nodes.Nodes.{IsLocated};
 ghost use Rattle.graphql_ast_json.specs.nodes.OneTree.{JsonLaws, NodeLaws};
 
-use crate::any_json::AnyJson;
 use crate::error::AstJsonError;
-use crate::owned::owned_json;
-use crate::parse::parse_json;
 use crate::read::text::read_json;
 use crate::read::{JsonNode, NodeReader, Unknown};
 use crate::write::NodeWriter;
 use graphql_base::node::Node;
 use graphql_base::span::{FileId, SourceSpan};
 use json::Scratch;
+use parsed_json::{AnyJson, owned_json, parse_json};
 use serde_json::Value as Json;
 use std::alloc::{AllocError, Global};
 

@@ -10,7 +10,6 @@
 //! - `laws`: what holds of AST JSON, as contracts of functions that do nothing.
 #![tactic(auto)]
 
-mod any_json;
 mod argument;
 mod ast_json;
 mod definition;
@@ -31,13 +30,10 @@ mod input_value_definition;
 mod interface_type;
 pub mod laws;
 mod name;
-mod numbers;
 mod object_type;
 mod offsets;
 mod operation_definition;
 mod operation_type;
-mod owned;
-mod parse;
 mod read;
 mod root_operation;
 mod scalar_type;
@@ -51,13 +47,12 @@ mod variable_definition;
 mod well_formed;
 mod write;
 
-pub use crate::any_json::{AnyItems, AnyJson};
 pub use crate::ast_json::{AstJson, AstNode, from_ast_json_str};
 pub use crate::error::AstJsonError;
 pub use crate::offsets::Offsets;
-pub use crate::parse::parse_json;
 pub use crate::read::{JsonNode, NodeReader, Unknown};
 pub use crate::well_formed::{
     BrokenCondition, WellFormedError, from_well_formed_ast_json_str, read_well_formed_ast_json,
     read_well_formed_json,
 };
+pub use parsed_json::{AnyItems, AnyJson, parse_json};

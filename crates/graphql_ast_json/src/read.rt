@@ -1,25 +1,25 @@
 //! JSON is read: a node's kind, the names of its members, and where it stands.
-ghost use Rattle.std.specs.Prelude.{◌≡◌, ◌<◌, ◌++◌, IfOk, IfErr, IfSome, OnOk, Some, None, codes, is_some, not, option_map};
+ghost use Rattle.std.specs.Prelude.{◌≡◌, ◌<◌, ◌++◌, IfOk, IfErr, IfSome, OnOk, Some, None, IsTrue, codes, is_some, not, option_map};
 ghost use Rattle.json.specs.Value.{members_view as parsed_members};
 ghost use Rattle.serde_json.specs.Data.{depth, no_members};
 ghost use Rattle.serde_json.specs.Find.{get};
 ghost use Rattle.serde_json.specs.View.{members_view, view};
 ghost use Rattle.graphql_text.specs.grammar.Forms.{is_one_of};
-ghost use Rattle.graphql_ast_json.specs.code.AnyJson.{any_data};
+ghost use Rattle.parsed_json.specs.AnyJson.{any_data};
 ghost use Rattle.graphql_ast_json.specs.code.Errors.{IsMemory};
-ghost use Rattle.graphql_ast_json.specs.code.JsonNodes.{has_other_names, node_data};
+ghost use Rattle.graphql_ast_json.specs.code.JsonNodes.{has_other_names, node_data, type_of};
 ghost use Rattle.graphql_ast_json.specs.code.NodeReading.{IsInFile, StandsAt, node_json, stretch_of, texts_of};
-ghost use Rattle.graphql_ast_json.specs.code.ParsedJson.{parsed_data, with_members};
+ghost use Rattle.parsed_json.specs.ParsedJson.{parsed_data, with_members};
 ghost use Rattle.graphql_ast_json.specs.nodes.Nodes.{HasOnly, IsLocated, IsLocation, IsNode, member_of, names_among, offset_of, stretch_in};
 
 pub(crate) mod members;
 pub(crate) mod text;
 
-use crate::any_json::AnyJson;
 use crate::error::{AstJsonError, AstJsonProblem, JsonType};
 use graphql_base::span::{FileId, SourceSpan};
 use json::Value as Parsed;
 use members::MAX_OFFSET;
+use parsed_json::{AnyJson, owned_json};
 use serde_json::{Map, Value as Json};
 use std::alloc::Global;
 
@@ -94,39 +94,37 @@ fn unknown_name<'j>(
     None
 }
 
-/// The first name of a member that is none of these, in the order of the text.
-fn unknown_parsed_name<'t>(
-    members: &[(&'t str, Parsed<'t>)],
-    names: &[&str],
-    others: &[&str],
-) -> Option<&'t str>
-    ensures { is_some result ≡ not (names_among (texts_of names.now ++ texts_of others.now)
-        (with_members (parsed_members members.now) no_members)) }
+/// Whether each member has one of these names.
+fn have_only_names(members: &[(&str, Parsed<'_>)], names: &[&str], others: &[&str]) -> bool
+    ensures { result ≡ names_among (texts_of names.now ++ texts_of others.now)
+        (with_members (parsed_members members.now) no_members) }
 {
     for (name, _) in members {
         if !is_one_of_either(names, others, name) {
-            return Some(name);
+            return false;
         }
     }
-    None
+    true
 }
 
-/// The least of such names: the one of which an error tells.
-fn least_unknown_name<'j, 't>(
-    members: &'j [(&'t str, Parsed<'t>)],
-    names: &[&str],
-    others: &[&str],
-) -> Option<&'t str> {
-    let mut least: Option<&'j (&'t str, Parsed<'t>)> = None;
-    for member in members {
-        if !is_one_of_either(names, others, member.0) {
-            least = match least {
-                Some(found) if found.0 <= member.0 => Some(found),
-                _ => Some(member),
-            };
-        }
+/// The type of JSON, for an error.
+#[tactic(auto, using(crate::proofs::nodes::JsonTypes::type_by))]
+pub(crate) fn type_of(json: AnyJson<'_, '_>) -> JsonType
+    ensures { result ≡ type_of (any_data json.entry) }
+{
+    if json.is_null() {
+        JsonType::Null
+    } else if json.as_bool().is_some() {
+        JsonType::Boolean
+    } else if json.as_str().is_some() {
+        JsonType::Text
+    } else if json.as_items().is_some() {
+        JsonType::Array
+    } else if json.is_object() {
+        JsonType::Object
+    } else {
+        JsonType::Number
     }
-    least.map(|member| member.0)
 }
 
 /// The member of this name. One that is null is the same as none.
@@ -207,22 +205,52 @@ impl<'j, 't> JsonNode<'j, 't> {
         }
     }
 
-    /// The name of a member that is none of these, if it is an object that has one.
-    fn unknown_member(self, names: &[&str], others: &[&str]) -> Option<&'j str>
-        ensures { is_some result ≡ has_other_names (texts_of names.now ++ texts_of others.now)
-            (node_data self.entry) }
+    /// That a value of `serde_json` has no other members than these.
+    fn check_owned_names(
+        self,
+        json: &Json,
+        names: &[&str],
+        others: &[&str],
+        of: &str,
+    ) -> Result<(), AstJsonError>
+        ensures ok { OnOk result (IsTrue (not (has_other_names
+            (texts_of names.now ++ texts_of others.now) (view json.now)))) }
+        ensures err { IfErr result (λ error. ¬ IsMemory error → IsTrue (has_other_names
+            (texts_of names.now ++ texts_of others.now) (view json.now))) }
+    {
+        match json {
+            Json::Object(members) => match unknown_name(members, names, others) {
+                Some(name) => Err(self.unknown(name, of)),
+                None => Ok(()),
+            },
+            _ => Ok(()),
+        }
+    }
+
+    /// The same of the JSON of the reader. Where it was parsed and has others, a value of `serde_json` is made of it, whose
+    /// members stand in order: the error is of the first.
+    fn check_other_names(
+        self,
+        names: &[&str],
+        others: &[&str],
+        of: &str,
+    ) -> Result<(), AstJsonError>
+        ensures ok { OnOk result (IsTrue (not (has_other_names
+            (texts_of names.now ++ texts_of others.now) (node_data self.entry)))) }
+        ensures err { IfErr result (λ error. ¬ IsMemory error → IsTrue (has_other_names
+            (texts_of names.now ++ texts_of others.now) (node_data self.entry))) }
     {
         match self.json {
-            AnyJson::Owned(Json::Object(members)) => unknown_name(members, names, others),
-            AnyJson::Parsed(Parsed::Object(members)) => {
-                match unknown_parsed_name(members.as_slice(), names, others) {
-                    Some(first) => {
-                        Some(least_unknown_name(members.as_slice(), names, others).unwrap_or(first))
-                    }
-                    None => None,
+            AnyJson::Owned(json) => self.check_owned_names(json, names, others, of),
+            AnyJson::Parsed(value) => match value {
+                Parsed::Object(members) if have_only_names(members.as_slice(), names, others) => Ok(
+                    (),
+                ),
+                _ => {
+                    let json = owned_json(self.alloc, value)?;
+                    self.check_owned_names(&json, names, others, of)
                 }
-            }
-            _ => None,
+            },
         }
     }
 
@@ -240,10 +268,7 @@ impl<'j, 't> JsonNode<'j, 't> {
         }
         match self.unknown {
             Unknown::PassOver => Ok(()),
-            Unknown::Refuse => match self.unknown_member(names, others) {
-                Some(name) => Err(self.unknown(name, of)),
-                None => Ok(()),
-            },
+            Unknown::Refuse => self.check_other_names(names, others, of),
         }
     }
 

@@ -13,7 +13,6 @@ mod search;
 
 use crate::ast_json::AstJson;
 use crate::error::{AstJsonError, JsonPath, NodePlace};
-use crate::parse::parse_json;
 use crate::read::text::read_json;
 use crate::read::{JsonNode, NodeReader, Unknown};
 use graphql_ast::name::Name;
@@ -21,6 +20,7 @@ use graphql_base::span::FileId;
 use graphql_text::engine::SyntaxTree;
 use graphql_text::ill_formed::{IllFormed, SideCondition};
 use json::Scratch;
+use parsed_json::parse_json;
 use search::position_of;
 use std::alloc::{AllocError, Global};
 use std::fmt::{self, Display, Formatter, Write};

@@ -6,8 +6,8 @@ use Rattle.serde_json.specs.Data.{Num, number, array, object, item, Members, no_
 use Rattle.json.specs.Find as json_find
 use Rattle.serde_json.specs.Find.{as_number, as_u64}
 use Rattle.serde_json.specs.Read.{number_of, of_json, of_items, of_members}
-use Rattle.graphql_ast_json.specs.code.ParsedJson.{data_of, items_of_json, number_or_minus_one, with_members}
-use Rattle.graphql_ast_json.specs.code.ParsedJson.{has_numbers, items_have_numbers, members_have_numbers}
+use Rattle.parsed_json.specs.ParsedJson.{data_of, items_of_json, number_or_minus_one, with_members}
+use Rattle.parsed_json.specs.ParsedJson.{has_numbers, items_have_numbers, members_have_numbers}
 
 both : (a b : Bool) → IsTrue (a && b) → IsTrue a × IsTrue b
 both true true h = (refl, refl)

@@ -2,11 +2,11 @@
 use Rattle.std.specs.Prelude.{List, [], map}
 use Rattle.serde_json.specs.Data.{Data, Items}
 use Rattle.serde_json.specs.View.{items_of, view}
-use Rattle.graphql_ast_json.specs.code.ParsedJson.{parsed_data}
-use Rattle.graphql_ast_json.specs.declared.any_json.AnyJson.{AnyJson}
-use Rattle.graphql_ast_json.specs.declared.any_json.AnyJson.TheVariants as json
-use Rattle.graphql_ast_json.specs.declared.any_json.AnyItems.{AnyItems}
-use Rattle.graphql_ast_json.specs.declared.any_json.AnyItems.TheVariants as items
+use Rattle.parsed_json.specs.ParsedJson.{parsed_data}
+use Rattle.parsed_json.specs.declared.any_json.AnyJson.{AnyJson}
+use Rattle.parsed_json.specs.declared.any_json.AnyJson.TheVariants as json
+use Rattle.parsed_json.specs.declared.any_json.AnyItems.{AnyItems}
+use Rattle.parsed_json.specs.declared.any_json.AnyItems.TheVariants as items
 
 abbrev pub any_data : AnyJson → Data
 any_data (json.Owned value) = view value.now

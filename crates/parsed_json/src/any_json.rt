@@ -1,13 +1,11 @@
 //! JSON that is read: a value of `serde_json`, or one that was parsed from a text in which its own texts lie.
-ghost use Rattle.std.specs.Prelude.{◌≡◌, ◌<◌, ◌++◌, ℕ, is_some, length, not, get_or, option_map, option_and_then};
+ghost use Rattle.std.specs.Prelude.{◌≡◌, ◌<◌, ◌==◌, get_or, is_some, length, option_and_then, option_map};
 ghost use Rattle.serde_json.specs.Data.{null};
 ghost use Rattle.serde_json.specs.Find.{as_array, as_bool, as_null, as_number, as_object, as_str, as_u64, get};
 ghost use Rattle.serde_json.specs.View.{view};
-ghost use Rattle.graphql_ast_json.specs.code.AnyJson.{any_data, item_datas, items_data};
-ghost use Rattle.graphql_ast_json.specs.code.NodeReading.{texts_of};
-ghost use Rattle.graphql_ast_json.specs.code.ParsedJson.{parsed_data};
+ghost use Rattle.parsed_json.specs.AnyJson.{any_data, item_datas, items_data};
+ghost use Rattle.parsed_json.specs.ParsedJson.{parsed_data};
 
-use crate::error::JsonType;
 use crate::numbers::unsigned_number;
 use json::Value as Parsed;
 use serde_json::Value as Json;
@@ -30,7 +28,7 @@ pub enum AnyItems<'j, 't> {
 
 impl<'j, 't> AnyJson<'j, 't> {
     /// The member of this name, the last one where it stands twice.
-    pub(crate) fn get(self, name: &str) -> Option<AnyJson<'j, 't>>
+    pub fn get(self, name: &str) -> Option<AnyJson<'j, 't>>
         ensures { option_map any_data result ≡ get name.now (any_data self.entry) }
     {
         match self {
@@ -46,7 +44,7 @@ impl<'j, 't> AnyJson<'j, 't> {
     }
 
     /// The text, if it is one.
-    pub(crate) fn as_str(self) -> Option<&'j str>
+    pub fn as_str(self) -> Option<&'j str>
         ensures { option_map (λ text. text.now) result ≡ as_str (any_data self.entry) }
     {
         match self {
@@ -56,7 +54,7 @@ impl<'j, 't> AnyJson<'j, 't> {
     }
 
     /// The boolean, if it is one.
-    pub(crate) fn as_bool(self) -> Option<bool>
+    pub fn as_bool(self) -> Option<bool>
         ensures { result ≡ as_bool (any_data self.entry) }
     {
         match self {
@@ -66,7 +64,7 @@ impl<'j, 't> AnyJson<'j, 't> {
     }
 
     /// The number, if it is an integer from 0 on that 64 bits hold.
-    pub(crate) fn as_u64(self) -> Option<u64>
+    pub fn as_u64(self) -> Option<u64>
         ensures { result ≡ option_and_then as_u64 (as_number (any_data self.entry)) }
     {
         match self {
@@ -79,7 +77,7 @@ impl<'j, 't> AnyJson<'j, 't> {
     }
 
     /// The items, if it is an array.
-    pub(crate) fn as_items(self) -> Option<AnyItems<'j, 't>>
+    pub fn as_items(self) -> Option<AnyItems<'j, 't>>
         ensures { option_map items_data result ≡ as_array (any_data self.entry) }
     {
         match self {
@@ -95,7 +93,7 @@ impl<'j, 't> AnyJson<'j, 't> {
     }
 
     /// Whether it is null.
-    pub(crate) fn is_null(self) -> bool
+    pub fn is_null(self) -> bool
         ensures { result ≡ is_some (as_null (any_data self.entry)) }
     {
         match self {
@@ -105,7 +103,7 @@ impl<'j, 't> AnyJson<'j, 't> {
     }
 
     /// Whether it is an object.
-    pub(crate) fn is_object(self) -> bool
+    pub fn is_object(self) -> bool
         ensures { result ≡ is_some (as_object (any_data self.entry)) }
     {
         match self {
@@ -113,27 +111,11 @@ impl<'j, 't> AnyJson<'j, 't> {
             AnyJson::Parsed(json) => matches!(json, Parsed::Object(_)),
         }
     }
-
-    /// Its type, for an error.
-    pub(crate) fn type_of(self) -> JsonType {
-        if self.is_null() {
-            JsonType::Null
-        } else if self.as_bool().is_some() {
-            JsonType::Boolean
-        } else if self.as_str().is_some() {
-            JsonType::Text
-        } else if self.as_items().is_some() {
-            JsonType::Array
-        } else if self.is_object() {
-            JsonType::Object
-        } else {
-            JsonType::Number
-        }
-    }
 }
 
 impl<'j, 't> AnyItems<'j, 't> {
-    pub(crate) fn len(self) -> usize
+    /// How many there are.
+    pub fn len(self) -> usize
         ensures { result ≡ length (item_datas self.entry) }
     {
         match self {
@@ -143,12 +125,15 @@ impl<'j, 't> AnyItems<'j, 't> {
         }
     }
 
-    pub(crate) fn is_empty(self) -> bool {
+    /// Whether there is none.
+    pub fn is_empty(self) -> bool
+        ensures { result ≡ (length (item_datas self.entry) == 0) }
+    {
         self.len() == 0
     }
 
     /// The item of this index.
-    pub(crate) fn at(self, index: usize) -> AnyJson<'j, 't>
+    pub fn at(self, index: usize) -> AnyJson<'j, 't>
         requires { index < length (item_datas self) }
         ensures { any_data result ≡ get_or (item_datas self.entry) index null }
     {

@@ -4,7 +4,7 @@ ghost use Rattle.json.specs.Value.{members_view as parsed_members};
 ghost use Rattle.serde_json.specs.Data.{no_members};
 ghost use Rattle.serde_json.specs.Read.{number_of};
 ghost use Rattle.serde_json.specs.View.{items_view, members_view, number_view, view};
-ghost use Rattle.graphql_ast_json.specs.code.ParsedJson.{number_or_minus_one, parsed_data, parsed_items, with_members};
+ghost use Rattle.parsed_json.specs.ParsedJson.{number_or_minus_one, parsed_data, parsed_items, with_members};
 
 use crate::numbers::number_of;
 use json::Value as Parsed;
@@ -21,9 +21,9 @@ fn number_or_minus_one(text: &str) -> Number
     }
 }
 
-/// The same JSON as a value of `serde_json`.
+/// The same JSON as a value of `serde_json`. `AllocError` where memory is refused.
 #[cycle(owned)]
-pub(crate) fn owned_json(alloc: Global, value: &Parsed<'_>) -> Result<Json, AllocError>
+pub fn owned_json(alloc: Global, value: &Parsed<'_>) -> Result<Json, AllocError>
     ensures { IfOk result (λ json. view json ≡ parsed_data value.now) }
 {
     match value {

@@ -3,7 +3,7 @@ ghost use Rattle.std.specs.Prelude.{◌≡◌, IfOk, None, Some, if◌then◌els
 ghost use Rattle.json.specs.Json.{if_last};
 ghost use Rattle.json.specs.Value.{items_view, members_view, value_view};
 ghost use Rattle.serde_json.specs.Read.{of_json, read};
-ghost use Rattle.graphql_ast_json.specs.code.ParsedJson.{has_numbers, items_have_numbers, members_have_numbers, parsed_data};
+ghost use Rattle.parsed_json.specs.ParsedJson.{has_numbers, items_have_numbers, members_have_numbers, parsed_data};
 
 use crate::numbers::number_of;
 use json::{Error, Reader, Scratch, Value as Parsed};

@@ -1,7 +1,9 @@
 -- JSON that is read as a node, in either form.
 use Rattle.std.specs.Prelude.{ℕ, List, Bool, false, not}
-use Rattle.serde_json.specs.Data.{Data, object}
-use Rattle.graphql_ast_json.specs.code.AnyJson.{any_data}
+use Rattle.serde_json.specs.Data.{Data, null, boolean, number, string, array, object}
+use Rattle.parsed_json.specs.AnyJson.{any_data}
+use Rattle.graphql_ast_json.specs.declared.error.JsonType.{JsonType}
+use Rattle.graphql_ast_json.specs.declared.error.JsonType.TheVariants as json_type
 use Rattle.graphql_ast_json.specs.declared.read.JsonNode.{JsonNode}
 use Rattle.graphql_ast_json.specs.declared.read.Unknown.{Unknown}
 use Rattle.graphql_ast_json.specs.nodes.Nodes.{names_among}
@@ -22,3 +24,12 @@ IsFromNone {Tree = Tree} Is node = (tree : Tree) → Is node.unknown tree (node_
 abbrev pub has_other_names : List (List ℕ) → Data → Bool
 has_other_names names (object members) = not (names_among names members)
 has_other_names names _ = false
+
+-- the type of JSON
+abbrev pub type_of : Data → JsonType
+type_of null = json_type.Null
+type_of (boolean b) = json_type.Boolean
+type_of (number n) = json_type.Number
+type_of (string s) = json_type.Text
+type_of (array items) = json_type.Array
+type_of (object members) = json_type.Object

@@ -4,21 +4,21 @@ ghost use Rattle.serde_json.specs.Data.{depth, items_depth, string};
 ghost use Rattle.serde_json.specs.Find.{as_array};
 ghost use Rattle.graphql_values.specs.kinds.Directives.{DirectiveTree};
 ghost use Rattle.graphql_values.specs.trees.DirectiveTrees.{directive_trees};
-ghost use Rattle.graphql_ast_json.specs.code.AnyJson.{any_data, items_data};
+ghost use Rattle.parsed_json.specs.AnyJson.{any_data, items_data};
 ghost use Rattle.graphql_ast_json.specs.code.Errors.{IsMemory};
 ghost use Rattle.graphql_ast_json.specs.code.JsonNodes.{node_data};
 ghost use Rattle.graphql_ast_json.specs.code.NodeReading.{IsTextNode};
 ghost use Rattle.graphql_ast_json.specs.kinds.DirectiveJson.{HasDirectives};
 ghost use Rattle.graphql_ast_json.specs.nodes.Nodes.{Each, IsFlag, IsLocated, IsOptional, ListMember, Member, OptionalListMember, items_or_none, member_of};
 
-use crate::any_json::{AnyItems, AnyJson};
 use crate::error::{AstJsonError, AstJsonProblem, JsonType};
 use crate::form::Form;
-use crate::read::{JsonNode, member};
+use crate::read::{JsonNode, member, type_of};
 use graphql_base::node::Node;
 use graphql_base::span::SourceSpan;
 use graphql_values::directive::Directive;
 use graphql_values::directive_list::DirectiveList;
+use parsed_json::{AnyItems, AnyJson};
 use std::alloc::AllocError;
 
 /// The greatest offset of a location.
@@ -60,7 +60,7 @@ impl<'j, 't> JsonNode<'j, 't> {
 
     /// The error of JSON that is of another type than the one that is wanted.
     pub(crate) fn wrong_type(self, json: AnyJson<'_, '_>, wanted: JsonType) -> AstJsonError {
-        let found = json.type_of();
+        let found = type_of(json);
         self.problem(AstJsonProblem::WrongType { found, wanted })
     }
 

@@ -5,14 +5,13 @@ ghost use Rattle.graphql_executable.specs.trees.ExecutableTrees.{field_tree, inl
 ghost use Rattle.graphql_executable.specs.kinds.Fields.{FieldTree};
 ghost use Rattle.graphql_executable.specs.kinds.InlineFragments.{InlineFragmentTree};
 ghost use Rattle.graphql_executable.specs.kinds.Selections.{SelectionTree, SelectionTrees};
-ghost use Rattle.graphql_ast_json.specs.code.AnyJson.{items_data};
+ghost use Rattle.parsed_json.specs.AnyJson.{items_data};
 ghost use Rattle.graphql_ast_json.specs.code.Errors.{IsMemory};
 ghost use Rattle.graphql_ast_json.specs.code.JsonNodes.{node_data, IsFromNone, IsReadFrom};
 ghost use Rattle.graphql_ast_json.specs.code.NodeReading.{IsInFile, StandsAt};
 ghost use Rattle.graphql_ast_json.specs.kinds.ExecutableJson.{AreSelections, HasOptionalSetOf, HasSetOf, IsField, IsInlineFragment, IsSelection, IsSelectionSet};
 ghost use Rattle.graphql_ast_json.specs.nodes.Nodes.{IsLocated};
 
-use crate::any_json::AnyItems;
 use crate::ast_json::{AstNode, node_at};
 use crate::error::AstJsonError;
 use crate::form::NamedTypeForm;
@@ -20,6 +19,7 @@ use crate::read::{JsonNode, member};
 use graphql_ast::ast::{Argument, Field, FragmentSpread, InlineFragment, Selection};
 use graphql_ast::name::Name;
 use graphql_base::node::Node;
+use parsed_json::AnyItems;
 
 /// The selection that a node is of, which stands where the node does.
 #[cycle(selection)]

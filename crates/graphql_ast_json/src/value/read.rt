@@ -6,14 +6,13 @@ ghost use Rattle.graphql_text.specs.lexical.Literals.{FloatText, IntText, NameTe
 ghost use Rattle.graphql_values.specs.trees.Literals.{float_tree, int_tree};
 ghost use Rattle.graphql_values.specs.kinds.Values.{ValueTree, ValueTrees, ObjectFieldTrees, variable, int_value, float_value, boolean_value, list_value, object_value};
 ghost use Rattle.graphql_values.specs.trees.ValueTrees.{value_tree, value_trees, object_field_trees};
-ghost use Rattle.graphql_ast_json.specs.code.AnyJson.{items_data};
+ghost use Rattle.parsed_json.specs.AnyJson.{items_data};
 ghost use Rattle.graphql_ast_json.specs.code.Errors.{IsMemory};
 ghost use Rattle.graphql_ast_json.specs.code.JsonNodes.{node_data, IsFromNone, IsReadFrom};
 ghost use Rattle.graphql_ast_json.specs.code.NodeReading.{IsInFile, StandsAt};
 ghost use Rattle.graphql_ast_json.specs.kinds.ValueJson.{IsValue, AreValues, AreObjectFields, IsNamedValue};
 ghost use Rattle.graphql_ast_json.specs.nodes.Nodes.{IsLocated};
 
-use crate::any_json::AnyItems;
 use crate::ast_json::node_at;
 use crate::error::{AstJsonError, JsonType};
 use crate::name::name_of_kind;
@@ -22,6 +21,7 @@ use crate::string::string_text;
 use graphql_ast::ast::{FloatValue, IntValue, Value};
 use graphql_ast::name::Name;
 use graphql_base::node::Node;
+use parsed_json::AnyItems;
 
 /// The name of a variable.
 pub(crate) fn variable_name(node: JsonNode<'_, '_>) -> Result<Name, AstJsonError>

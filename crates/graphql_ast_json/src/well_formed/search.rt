@@ -1,5 +1,4 @@
 //! Where in the JSON of a tree the first flaw is: one walk in the order of print.
-use crate::any_json::AnyJson;
 use crate::error::JsonPath;
 use crate::read::{JsonNode, member};
 use graphql_base::span::SourceSpan;
@@ -7,6 +6,7 @@ use graphql_text::ill_formed::SideCondition::{
     self, AddsSomething, HasDefinition, HasLocation, HasRootOperation, HasSelection, IsConstant,
     IsNotOn, IsNotReserved,
 };
+use parsed_json::AnyJson;
 use std::alloc::AllocError;
 
 /// The words that no enum value may be.

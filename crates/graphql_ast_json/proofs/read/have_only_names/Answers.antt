@@ -1,4 +1,4 @@
-use Rattle.std.proofs.Common.{ℕ, ◌+◌, ◌++◌, ◌&&◌, List, drop, not, sym, ap, ◌∙◌}
+use Rattle.std.proofs.Common.{ℕ, ◌+◌, ◌++◌, ◌&&◌, List, drop, sym, ap, ◌∙◌}
 use Rattle.std.proofs.lemmas.List.{drop_all}
 use Rattle.std.specs.Borrow.{Bor}
 use Rattle.std.specs.declared.alloc.Global.{Global}
@@ -6,8 +6,8 @@ use Rattle.json.specs.Value.{members_view as parsed_members}
 use Rattle.json.specs.declared.value.Value.{Value}
 use Rattle.graphql_ast_json.specs.code.NodeReading.{texts_of}
 use Rattle.graphql_ast_json.proofs.nodes.NodeLists.{drop_next}
-use Rattle.graphql_ast_json.proofs.parsed.ParsedMembers.{names_of_members, only_names}
-use Rattle.graphql_ast_json.proofs.read.unknown_parsed_name.Goals as goal
+use Rattle.graphql_ast_json.proofs.nodes.ParsedNames.{names_of_members, only_names}
+use Rattle.graphql_ast_json.proofs.read.have_only_names.Goals as goal
 
 pub returns-then-not-is_one_of_either : goal.returns-then-not-is_one_of_either
 returns-then-not-is_one_of_either c =
@@ -15,14 +15,14 @@ returns-then-not-is_one_of_either c =
     let members = c.args.members.now in
     let i = c.loop-name.name-index in
     let rest = only_names all (parsed_members (drop (i + 1) members)) in
-    sym (ap not (names_of_members all (parsed_members members) ∙ c.loop-name.invariant
+    sym (names_of_members all (parsed_members members) ∙ c.loop-name.invariant
     ∙ ap (λ (ms : List (Bor (List ℕ) × Value Global)). only_names all (parsed_members ms))
     (drop_next members i c.loop-name-item.result c.loop-name-test.true c.loop-name-item.is)
-    ∙ ap (λ b. b && rest) (sym c.if-not-is_one_of_either.ensures)))
+    ∙ ap (λ b. b && rest) (sym c.if-not-is_one_of_either.ensures))
 
 pub returns : goal.returns
 returns c =
     let all = texts_of c.args.names.now ++ texts_of c.args.others.now in
     let members = c.args.members.now in
-    sym (ap not (names_of_members all (parsed_members members) ∙ c.loop-name.invariant
-    ∙ ap (λ (ms : List (Bor (List ℕ) × Value Global)). only_names all (parsed_members ms)) (drop_all c.loop-name.name-index members c.loop-name-test.false)))
+    sym (names_of_members all (parsed_members members) ∙ c.loop-name.invariant
+    ∙ ap (λ (ms : List (Bor (List ℕ) × Value Global)). only_names all (parsed_members ms)) (drop_all c.loop-name.name-index members c.loop-name-test.false))

@@ -1,8 +1,8 @@
 use Rattle.std.proofs.Common.{◌≡◌, ◌++◌, drop}
 use Rattle.json.specs.Value.{members_view as parsed_members}
 use Rattle.graphql_ast_json.specs.code.NodeReading.{texts_of}
-use Rattle.graphql_ast_json.proofs.parsed.ParsedMembers.{only_names}
-use Rattle.graphql_ast_json.proofs.read.unknown_parsed_name.Given as goal
+use Rattle.graphql_ast_json.proofs.nodes.ParsedNames.{only_names}
+use Rattle.graphql_ast_json.proofs.read.have_only_names.Given as goal
 
 abbrev pub invariant-loop-name : goal.invariant-loop-name
 invariant-loop-name l =

@@ -1,6 +1,6 @@
 use Rattle.std.proofs.Common.{◌<◌, IfSome, Option, sym, subst}
 use Rattle.serde_json.specs.Data.{Data, depth}
-use Rattle.graphql_ast_json.specs.code.AnyJson.{any_data}
+use Rattle.parsed_json.specs.AnyJson.{any_data}
 use Rattle.graphql_ast_json.proofs.nodes.JsonDepths.{get-depth}
 use Rattle.graphql_ast_json.proofs.read.member.Goals as goal
 

@@ -9,9 +9,9 @@ use Rattle.json.specs.declared.value.Value.{Value}
 use Rattle.serde_json.proofs.Views.{view-Object}
 use Rattle.serde_json.specs.Data.{object, no_members}
 use Rattle.serde_json.specs.View.{items_of}
-use Rattle.graphql_ast_json.specs.code.ParsedJson.{data_of, parsed_data, with_members}
-use Rattle.graphql_ast_json.proofs.parsed.ParsedMembers.{items_one_by_one}
-use Rattle.graphql_ast_json.proofs.owned.+owned.Goals as goal
+use Rattle.parsed_json.specs.ParsedJson.{data_of, parsed_data, with_members}
+use Rattle.parsed_json.proofs.ParsedMembers.{items_one_by_one}
+use Rattle.parsed_json.proofs.owned.+owned.Goals as goal
 
 pub owned_json-returns-in_ok-owned_members-in-Object : goal.owned_json-returns-in_ok-owned_members-in-Object
 owned_json-returns-in_ok-owned_members-in-Object t c =

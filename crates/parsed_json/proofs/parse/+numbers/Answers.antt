@@ -4,9 +4,9 @@ use Rattle.std.specs.Prelude.{ℕ}
 use Rattle.std.specs.declared.alloc.Global.{Global}
 use Rattle.json.specs.Value.{items_view, members_view}
 use Rattle.json.specs.declared.value.Value.{Value}
-use Rattle.graphql_ast_json.specs.code.ParsedJson.{items_have_numbers, members_have_numbers}
-use Rattle.graphql_ast_json.proofs.nodes.NodeLists.{drop_next}
-use Rattle.graphql_ast_json.proofs.parse.+numbers.Goals as goal
+use Rattle.parsed_json.specs.ParsedJson.{items_have_numbers, members_have_numbers}
+use Rattle.parsed_json.proofs.Items.{drop_next}
+use Rattle.parsed_json.proofs.parse.+numbers.Goals as goal
 
 pub items_have_numbers-returns-then-not-has_numbers : goal.items_have_numbers-returns-then-not-has_numbers
 items_have_numbers-returns-then-not-has_numbers t c =

@@ -1,7 +1,7 @@
 use Rattle.std.proofs.Common.{◌≡◌, drop}
 use Rattle.json.specs.Value.{items_view, members_view}
-use Rattle.graphql_ast_json.specs.code.ParsedJson.{items_have_numbers, members_have_numbers}
-use Rattle.graphql_ast_json.proofs.parse.+numbers.Given as goal
+use Rattle.parsed_json.specs.ParsedJson.{items_have_numbers, members_have_numbers}
+use Rattle.parsed_json.proofs.parse.+numbers.Given as goal
 
 abbrev pub invariant-items_have_numbers-loop-item : goal.invariant-items_have_numbers-loop-item
 invariant-items_have_numbers-loop-item l =

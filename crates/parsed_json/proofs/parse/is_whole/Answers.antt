@@ -3,9 +3,9 @@ use Rattle.json.specs.Json.{if_last}
 use Rattle.json.specs.Token.{Token}
 use Rattle.json.specs.Value.{value_view}
 use Rattle.serde_json.specs.Read.{of_json}
-use Rattle.graphql_ast_json.specs.code.ParsedJson.{parsed_data}
-use Rattle.graphql_ast_json.proofs.parsed.ParsedNumbers.{read_if}
-use Rattle.graphql_ast_json.proofs.parse.is_whole.Goals as goal
+use Rattle.parsed_json.specs.ParsedJson.{parsed_data}
+use Rattle.parsed_json.proofs.ParsedNumbers.{read_if}
+use Rattle.parsed_json.proofs.parse.is_whole.Goals as goal
 
 pub returns-in-None : goal.returns-in-None
 returns-in-None c =

@@ -1,6 +1,6 @@
 use Rattle.std.proofs.Common.{◌≡◌, sym, ap, subst₂, ◌∙◌}
 use Rattle.serde_json.specs.View.{view}
-use Rattle.graphql_ast_json.specs.code.AnyJson.{any_data}
+use Rattle.parsed_json.specs.AnyJson.{any_data}
 use Rattle.graphql_ast_json.specs.code.JsonNodes.{node_data}
 use Rattle.graphql_ast_json.proofs.general.PassedErrors.{turned}
 use Rattle.graphql_ast_json.proofs.ast_json.AstNode.read_json_node.Goals as goal

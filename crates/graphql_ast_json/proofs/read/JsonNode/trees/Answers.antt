@@ -3,7 +3,7 @@ use Rattle.std.proofs.lemmas.Grind.{common_steps}
 use Rattle.std.proofs.lemmas.List.{take_all}
 use Rattle.serde_json.specs.Data.{Data, null}
 use Rattle.serde_json.specs.View.{items_of}
-use Rattle.graphql_ast_json.specs.code.AnyJson.{any_data, item_datas}
+use Rattle.parsed_json.specs.AnyJson.{any_data, item_datas}
 use Rattle.graphql_ast_json.specs.nodes.Nodes.{Each}
 use Rattle.graphql_ast_json.proofs.nodes.NodeLists.{one_more, none_each, take_item}
 use Rattle.graphql_ast_json.proofs.read.JsonNode.trees.Goals as goal

@@ -1,6 +1,6 @@
 use Rattle.std.proofs.Common.{take, map}
 use Rattle.serde_json.specs.View.{items_of}
-use Rattle.graphql_ast_json.specs.code.AnyJson.{item_datas}
+use Rattle.parsed_json.specs.AnyJson.{item_datas}
 use Rattle.graphql_ast_json.specs.nodes.Nodes.{Each}
 use Rattle.graphql_ast_json.proofs.read.JsonNode.trees.Given as goal
 

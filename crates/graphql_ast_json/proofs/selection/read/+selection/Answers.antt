@@ -3,7 +3,7 @@ use Rattle.std.proofs.lemmas.Grind.{common_steps}
 use Rattle.std.proofs.lemmas.List.{take_all}
 use Rattle.serde_json.specs.Data.{Data, depth, items_depth, no_items, null, string}
 use Rattle.serde_json.specs.View.{items_of}
-use Rattle.graphql_ast_json.specs.code.AnyJson.{any_data, item_datas}
+use Rattle.parsed_json.specs.AnyJson.{any_data, item_datas}
 use Rattle.graphql_executable.specs.trees.ExecutableTrees.{selection_trees}
 use Rattle.graphql_executable.specs.kinds.InlineFragments.{InlineFragmentTree}
 use Rattle.graphql_executable.specs.kinds.Selections.{SelectionTree}

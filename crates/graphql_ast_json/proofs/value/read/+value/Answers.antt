@@ -8,7 +8,7 @@ use Rattle.graphql_values.specs.declared.value.Value.{Value}
 use Rattle.graphql_values.specs.kinds.Values.{ValueTree}
 use Rattle.serde_json.specs.Data.{Data, depth, items_depth, null, string}
 use Rattle.serde_json.specs.View.{items_of}
-use Rattle.graphql_ast_json.specs.code.AnyJson.{any_data, item_datas}
+use Rattle.parsed_json.specs.AnyJson.{any_data, item_datas}
 use Rattle.graphql_ast_json.specs.code.JsonNodes.{node_data}
 use Rattle.graphql_ast_json.specs.code.Errors.{IsMemory}
 use Rattle.graphql_ast_json.specs.nodes.Nodes.{member_of}

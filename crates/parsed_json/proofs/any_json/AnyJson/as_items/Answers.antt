@@ -3,10 +3,10 @@ use Rattle.json.proofs.Trees.{view-Array}
 use Rattle.json.specs.declared.value.Value.{Value}
 use Rattle.std.specs.declared.alloc.Global.{Global}
 use Rattle.serde_json.specs.Find.{as_array}
-use Rattle.graphql_ast_json.specs.code.AnyJson.{any_data}
-use Rattle.graphql_ast_json.specs.code.ParsedJson.{data_of, parsed_data, parsed_items}
-use Rattle.graphql_ast_json.proofs.parsed.ParsedMembers.{items_one_by_one}
-use Rattle.graphql_ast_json.proofs.any_json.AnyJson.as_items.Goals as goal
+use Rattle.parsed_json.specs.AnyJson.{any_data}
+use Rattle.parsed_json.specs.ParsedJson.{data_of, parsed_data, parsed_items}
+use Rattle.parsed_json.proofs.ParsedMembers.{items_one_by_one}
+use Rattle.parsed_json.proofs.any_json.AnyJson.as_items.Goals as goal
 
 pub returns-in-Array-json : goal.returns-in-Array-json
 returns-in-Array-json c =

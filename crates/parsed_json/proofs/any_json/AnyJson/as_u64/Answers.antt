@@ -1,9 +1,9 @@
 use Rattle.std.proofs.Common.{option_and_then, sym, ap, ◌∙◌}
 use Rattle.json.specs.Value.{value_view}
 use Rattle.serde_json.specs.Find.{as_number, as_u64}
-use Rattle.graphql_ast_json.specs.code.AnyJson.{any_data}
-use Rattle.graphql_ast_json.proofs.parsed.ParsedNumbers.{number_found}
-use Rattle.graphql_ast_json.proofs.any_json.AnyJson.as_u64.Goals as goal
+use Rattle.parsed_json.specs.AnyJson.{any_data}
+use Rattle.parsed_json.proofs.ParsedNumbers.{number_found}
+use Rattle.parsed_json.proofs.any_json.AnyJson.as_u64.Goals as goal
 
 pub returns-in-Some : goal.returns-in-Some
 returns-in-Some c =

@@ -1,10 +1,10 @@
 use Rattle.std.proofs.Common.{option_map, sym, ap, ◌∙◌}
 use Rattle.json.specs.Value.{value_view}
 use Rattle.serde_json.specs.Find.{get}
-use Rattle.graphql_ast_json.specs.code.AnyJson.{any_data}
-use Rattle.graphql_ast_json.specs.code.ParsedJson.{data_of}
-use Rattle.graphql_ast_json.proofs.parsed.ParsedMembers.{found}
-use Rattle.graphql_ast_json.proofs.any_json.AnyJson.get.Goals as goal
+use Rattle.parsed_json.specs.AnyJson.{any_data}
+use Rattle.parsed_json.specs.ParsedJson.{data_of}
+use Rattle.parsed_json.proofs.ParsedMembers.{found}
+use Rattle.parsed_json.proofs.any_json.AnyJson.get.Goals as goal
 
 pub returns-in-Some-get : goal.returns-in-Some-get
 returns-in-Some-get c =

@@ -1,7 +1,7 @@
 use Rattle.std.proofs.Common.{◌≡◌, ◌<◌, ◌≤◌, length, suc, sym, subst, arith}
 use Rattle.serde_json.specs.Data.{Data, depth, items_depth, null}
 use Rattle.serde_json.specs.View.{items_of}
-use Rattle.graphql_ast_json.specs.code.AnyJson.{any_data, item_datas}
+use Rattle.parsed_json.specs.AnyJson.{any_data, item_datas}
 use Rattle.graphql_ast_json.specs.code.JsonNodes.{node_data}
 use Rattle.graphql_ast_json.proofs.nodes.JsonDepths.{array-depth, item-depth}
 use Rattle.graphql_ast_json.proofs.well_formed.search.Search.+search.Goals as goal

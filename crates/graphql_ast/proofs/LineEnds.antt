@@ -1,5 +1,6 @@
 -- Of LinesAndColumns: line terminators, and the characters of the last line, are counted by bytes.
-use Rattle.std.proofs.Common.{◌≡◌, ℕ, ◌+◌, ◌-◌, ◌/◌, ◌%◌, ◌≤◌, ◌<◌, ◌==◌, Bool, true, false, not, ◌&&◌, ◌||◌, cond, if◌then◌else◌, List, [], ◌∷◌, ◌++◌, codes, length, nat_lt, take, Some}
+use Rattle.std.proofs.Common.{◌≡◌, ℕ, ◌+◌, ◌-◌, ◌/◌, ◌%◌, ◌≤◌, ◌<◌, ◌==◌, Bool, true, false, not, ◌&&◌, ◌||◌, cond, if◌then◌else◌}
+use Rattle.std.proofs.Common.{List, [], ◌∷◌, ◌++◌, codes, length, nat_lt, take, Some}
 use Rattle.std.proofs.Common.{refl, sym, ap, ◌∙◌, arith, append_assoc, append-nil, true≢false, count_by, inl, inr}
 use Rattle.std.specs.List.{suffix_len}
 use Rattle.std.proofs.Math.Dec.{ltb}
@@ -95,7 +96,8 @@ last_bytes before [] = before
 last_bytes before (c ∷ text) = last_bytes (if ends_line false c then 0 else before + cond (begins_character c) 1 0) text
 
 column_of_next : (p : LineColumn) (behind is_lf is_cr : Bool) → (behind ≡ true → p.column ≡ 1) →
-    (if is_cr || (is_lf && not behind) then line_begun p else if is_lf then p else column_further p).column ≡ 1 + (if is_cr || (is_lf && not false) then 0 else p.column)
+    (if is_cr || (is_lf && not behind) then line_begun p else if is_lf then p else column_further p).column
+    ≡ 1 + (if is_cr || (is_lf && not false) then 0 else p.column)
 column_of_next p behind true true h = refl
 column_of_next p behind false true h = refl
 column_of_next p true true false h = h refl
@@ -134,7 +136,8 @@ last_bytes_one before [] c = refl
 last_bytes_one before (x ∷ text) c = last_bytes_one (if ends_line false x then 0 else before + cond (begins_character x) 1 0) text c
 
 pub last_bytes_end : (before : ℕ) (text : List ℕ) (c : ℕ) → ends_line false c ≡ true → last_bytes before (text ++ c ∷ []) ≡ 0
-last_bytes_end before text c ends = last_bytes_one before text c ∙ ap (λ (b : Bool). if b then 0 else last_bytes before text + cond (begins_character c) 1 0) ends
+last_bytes_end before text c ends =
+    last_bytes_one before text c ∙ ap (λ (b : Bool). if b then 0 else last_bytes before text + cond (begins_character c) 1 0) ends
 
 adds_none : (n : ℕ) (ends begins : Bool) → ends ≡ false → begins ≡ false → (if ends then 0 else n + cond begins 1 0) ≡ n
 adds_none n true begins e f = absurd (true≢false e)
@@ -166,7 +169,8 @@ next_is n = (omega arith, omega arith)
 abbrev IsLong : List ℕ → Type 0
 IsLong bytes = (lead : ℕ) × (more : List ℕ) × (192 ≤ lead) × AreContinuations more × (bytes ≡ lead ∷ more)
 
-one_of_four : (x y z : Bool) (one two three four : List ℕ) → x ≡ false → IsLong two → IsLong three → IsLong four → IsLong (cond x one (cond y two (cond z three four)))
+one_of_four : (x y z : Bool) (one two three four : List ℕ) → x ≡ false → IsLong two → IsLong three → IsLong four →
+    IsLong (cond x one (cond y two (cond z three four)))
 one_of_four true y z one two three four e a b c = absurd (true≢false e)
 one_of_four false true z one two three four e a b c = a
 one_of_four false false true one two three four e a b c = b

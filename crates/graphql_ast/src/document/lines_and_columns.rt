@@ -109,7 +109,7 @@ fn line_ends(bytes: &[u8], is_behind_return: bool) -> u8
     requires { length bytes.now < 256 }
     ensures { let before = if is_behind_return then codes "\r" else [] in
         count_by (λ c. c == 0xA) (with_lf (before ++ bytes.now))
-            ≡ count_by (λ c. c == 0xA) (with_lf before) + result }
+        ≡ count_by (λ c. c == 0xA) (with_lf before) + result }
 {
     let mut count = 0;
     let mut is_behind_return = is_behind_return;

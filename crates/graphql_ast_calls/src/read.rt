@@ -1,6 +1,5 @@
 //! The tree that some JSON is of.
-ghost use Rattle.std.specs.Prelude.{◌≡◌, ℕ, List, IfErr, IfOk, IfSome, IsTrue, Some, option_map};
-ghost use Rattle.std.specs.Str.{IsUtf8};
+ghost use Rattle.std.specs.Prelude.{◌≡◌, ℕ, List, IfErr, IfOk, IfSome, IsTrue, Some};
 ghost use Rattle.serde_json.specs.Read.{read};
 ghost use Rattle.serde_json.specs.View.{view};
 ghost use Rattle.graphql_ast_json.specs.code.JsonNodes.{node_data};
@@ -78,8 +77,6 @@ fn parse<'t>(
 ) -> Result<Option<Parsed<'t>>, Refusal>
     ensures ok { IfOk result (λ found.
         IfSome found (λ value. read json.now ≡ Some (parsed_data value))) }
-    ensures same { IfOk result (λ found.
-        IsUtf8 json.now → option_map parsed_data found ≡ read json.now) }
     ensures err { IfErr result (IsDataRefusal json.now) }
 {
     match str::from_utf8(json) {

@@ -5,7 +5,8 @@ use crate::difference::Difference;
 use anyhow::{Context, Result, bail};
 use graphql_ast::serialize::Syntax;
 use graphql_ast::span::FileId;
-use graphql_ast_json::{AstJson, NodeReader, Unknown};
+use graphql_ast_json::{AstJson, AstJsonError, JsonNode, NodeReader, Unknown, parse_json};
+use json::Scratch;
 use serde_json::Value as Json;
 use std::alloc::Global;
 use std::fmt::Display;
@@ -74,20 +75,39 @@ fn printed<T: AstJson + Syntax + Display + PartialEq + Drop>(
     Ok(first_failed(alloc, case, &tree)?)
 }
 
-/// Where JSON isn't read, and written again, as the case wants.
+/// Where JSON isn't read, and written again, as the case wants: as it was parsed from its text, or as a value of `serde_json`.
 fn read<T: AstJson + Drop>(alloc: Global, case: &JsonCase) -> Result<Option<Difference>> {
+    let source = FileId::new(1);
+    let unknown = if case.pass_over {
+        Unknown::PassOver
+    } else {
+        Unknown::Refuse
+    };
+    let text = case.json.to_string(alloc)?;
+    let mut scratch = Scratch::new(alloc);
+    let parsed = parse_json(alloc, text.as_str(), &mut scratch)?;
+    let parsed = parsed.context("wanted JSON that is parsed")?;
+    let node = JsonNode::parsed(alloc, &parsed, source, unknown);
+    if let Some(difference) = differs(alloc, case, T::read_json(node))? {
+        return Ok(Some(difference));
+    }
     let node = NodeReader {
         alloc,
         json: &case.json,
-        source: FileId::new(1),
-        unknown: if case.pass_over {
-            Unknown::PassOver
-        } else {
-            Unknown::Refuse
-        },
+        source,
+        unknown,
     };
+    differs(alloc, case, T::read_ast_json(node))
+}
+
+/// Where what was read, or why nothing was, isn't as the case wants.
+fn differs<T: AstJson + Drop>(
+    alloc: Global,
+    case: &JsonCase,
+    read: std::result::Result<T, AstJsonError>,
+) -> Result<Option<Difference>> {
     let written = case.written.as_ref().unwrap_or(&case.json);
-    let (found, is_wanted) = match T::read_ast_json(node) {
+    let (found, is_wanted) = match read {
         Ok(tree) => {
             let json = tree.to_ast_json(alloc)?;
             let is_wanted = case.error.is_none() && json == *written;

@@ -25,6 +25,9 @@ const DOCUMENT: &str = r#"{"kind":"Document","definitions":[
 {"kind":"EnumValue","value":"true"},{"kind":"BooleanValue","value":false},{"kind":"NullValue"}]}}]}}]},
 {"kind":"InlineFragment","selectionSet":{"kind":"SelectionSet","selections":[]}}]}}]}"#;
 
+/// What is told of a text that nests too deep.
+const TOO_DEEP: &str = "arrays and objects stand in one another more than 127 deep";
+
 /// What a reading came to, as a text.
 fn said(rt: &impl Abort, alloc: Global, read: Result<Document, AstJsonError>) -> String {
     match read {
@@ -57,12 +60,16 @@ fn node_of(alloc: Global, json: &Json, unknown: Unknown) -> NodeReader<'_> {
     }
 }
 
-/// Whether a text is read alike in both forms, by both rules for what is unknown.
+/// Whether a text is read alike in both forms, by both rules for what is unknown, and a text that is not read is refused as
+/// `serde_json` refuses it, if it does not nest too deep.
 fn check(rt: &impl Abort, alloc: Global, text: &str) {
     let mut scratch = Scratch::new(alloc);
     let parsed = parse_json(alloc, text, &mut scratch).expect(rt, "memory");
+    let read = said(rt, alloc, from_ast_json_str(alloc, text, FileId::new(1)));
     match (parsed, Json::from_str(alloc, text)) {
         (Some(value), Ok(json)) => {
+            let old = Document::read_ast_json(node_of(alloc, &json, Unknown::Refuse));
+            assert_eq!(rt; read.as_str(), said(rt, alloc, old).as_str());
             for unknown in [Unknown::Refuse, Unknown::PassOver] {
                 let node = JsonNode::parsed(alloc, &value, FileId::new(1), unknown);
                 let found = said(rt, alloc, Document::read_json(node));
@@ -76,7 +83,10 @@ fn check(rt: &impl Abort, alloc: Global, text: &str) {
                 assert_eq!(rt; found.as_str(), said_well_formed(rt, alloc, old).as_str());
             }
         }
-        (None, Err(_)) => {}
+        (None, Err(error)) => {
+            let wanted = format!(in alloc; "not JSON: {error}").expect(rt, "memory");
+            assert!(rt; read.as_str() == wanted.as_str() || read.as_str() == TOO_DEEP);
+        }
         _ => panic!(rt; "read in one form alone"),
     }
 }
@@ -142,5 +152,51 @@ fn what_is_not_read_is_so_in_both_forms(rt: HostRuntime) {
         check(&rt, alloc, text.as_str());
         let read = from_ast_json_str::<Document>(alloc, text.as_str(), FileId::new(1));
         assert!(rt; read.is_err());
+    }
+}
+
+/// Numbers of a location in each form that JSON has for them, and what is no number.
+#[test]
+fn offsets_are_read_alike(rt: HostRuntime) {
+    let alloc = rt.alloc();
+    for offset in [
+        "7",
+        "0",
+        "-0",
+        "7.0",
+        "7e0",
+        "0.7e1",
+        "70e-1",
+        "1e2",
+        "7.5",
+        "-1",
+        "4294967295",
+        "4294967296",
+        "18446744073709551615",
+        "18446744073709551616",
+        "1e400",
+        "\"7\"",
+        "null",
+        "true",
+        "[]",
+        "{}",
+        "07",
+        "+7",
+        ".7",
+        "7.",
+    ] {
+        for (before, after) in [
+            (
+                "{\"kind\":\"Document\",\"definitions\":[],\"loc\":{\"start\":0,\"end\":",
+                "}}",
+            ),
+            (
+                "{\"kind\":\"Document\",\"definitions\":[],\"loc\":{\"end\":8,\"start\":",
+                "}}",
+            ),
+        ] {
+            let text = format!(in alloc; "{before}{offset}{after}").expect(&rt, "memory");
+            check(&rt, alloc, text.as_str());
+        }
     }
 }

@@ -12,5 +12,5 @@ type_by null = refl
 type_by (boolean b) = refl
 type_by (number n) = refl
 type_by (string s) = refl
-type_by (array items) = refl
-type_by (object members) = refl
+type_by (array js) = refl
+type_by (object ms) = refl

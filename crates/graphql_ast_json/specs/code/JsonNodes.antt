@@ -31,5 +31,5 @@ type_of null = json_type.Null
 type_of (boolean b) = json_type.Boolean
 type_of (number n) = json_type.Number
 type_of (string s) = json_type.Text
-type_of (array items) = json_type.Array
-type_of (object members) = json_type.Object
+type_of (array js) = json_type.Array
+type_of (object ms) = json_type.Object

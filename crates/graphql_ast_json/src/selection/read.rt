@@ -77,7 +77,8 @@ pub(crate) fn read_inline_fragment(node: JsonNode<'_, '_>) -> Result<InlineFragm
     requires { IsLocated node.unknown (node_data node) }
     ensures ok { IfOk result (λ fragment.
         IsReadFrom IsInlineFragment node.entry (inline_fragment_tree fragment)) }
-    ensures err { IfErr result (λ error. ¬ IsMemory error → IsFromNone IsInlineFragment node.entry) }
+    ensures err { IfErr result (λ error. ¬ IsMemory error
+        → IsFromNone IsInlineFragment node.entry) }
 {
     node.check(
         "InlineFragment",

@@ -4,5 +4,7 @@
 pub mod ParsedMembers
 -- of ParsedJson: the numbers in it
 pub mod ParsedNumbers
--- a list goes item by item
-pub mod Items
+-- of ParsedJson: numbers are tested where they stand
+pub mod NumbersTested
+-- numbers that are written by digits alone
+pub mod Digits

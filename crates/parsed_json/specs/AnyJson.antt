@@ -1,6 +1,6 @@
 -- JSON that is read, in either form.
-use Rattle.std.specs.Prelude.{List, [], map}
-use Rattle.serde_json.specs.Data.{Data, Items}
+use Rattle.std.specs.Prelude.{ℕ, List, [], map}
+use Rattle.serde_json.specs.Data.{Data, Items, no_members, number, object, put, unsigned}
 use Rattle.serde_json.specs.View.{items_of, view}
 use Rattle.parsed_json.specs.ParsedJson.{parsed_data}
 use Rattle.parsed_json.specs.declared.any_json.AnyJson.{AnyJson}
@@ -20,3 +20,7 @@ item_datas items.None = []
 
 abbrev pub items_data : AnyItems → Items
 items_data values = items_of (item_datas values)
+
+-- an object with two members, whose values are these numbers
+abbrev pub two_numbers : List ℕ → ℕ → List ℕ → ℕ → Data
+two_numbers first m second n = object (put second (number (unsigned n)) (put first (number (unsigned m)) no_members))

@@ -1,6 +1,7 @@
 -- The JSON that a value of `json` is, whose numbers are texts and whose objects have their members as the text has them.
-use Rattle.std.specs.Prelude.{negsuc, List, Bool, true, ◌&&◌, Option, Some, None, is_some}
+use Rattle.std.specs.Prelude.{◌≡◌, negsuc, List, Bool, true, false, ◌&&◌, Option, Some, None, is_some}
 use Rattle.json.specs.Json as json
+use Rattle.json.specs.Token.{Token}
 use Rattle.json.specs.Value.{items_view, value_view}
 use Rattle.json.specs.declared.value.Value.{Value}
 use Rattle.serde_json.specs.Data.{Num, negative, Data, null, boolean, number, string, array, object, Items, no_items, item, Members, no_members, put}
@@ -53,3 +54,7 @@ parsed_data value = data_of (value_view value)
 
 abbrev pub parsed_items : List (Value Global) → Items
 parsed_items values = items_of_json (items_view values)
+
+-- what is parsed, if something is, does not pass the test
+abbrev pub NoneWith : {A : Type 0} → (A → Bool) → Option (A × List Token) → Type 0
+NoneWith {A = A} test parsed = (found : A) (rest : List Token) → parsed ≡ Some (found, rest) → test found ≡ false

@@ -1,10 +1,11 @@
 //! JSON that is read: a value of `serde_json`, or one that was parsed from a text in which its own texts lie.
-ghost use Rattle.std.specs.Prelude.{◌≡◌, ◌<◌, ◌==◌, get_or, is_some, length, option_and_then, option_map};
-ghost use Rattle.serde_json.specs.Data.{null};
+ghost use Rattle.std.specs.Prelude.{◌≡◌, ◌<◌, ◌==◌, IfSome, get_or, is_some, length, option_and_then, option_map};
+ghost use Rattle.json.specs.Value.{members_view as parsed_members};
+ghost use Rattle.serde_json.specs.Data.{no_members, null, number, object, unsigned};
 ghost use Rattle.serde_json.specs.Find.{as_array, as_bool, as_null, as_number, as_object, as_str, as_u64, get};
 ghost use Rattle.serde_json.specs.View.{view};
-ghost use Rattle.parsed_json.specs.AnyJson.{any_data, item_datas, items_data};
-ghost use Rattle.parsed_json.specs.ParsedJson.{parsed_data};
+ghost use Rattle.parsed_json.specs.AnyJson.{any_data, item_datas, items_data, two_numbers};
+ghost use Rattle.parsed_json.specs.ParsedJson.{parsed_data, with_members};
 
 use crate::numbers::unsigned_number;
 use json::Value as Parsed;
@@ -24,6 +25,33 @@ pub enum AnyItems<'j, 't> {
     Parsed(&'j [Parsed<'t>]),
     /// Those of an array that isn't there.
     None,
+}
+
+/// The number that a member of this name is, if it is an integer from 0 on that 64 bits hold.
+fn number_named(member: &(&str, Parsed<'_>), name: &str) -> Option<u64>
+    ensures named { IfSome result (λ n. member.now.0.now ≡ name.now) }
+    ensures number { IfSome result (λ n. parsed_data member.now.1 ≡ number (unsigned n)) }
+{
+    if member.0 != name {
+        return None;
+    }
+    match &member.1 {
+        Parsed::Number(text) => unsigned_number(text),
+        _ => None,
+    }
+}
+
+/// The numbers that these members are, if there are two, of these names in this order.
+fn two_numbers(members: &[(&str, Parsed<'_>)], first: &str, second: &str) -> Option<(u64, u64)>
+    ensures { IfSome result (λ n. object (with_members (parsed_members members.now) no_members)
+        ≡ two_numbers first.now n.0 second.now n.1) }
+{
+    if members.len() != 2 {
+        return None;
+    }
+    let start = number_named(&members[0], first)?;
+    let end = number_named(&members[1], second)?;
+    Some((start, end))
 }
 
 impl<'j, 't> AnyJson<'j, 't> {
@@ -89,6 +117,22 @@ impl<'j, 't> AnyJson<'j, 't> {
                 Parsed::Array(items) => Some(AnyItems::Parsed(items.as_slice())),
                 _ => None,
             },
+        }
+    }
+
+    /// The numbers of an object that was parsed and has two members, these in this order, each an integer from 0 on that 64 bits
+    /// hold: the form in which nearly each location comes. Whether an object in another form has them isn't told.
+    #[doc(hidden)]
+    pub fn two_numbers(self, first: &str, second: &str) -> Option<(u64, u64)>
+        ensures { IfSome result (λ n.
+            any_data self.entry ≡ two_numbers first.now n.0 second.now n.1) }
+    {
+        match self {
+            AnyJson::Parsed(value) => match value {
+                Parsed::Object(members) => two_numbers(members.as_slice(), first, second),
+                _ => None,
+            },
+            AnyJson::Owned(_) => None,
         }
     }
 

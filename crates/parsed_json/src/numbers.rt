@@ -1,5 +1,6 @@
 //! Numbers of JSON that is kept as it was parsed: texts.
-ghost use Rattle.std.specs.Prelude.{◌≡◌, false, option_and_then, option_map, true};
+ghost use Rattle.std.specs.Prelude.{◌≡◌, IfSome, Some, false, option_and_then, option_map, true};
+ghost use Rattle.serde_json.specs.Data.{unsigned};
 ghost use Rattle.fast_float.specs.Text.{scan};
 ghost use Rattle.serde_json.specs.Find.{as_u64};
 ghost use Rattle.serde_json.specs.Read.{number_from, number_of};
@@ -7,6 +8,26 @@ ghost use Rattle.serde_json.specs.View.{number_view};
 
 use fast_float::Numeral;
 use serde_json::Number;
+
+/// How many digits write a number that 64 bits hold, whichever they are.
+const DIGITS: usize = 19;
+
+/// The number that so few digits write, if the text has nothing else: the form of nearly all numbers of a syntax tree, offsets.
+fn few_digits(text: &[u8]) -> Option<u64>
+    ensures { IfSome result (λ n. number_of text.now ≡ Some (unsigned n)) }
+{
+    if text.is_empty() || text.len() > DIGITS {
+        return None;
+    }
+    let mut number = 0u64;
+    for byte in text {
+        if !byte.is_ascii_digit() {
+            return None;
+        }
+        number = number * 10 + (*byte - b'0') as u64;
+    }
+    Some(number)
+}
 
 /// The number that these digits stand for behind a minus sign: an integer below 0 that 64 bits hold, or else the nearest
 /// float, if that is finite.
@@ -36,6 +57,9 @@ fn number_from_zero(digits: &[u8]) -> Option<Number>
 pub(crate) fn number_of(text: &str) -> Option<Number>
     ensures { option_map number_view result ≡ number_of text.now }
 {
+    if let Some(number) = few_digits(text.as_bytes()) {
+        return Some(Number::from(number));
+    }
     match text.as_bytes() {
         [b'-', digits @ ..] => number_below_zero(digits),
         digits => number_from_zero(digits),

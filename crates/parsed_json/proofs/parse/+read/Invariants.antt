@@ -1,0 +1,33 @@
+use Rattle.std.proofs.Common.{◌≡◌, ℕ, ◌+◌, ◌*◌, ◌≤◌, IsTrue, length}
+use Rattle.json.proofs.Trees.{items_before, members_before}
+use Rattle.json.specs.Json.{items, members, parse_map, value}
+use Rattle.json.specs.Value.{items_view, members_view}
+use Rattle.parsed_json.specs.ParsedJson.{items_have_numbers, members_have_numbers}
+use Rattle.parsed_json.proofs.parse.+read.Given as goal
+
+abbrev pub decreases-read_items : goal.decreases-read_items
+decreases-read_items l = 2 * l.depth + 1
+
+abbrev pub decreases-read_members : goal.decreases-read_members
+decreases-read_members l = 2 * l.depth + 1
+
+abbrev pub decreases-read_value : goal.decreases-read_value
+decreases-read_value l = 2 * l.depth
+
+abbrev pub invariant-read_items-loop-alloc : goal.invariant-read_items-loop-alloc
+invariant-read_items-loop-alloc l =
+    (n : ℕ)
+    × (items (value l.depth) (length l.initial.reader) l.initial.reader ≡ parse_map (items_before l.found.items) (items (value l.depth) n l.reader))
+    × (length l.reader ≤ n) × (length l.reader ≤ length l.initial.reader) × IsTrue (items_have_numbers (items_view l.found.items))
+
+abbrev pub decreases-read_items-loop-alloc : goal.decreases-read_items-loop-alloc
+decreases-read_items-loop-alloc l = length l.reader
+
+abbrev pub invariant-read_members-loop-name : goal.invariant-read_members-loop-name
+invariant-read_members-loop-name l =
+    (n : ℕ)
+    × (members (value l.depth) (length l.initial.reader) l.initial.reader ≡ parse_map (members_before l.found.items) (members (value l.depth) n l.reader))
+    × (length l.reader ≤ n) × (length l.reader ≤ length l.initial.reader) × IsTrue (members_have_numbers (members_view l.found.items))
+
+abbrev pub decreases-read_members-loop-name : goal.decreases-read_members-loop-name
+decreases-read_members-loop-name l = length l.reader

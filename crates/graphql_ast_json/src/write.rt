@@ -52,7 +52,7 @@ pub(crate) fn write_list<F: Form>(alloc: Global, values: &[F::Value]) -> Result<
     ensures { IfOk result (λ json. (unknown : Unknown) → IsSomeAnd (as_array (view json))
         (Each (F.is_json_of unknown) (map F.tree values.now))) }
 {
-    let mut list = Vec::with_capacity(alloc, values.len())?;
+    let mut list = Vec::new(alloc);
     for value in values {
         let json = F::write(alloc, value)?;
         push(&mut list, json)?;

@@ -101,7 +101,7 @@ fn write_selections(alloc: Global, selections: &[Selection]) -> Result<Json, All
     ensures { IfOk result (λ json. (unknown : Unknown) → IsSomeAnd (as_array (view json))
         (AreSelections unknown (selection_trees selections.now))) }
 {
-    let mut list = Vec::with_capacity(alloc, selections.len())?;
+    let mut list = Vec::new(alloc);
     for selection in selections {
         let json = write_selection(alloc, selection)?;
         push(&mut list, json)?;

@@ -67,7 +67,7 @@ fn write_items(node: &NodeWriter, items: &[Node<Value>]) -> Result<Json, AllocEr
     ensures { IfOk result (λ json. (unknown : Unknown)
         → IsSomeAnd (as_array (view json)) (AreValues unknown (value_trees items.now))) }
 {
-    let mut values = Vec::with_capacity(node.allocator(), items.len())?;
+    let mut values = Vec::new(node.allocator());
     for item in items {
         let value = write_value(node.inner(item.location()), item)?;
         push(&mut values, value)?;
@@ -80,7 +80,7 @@ fn write_fields(node: &NodeWriter, fields: &[(Name, Node<Value>)]) -> Result<Jso
     ensures { IfOk result (λ json. (unknown : Unknown) → IsSomeAnd (as_array (view json))
         (AreObjectFields unknown (object_field_trees fields.now))) }
 {
-    let mut list = Vec::with_capacity(node.allocator(), fields.len())?;
+    let mut list = Vec::new(node.allocator());
     for field in fields {
         let value = write_value(node.inner(field.1.location()), &field.1)?;
         let json = write_field(node.allocator(), &field.0, value)?;

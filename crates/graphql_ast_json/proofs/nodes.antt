@@ -8,6 +8,8 @@ pub mod GivenMembers
 pub mod KindTexts
 -- of Nodes: whether a name is one of some names
 pub mod NamesAmong
+-- of JsonNodes.member_names: the names of members alone, as they stand in order
+pub mod MemberNames
 -- of Nodes: the names of the members of JSON that was parsed
 pub mod ParsedNames
 -- of JsonNodes: what tells the type of JSON

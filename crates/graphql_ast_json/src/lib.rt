@@ -2,7 +2,7 @@
 //!
 //! - `AstJson`: what can be read from AST JSON, and written as it; `AstNode`: of which each tree is one node.
 //! - `NodeReader`: JSON that is read, by a reading that refuses what is unknown or passes over it.
-//! - `parse_json`, `JsonNode`: JSON that was parsed from a text, and JSON that is read in that form or as a value of `serde_json`.
+//! - `parse_json`: JSON that is parsed from a text; `JsonNode`: JSON that is read, in that form or as a value of `serde_json`.
 //! - `from_ast_json_str`: a tree from the text of its JSON.
 //! - `error`: why JSON is of no tree, and where in it.
 //! - `from_well_formed_ast_json_str`: a well-formed tree from the text of its JSON, or where it has the first flaw.

@@ -1,13 +1,13 @@
 //! JSON is read: a node's kind, the names of its members, and where it stands.
-ghost use Rattle.std.specs.Prelude.{◌≡◌, ◌<◌, ◌++◌, IfOk, IfErr, IfSome, OnOk, Some, None, IsTrue, codes, is_some, not, option_map};
+ghost use Rattle.std.specs.Prelude.{◌≡◌, ◌<◌, ◌++◌, IfOk, IfErr, IfSome, OnOk, OnSome, Some, None, IsTrue, codes, is_some, not, option_map};
 ghost use Rattle.json.specs.Value.{members_view as parsed_members};
-ghost use Rattle.serde_json.specs.Data.{depth, no_members};
+ghost use Rattle.serde_json.specs.Data.{depth, no_members, object};
 ghost use Rattle.serde_json.specs.Find.{get};
 ghost use Rattle.serde_json.specs.View.{members_view, view};
 ghost use Rattle.graphql_text.specs.grammar.Forms.{is_one_of};
-ghost use Rattle.parsed_json.specs.AnyJson.{any_data};
+ghost use Rattle.parsed_json.specs.AnyJson.{any_data, two_numbers};
 ghost use Rattle.graphql_ast_json.specs.code.Errors.{IsMemory};
-ghost use Rattle.graphql_ast_json.specs.code.JsonNodes.{has_other_names, node_data, type_of};
+ghost use Rattle.graphql_ast_json.specs.code.JsonNodes.{has_other_names, member_names, node_data, type_of};
 ghost use Rattle.graphql_ast_json.specs.code.NodeReading.{IsInFile, StandsAt, node_json, stretch_of, texts_of};
 ghost use Rattle.parsed_json.specs.ParsedJson.{parsed_data, with_members};
 ghost use Rattle.graphql_ast_json.specs.nodes.Nodes.{HasOnly, IsLocated, IsLocation, IsNode, member_of, names_among, offset_of, stretch_in};
@@ -19,9 +19,9 @@ use crate::error::{AstJsonError, AstJsonProblem, JsonType};
 use graphql_base::span::{FileId, SourceSpan};
 use json::Value as Parsed;
 use members::MAX_OFFSET;
-use parsed_json::{AnyJson, owned_json};
-use serde_json::{Map, Value as Json};
-use std::alloc::Global;
+use parsed_json::AnyJson;
+use serde_json::{Map, Value as Json, put};
+use std::alloc::{AllocError, Global};
 
 /// What becomes of a member that no node of the kind has, and of one that no location has.
 #[derive(Clone, Copy, Debug, PartialEq, Eq)]
@@ -66,7 +66,7 @@ fn is_one_of(names: &[&str], name: &str) -> bool
     names.contains(&name)
 }
 
-#[tactic(auto, using(crate::proofs::nodes::NamesAmong::one_of_first, crate::proofs::nodes::NamesAmong::one_of_others))]
+#[tactic(auto, using(crate::proofs::nodes::NamesAmong::one_of_steps))]
 fn is_one_of_either(names: &[&str], others: &[&str], name: &str) -> bool
     ensures { result ≡ is_one_of (texts_of names.now ++ texts_of others.now) name.now }
 {
@@ -94,17 +94,71 @@ fn unknown_name<'j>(
     None
 }
 
+/// Whether the name of this index is this one.
+fn is_at(names: &[&str], index: usize, name: &str) -> bool
+    ensures { IsTrue result → IsTrue (is_one_of (texts_of names.now) name.now) }
+{
+    index < names.len() && names[index] == name
+}
+
+/// Where one of these names is this one, if one is.
+fn index_of(names: &[&str], name: &str) -> Option<usize>
+    ensures { is_some result ≡ is_one_of (texts_of names.now) name.now }
+{
+    for index in 0..names.len() {
+        if names[index] == name {
+            return Some(index);
+        }
+    }
+    None
+}
+
+/// Which of the others is the next one behind this name, if it is one of the names or of the others. The one that is expected
+/// is looked at first: members of most nodes come in the order of the kind's names, so that few are searched for.
+#[tactic(auto, using(crate::proofs::nodes::NamesAmong::one_of_steps))]
+fn next_behind(names: &[&str], others: &[&str], expected: usize, name: &str) -> Option<usize>
+    ensures { is_some result ≡ is_one_of (texts_of names.now ++ texts_of others.now) name.now }
+{
+    if is_at(others, expected, name) {
+        Some(expected.wrapping_add(1))
+    } else if index_of(names, name).is_some() {
+        Some(expected)
+    } else {
+        match index_of(others, name) {
+            Some(index) => Some(index.wrapping_add(1)),
+            None => None,
+        }
+    }
+}
+
 /// Whether each member has one of these names.
 fn have_only_names(members: &[(&str, Parsed<'_>)], names: &[&str], others: &[&str]) -> bool
     ensures { result ≡ names_among (texts_of names.now ++ texts_of others.now)
         (with_members (parsed_members members.now) no_members) }
 {
+    let mut next = 0usize;
     for (name, _) in members {
-        if !is_one_of_either(names, others, name) {
-            return false;
+        match next_behind(names, others, next, name) {
+            Some(index) => next = index,
+            None => return false,
         }
     }
     true
+}
+
+/// The names of these members as an object has them, in order, each with null.
+fn names_alone(
+    alloc: Global,
+    members: &[(&str, Parsed<'_>)],
+) -> Result<Map<String, Json>, AllocError>
+    ensures { IfOk result (λ names. member_names (members_view names.entries)
+        ≡ member_names (with_members (parsed_members members.now) no_members)) }
+{
+    let mut names = Map::new(alloc);
+    for (name, _) in members {
+        put(&mut names, alloc, name, Json::Null)?;
+    }
+    Ok(names)
 }
 
 /// The type of JSON, for an error.
@@ -205,30 +259,51 @@ impl<'j, 't> JsonNode<'j, 't> {
         }
     }
 
-    /// That a value of `serde_json` has no other members than these.
+    /// That an object of `serde_json` has no other members than these. The error is of the first.
     fn check_owned_names(
         self,
-        json: &Json,
+        members: &Map<String, Json>,
         names: &[&str],
         others: &[&str],
         of: &str,
     ) -> Result<(), AstJsonError>
         ensures ok { OnOk result (IsTrue (not (has_other_names
-            (texts_of names.now ++ texts_of others.now) (view json.now)))) }
+            (texts_of names.now ++ texts_of others.now)
+            (object (members_view members.now.entries))))) }
         ensures err { IfErr result (λ error. ¬ IsMemory error → IsTrue (has_other_names
-            (texts_of names.now ++ texts_of others.now) (view json.now))) }
+            (texts_of names.now ++ texts_of others.now)
+            (object (members_view members.now.entries)))) }
     {
-        match json {
-            Json::Object(members) => match unknown_name(members, names, others) {
-                Some(name) => Err(self.unknown(name, of)),
-                None => Ok(()),
-            },
-            _ => Ok(()),
+        match unknown_name(members, names, others) {
+            Some(name) => Err(self.unknown(name, of)),
+            None => Ok(()),
         }
     }
 
-    /// The same of the JSON of the reader. Where it was parsed and has others, a value of `serde_json` is made of it, whose
-    /// members stand in order: the error is of the first.
+    /// The same of an object that was parsed. Where it has others, its names are put in order, for the error is of the first.
+    #[tactic(auto, using(crate::proofs::nodes::MemberNames::among_of_same))]
+    fn check_parsed_names(
+        self,
+        members: &[(&str, Parsed<'_>)],
+        names: &[&str],
+        others: &[&str],
+        of: &str,
+    ) -> Result<(), AstJsonError>
+        ensures ok { OnOk result (IsTrue (not (has_other_names
+            (texts_of names.now ++ texts_of others.now)
+            (object (with_members (parsed_members members.now) no_members))))) }
+        ensures err { IfErr result (λ error. ¬ IsMemory error → IsTrue (has_other_names
+            (texts_of names.now ++ texts_of others.now)
+            (object (with_members (parsed_members members.now) no_members)))) }
+    {
+        if have_only_names(members, names, others) {
+            return Ok(());
+        }
+        let found = names_alone(self.alloc, members)?;
+        self.check_owned_names(&found, names, others, of)
+    }
+
+    /// The same of the JSON of the reader, where it is an object.
     fn check_other_names(
         self,
         names: &[&str],
@@ -241,15 +316,15 @@ impl<'j, 't> JsonNode<'j, 't> {
             (texts_of names.now ++ texts_of others.now) (node_data self.entry))) }
     {
         match self.json {
-            AnyJson::Owned(json) => self.check_owned_names(json, names, others, of),
+            AnyJson::Owned(json) => match json {
+                Json::Object(members) => self.check_owned_names(members, names, others, of),
+                _ => Ok(()),
+            },
             AnyJson::Parsed(value) => match value {
-                Parsed::Object(members) if have_only_names(members.as_slice(), names, others) => Ok(
-                    (),
-                ),
-                _ => {
-                    let json = owned_json(self.alloc, value)?;
-                    self.check_owned_names(&json, names, others, of)
+                Parsed::Object(members) => {
+                    self.check_parsed_names(members.as_slice(), names, others, of)
                 }
+                _ => Ok(()),
             },
         }
     }
@@ -287,6 +362,35 @@ impl<'j, 't> JsonNode<'j, 't> {
         }
     }
 
+    /// The offsets of a location that has these two members alone, as nearly each has: so they are not looked for by name.
+    fn plain_offsets(self) -> Option<(u64, u64)>
+        ensures { IfSome result (λ n. node_data self.entry
+            ≡ two_numbers (codes "start") n.0 (codes "end") n.1) }
+    {
+        match self.json.two_numbers("start", "end") {
+            Some(offsets) => Some(offsets),
+            None => match self.json.two_numbers("end", "start") {
+                Some((end, start)) => Some((start, end)),
+                None => None,
+            },
+        }
+    }
+
+    /// The stretch of such a location, if that is one.
+    fn plain_span(self) -> Option<SourceSpan>
+        ensures is { OnSome result (IsLocation self.entry.unknown (node_data self.entry)) }
+        ensures stands { IfSome result (λ span.
+            Some (stretch_of span) ≡ stretch_in (node_data self.entry)) }
+        ensures file { IfSome result (λ span. IsInFile self.entry.source (Some span)) }
+    {
+        let (start, end) = self.plain_offsets()?;
+        if start <= MAX_OFFSET && end <= MAX_OFFSET {
+            SourceSpan::new(self.source, start as u32, end as u32)
+        } else {
+            None
+        }
+    }
+
     /// The stretch of the source text that a location is.
     fn span(self) -> Result<SourceSpan, AstJsonError>
         ensures is { OnOk result (IsLocation self.entry.unknown (node_data self.entry)) }
@@ -296,6 +400,9 @@ impl<'j, 't> JsonNode<'j, 't> {
         ensures err { IfErr result (λ error. ¬ IsMemory error
             → ¬ IsLocation self.entry.unknown (node_data self.entry)) }
     {
+        if let Some(span) = self.plain_span() {
+            return Ok(span);
+        }
         self.check_names(&["start", "end"], &[], "location")?;
         let start = self.offset("start")?;
         let end = self.offset("end")?;

@@ -1,6 +1,6 @@
 -- JSON that is read as a node, in either form.
-use Rattle.std.specs.Prelude.{ℕ, List, Bool, false, not}
-use Rattle.serde_json.specs.Data.{Data, null, boolean, number, string, array, object}
+use Rattle.std.specs.Prelude.{ℕ, List, [], ◌∷◌, Bool, false, not}
+use Rattle.serde_json.specs.Data.{Data, null, boolean, number, string, array, object, Members, no_members, member}
 use Rattle.parsed_json.specs.AnyJson.{any_data}
 use Rattle.graphql_ast_json.specs.declared.error.JsonType.{JsonType}
 use Rattle.graphql_ast_json.specs.declared.error.JsonType.TheVariants as json_type
@@ -24,6 +24,11 @@ IsFromNone {Tree = Tree} Is node = (tree : Tree) → Is node.unknown tree (node_
 abbrev pub has_other_names : List (List ℕ) → Data → Bool
 has_other_names names (object members) = not (names_among names members)
 has_other_names names _ = false
+
+-- the names of the members, in order
+abbrev pub member_names : Members → List (List ℕ)
+member_names no_members = []
+member_names (member name _ more) = name ∷ member_names more
 
 -- the type of JSON
 abbrev pub type_of : Data → JsonType

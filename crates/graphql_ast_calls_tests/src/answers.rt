@@ -157,4 +157,13 @@ fn buffers_that_are_too_short_are_told(rt: HostRuntime) {
     assert_eq!(rt; needed, normal.len());
     let status = write_json(alloc, b"{", false, &mut out, &mut needed);
     assert_eq!(rt; status, Status::NotJson);
+    let mut out = [b'#'; 400];
+    let status = write_json(alloc, b"\"\xff\"", false, &mut out, &mut needed);
+    assert_eq!(rt; status, Status::NotJson);
+    check_text(
+        &rt,
+        &out,
+        needed,
+        "not JSON: invalid JSON at line 1 column 2",
+    );
 }

@@ -8,6 +8,8 @@ mod ill_formed_samples;
 #[cfg(test)]
 mod offsets;
 #[cfg(test)]
+mod outside;
+#[cfg(test)]
 mod parsed;
 #[cfg(test)]
 mod refusals;

@@ -1,11 +1,12 @@
 //! JSON that is parsed from a text is read as a value of `serde_json` is: as the same tree, or with the same error.
+use crate::outside::Outside;
 use graphql_ast::ast::Document;
 use graphql_ast_json::{
     AstJson, AstJsonError, JsonNode, NodeReader, Unknown, WellFormedError, from_ast_json_str,
-    parse_json, read_well_formed_ast_json, read_well_formed_json,
+    from_well_formed_ast_json_str, parse_json, read_well_formed_ast_json, read_well_formed_json,
 };
 use graphql_base::span::FileId;
-use json::Scratch;
+use json::{Scratch, Value as Parsed};
 use serde_json::Value as Json;
 use std::alloc::Global;
 use std::process::Abort;
@@ -51,41 +52,65 @@ fn said_well_formed(
     }
 }
 
-fn node_of(alloc: Global, json: &Json, unknown: Unknown) -> NodeReader<'_> {
-    NodeReader {
+/// What a reading of a text says, and that of a well-formed tree alone.
+fn said_of_text(rt: &impl Abort, alloc: Global, text: &str) -> (String, String) {
+    let source = FileId::new(1);
+    (
+        said(rt, alloc, from_ast_json_str(alloc, text, source)),
+        said_well_formed(
+            rt,
+            alloc,
+            from_well_formed_ast_json_str(alloc, text, source),
+        ),
+    )
+}
+
+/// What the readings of JSON say, by a rule for what is unknown: of what was parsed the same as of a value of `serde_json`.
+fn said_of_both(
+    rt: &impl Abort,
+    alloc: Global,
+    value: &Parsed<'_>,
+    json: &Json,
+    unknown: Unknown,
+) -> (String, String) {
+    let node = JsonNode::parsed(alloc, value, FileId::new(1), unknown);
+    let reader = NodeReader {
         alloc,
         json,
         source: FileId::new(1),
         unknown,
-    }
+    };
+    let read = said(rt, alloc, Document::read_ast_json(reader));
+    let found = said(rt, alloc, Document::read_json(node));
+    assert_eq!(rt; found.as_str(), read.as_str());
+    let well_formed = said_well_formed(rt, alloc, read_well_formed_ast_json(reader));
+    let found = said_well_formed(rt, alloc, read_well_formed_json(node));
+    assert_eq!(rt; found.as_str(), well_formed.as_str());
+    (read, well_formed)
 }
 
-/// Whether a text is read alike in both forms, by both rules for what is unknown, and a text that is not read is refused as
-/// `serde_json` refuses it, if it does not nest too deep.
+/// Whether a text is read alike in both forms, and by a kind that reads values of `serde_json` alone. A text that is not read is
+/// refused as `serde_json` refuses it.
 fn check(rt: &impl Abort, alloc: Global, text: &str) {
     let mut scratch = Scratch::new(alloc);
     let parsed = parse_json(alloc, text, &mut scratch).expect(rt, "memory");
-    let read = said(rt, alloc, from_ast_json_str(alloc, text, FileId::new(1)));
+    let (read, well_formed) = said_of_text(rt, alloc, text);
+    let outside = match from_ast_json_str::<Outside>(alloc, text, FileId::new(1)) {
+        Ok(Outside { document }) => said(rt, alloc, Ok(document)),
+        Err(error) => said(rt, alloc, Err(error)),
+    };
+    assert_eq!(rt; outside.as_str(), read.as_str());
     match (parsed, Json::from_str(alloc, text)) {
         (Some(value), Ok(json)) => {
-            let old = Document::read_ast_json(node_of(alloc, &json, Unknown::Refuse));
-            assert_eq!(rt; read.as_str(), said(rt, alloc, old).as_str());
-            for unknown in [Unknown::Refuse, Unknown::PassOver] {
-                let node = JsonNode::parsed(alloc, &value, FileId::new(1), unknown);
-                let found = said(rt, alloc, Document::read_json(node));
-                let owned = JsonNode::owned(alloc, &json, FileId::new(1), unknown);
-                let wanted = said(rt, alloc, Document::read_json(owned));
-                assert_eq!(rt; found.as_str(), wanted.as_str());
-                let old = Document::read_ast_json(node_of(alloc, &json, unknown));
-                assert_eq!(rt; found.as_str(), said(rt, alloc, old).as_str());
-                let found = said_well_formed(rt, alloc, read_well_formed_json(node));
-                let old = read_well_formed_ast_json(node_of(alloc, &json, unknown));
-                assert_eq!(rt; found.as_str(), said_well_formed(rt, alloc, old).as_str());
-            }
+            let wanted = said_of_both(rt, alloc, &value, &json, Unknown::Refuse);
+            assert_eq!(rt; read.as_str(), wanted.0.as_str());
+            assert_eq!(rt; well_formed.as_str(), wanted.1.as_str());
+            said_of_both(rt, alloc, &value, &json, Unknown::PassOver);
         }
         (None, Err(error)) => {
             let wanted = format!(in alloc; "not JSON: {error}").expect(rt, "memory");
-            assert!(rt; read.as_str() == wanted.as_str() || read.as_str() == TOO_DEEP);
+            assert_eq!(rt; read.as_str(), wanted.as_str());
+            assert_eq!(rt; well_formed.as_str(), wanted.as_str());
         }
         _ => panic!(rt; "read in one form alone"),
     }
@@ -122,14 +147,32 @@ fn both_forms_are_read_alike(rt: HostRuntime) {
     }
 }
 
-/// A number that is too large for a float, and 128 arrays in one another, are read in neither form.
+/// 127 arrays stand in one another in both forms, and 128 in neither.
+#[test]
+fn depth_is_bounded_alike(rt: HostRuntime) {
+    let alloc = rt.alloc();
+    for (count, is_deep) in [(126, false), (127, false), (128, true), (129, true)] {
+        let mut text = String::new(alloc);
+        for bracket in ["[", "]"] {
+            for _ in 0..count {
+                text.push_str(bracket).expect(&rt, "memory");
+            }
+        }
+        if is_deep {
+            let (read, well_formed) = said_of_text(&rt, alloc, &text);
+            assert_eq!(rt; read.as_str(), TOO_DEEP);
+            assert_eq!(rt; well_formed.as_str(), TOO_DEEP);
+        } else {
+            check(&rt, alloc, &text);
+        }
+    }
+}
+
+/// A number that is too large for a float is read in neither form.
 #[test]
 fn what_is_not_read_is_so_in_both_forms(rt: HostRuntime) {
     let alloc = rt.alloc();
     for (before, piece, count, after) in [
-        ("", "[", 127, "]"),
-        ("", "[", 128, "]"),
-        ("", "[", 129, "]"),
         ("1", "0", 307, ""),
         ("1", "0", 308, ""),
         ("1", "0", 309, ""),
@@ -145,58 +188,97 @@ fn what_is_not_read_is_so_in_both_forms(rt: HostRuntime) {
         for _ in 0..count {
             text.push_str(piece).expect(&rt, "memory");
         }
-        let ends = if piece == "[" { count } else { 1 };
-        for _ in 0..ends {
-            text.push_str(after).expect(&rt, "memory");
-        }
+        text.push_str(after).expect(&rt, "memory");
         check(&rt, alloc, text.as_str());
         let read = from_ast_json_str::<Document>(alloc, text.as_str(), FileId::new(1));
         assert!(rt; read.is_err());
     }
 }
 
+/// What stands before and behind an offset of a location: in this order and another, beside a third member, and twice.
+const LOCATIONS: [(&str, &str); 6] = [
+    ("\"start\":0,\"end\":", ""),
+    ("\"end\":8,\"start\":", ""),
+    ("\"start\":", ",\"end\":8"),
+    ("\"end\":", ",\"start\":0"),
+    ("\"start\":0,\"line\":1,\"end\":", ""),
+    ("\"start\":9,\"end\":2,\"start\":", ""),
+];
+
 /// Numbers of a location in each form that JSON has for them, and what is no number.
+const OFFSETS: [&str; 25] = [
+    "7",
+    "9",
+    "0",
+    "-0",
+    "7.0",
+    "7e0",
+    "0.7e1",
+    "70e-1",
+    "1e2",
+    "7.5",
+    "-1",
+    "4294967295",
+    "4294967296",
+    "18446744073709551615",
+    "18446744073709551616",
+    "1e400",
+    "\"7\"",
+    "null",
+    "true",
+    "[]",
+    "{}",
+    "07",
+    "+7",
+    ".7",
+    "7.",
+];
+
 #[test]
 fn offsets_are_read_alike(rt: HostRuntime) {
     let alloc = rt.alloc();
-    for offset in [
-        "7",
-        "0",
-        "-0",
-        "7.0",
-        "7e0",
-        "0.7e1",
-        "70e-1",
-        "1e2",
-        "7.5",
-        "-1",
-        "4294967295",
-        "4294967296",
-        "18446744073709551615",
-        "18446744073709551616",
-        "1e400",
-        "\"7\"",
-        "null",
-        "true",
-        "[]",
-        "{}",
-        "07",
-        "+7",
-        ".7",
-        "7.",
-    ] {
-        for (before, after) in [
-            (
-                "{\"kind\":\"Document\",\"definitions\":[],\"loc\":{\"start\":0,\"end\":",
-                "}}",
-            ),
-            (
-                "{\"kind\":\"Document\",\"definitions\":[],\"loc\":{\"end\":8,\"start\":",
-                "}}",
-            ),
-        ] {
-            let text = format!(in alloc; "{before}{offset}{after}").expect(&rt, "memory");
+    let node = "{\"kind\":\"Document\",\"definitions\":[],\"loc\":{";
+    for offset in OFFSETS {
+        for (before, after) in LOCATIONS {
+            let text = format!(in alloc; "{node}{before}{offset}{after}}}}}").expect(&rt, "memory");
             check(&rt, alloc, text.as_str());
         }
+    }
+}
+
+/// Of members that are unknown the first in the order of the alphabet is told, wherever they stand.
+#[test]
+fn the_first_unknown_member_is_told(rt: HostRuntime) {
+    let alloc = rt.alloc();
+    for (text, told) in [
+        (
+            r#"{"kind":"Document","z":1,"definitions":[],"b":2,"m":3}"#,
+            "at the root: found a member `b`, which no Document has",
+        ),
+        (
+            r#"{"b":1,"definitions":[],"a":2,"kind":"Document","a":3}"#,
+            "at the root: found a member `a`, which no Document has",
+        ),
+        (
+            r#"{"kind":"Document","definitions":[],"b":[1,{}],"\u0061b":{"a":1}}"#,
+            "at the root: found a member `ab`, which no Document has",
+        ),
+        (
+            r#"{"definitions":[],"definitions":[],"kind":"Document","Kind":1,"":2}"#,
+            "at the root: found a member an empty text, which no Document has",
+        ),
+        (
+            r#"{"kind":"Document","definitions":[],"loc":{"start":0,"z":1,"end":2,"b":3}}"#,
+            "at `loc`, in a node from 0 to 2: found a member `b`, which no location has",
+        ),
+        (
+            r#"{"kind":"Document","definitions":[{"name":{"kind":"Name","value":"S","x":1,"k":2},
+            "kind":"ScalarTypeDefinition"}]}"#,
+            "at `definitions[0].name`: found a member `k`, which no Name has",
+        ),
+    ] {
+        check(&rt, alloc, text);
+        let (read, _) = said_of_text(&rt, alloc, text);
+        assert_eq!(rt; read.as_str(), told);
     }
 }

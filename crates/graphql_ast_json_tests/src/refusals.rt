@@ -48,29 +48,3 @@ fn a_flaw_is_told_or_memory_was_refused(rt: HostRuntime) {
         Err(error) => assert!(rt; error.is_memory()),
     }
 }
-
-/// Of a text with an unknown member, whose name is written by an escape, and of one that is no JSON.
-#[test]
-fn a_text_is_refused_or_memory_was(rt: HostRuntime) {
-    let alloc = rt.alloc();
-    for (text, wanted) in [
-        (
-            r#"{"kind":"Document","definitions":[],"b":[{}],"\u0061":1}"#,
-            "at the root: found a member `a`, which no Document has",
-        ),
-        (
-            r#"{"kind":"\u0044ocument","definitions":[}"#,
-            "not JSON: invalid JSON at line 1 column 40",
-        ),
-    ] {
-        match from_ast_json_str::<Document>(alloc, text, FileId::new(1)) {
-            Ok(_) => panic!(rt; "of no document"),
-            Err(error) if error.is_memory() => {}
-            Err(error) => {
-                if let Ok(said) = format!(in alloc; "{error}") {
-                    assert_eq!(rt; said.as_str(), wanted);
-                }
-            }
-        }
-    }
-}

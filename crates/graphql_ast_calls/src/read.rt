@@ -130,19 +130,15 @@ pub(crate) fn read_tree<T: AstJson>(
     ensures err { IfErr result (IsRefusal (T.is_json_of (reading pass_over)) json.now) }
 {
     let mut scratch = Scratch::new(alloc);
-    match parse(alloc, json, &mut scratch)? {
-        Some(value) => tree_of(
-            alloc,
-            JsonNode::parsed(alloc, &value, source(), unknown(pass_over)),
-        ),
-        None => {
-            let value = read_data(alloc, json)?;
-            tree_of(
-                alloc,
-                JsonNode::owned(alloc, &value, source(), unknown(pass_over)),
-            )
-        }
+    if let Some(value) = parse(alloc, json, &mut scratch)? {
+        let node = JsonNode::parsed(alloc, &value, source(), unknown(pass_over));
+        return tree_of(alloc, node);
     }
+    // The second reading has a scratch of its own, which takes the place of this one.
+    drop(scratch);
+    let value = read_data(alloc, json)?;
+    let node = JsonNode::owned(alloc, &value, source(), unknown(pass_over));
+    tree_of(alloc, node)
 }
 
 /// The tree that a node is of, if it is well formed, or why there is none.
@@ -184,19 +180,15 @@ pub(crate) fn read_well_formed_tree<T: AstJson + SyntaxTree + Drop>(
         (λ tree. T.kind.obeys (T.SyntaxTree.tree tree)) json.now) }
 {
     let mut scratch = Scratch::new(alloc);
-    match parse(alloc, json, &mut scratch)? {
-        Some(value) => well_formed_tree_of(
-            alloc,
-            JsonNode::parsed(alloc, &value, source(), unknown(pass_over)),
-        ),
-        None => {
-            let value = read_data(alloc, json)?;
-            well_formed_tree_of(
-                alloc,
-                JsonNode::owned(alloc, &value, source(), unknown(pass_over)),
-            )
-        }
+    if let Some(value) = parse(alloc, json, &mut scratch)? {
+        let node = JsonNode::parsed(alloc, &value, source(), unknown(pass_over));
+        return well_formed_tree_of(alloc, node);
     }
+    // The second reading has a scratch of its own, which takes the place of this one.
+    drop(scratch);
+    let value = read_data(alloc, json)?;
+    let node = JsonNode::owned(alloc, &value, source(), unknown(pass_over));
+    well_formed_tree_of(alloc, node)
 }
 
 impl Refusal {

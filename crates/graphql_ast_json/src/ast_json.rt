@@ -249,10 +249,12 @@ pub fn from_ast_json_str<T: AstJson>(
         → (tree : T.Tree) → ¬ T.is_json_of Refuse tree json) }
 {
     let mut scratch = Scratch::new(alloc);
-    match parse_json(alloc, text, &mut scratch)? {
-        Some(value) => T::read_json(JsonNode::parsed(alloc, &value, source, Unknown::Refuse)),
-        None => read_otherwise(alloc, text, source),
+    if let Some(value) = parse_json(alloc, text, &mut scratch)? {
+        return T::read_json(JsonNode::parsed(alloc, &value, source, Unknown::Refuse));
     }
+    // The second reading has a scratch of its own, which takes the place of this one.
+    drop(scratch);
+    read_otherwise(alloc, text, source)
 }
 
 /// The same of a text that is no JSON that is parsed: it is read again, for the error.

@@ -60,20 +60,27 @@ pub struct JsonNode<'j, 't> {
     pub unknown: Unknown,
 }
 
-fn is_one_of(names: &[&str], name: &str) -> bool
-    ensures { result ≡ is_one_of (texts_of names.now) name.now }
+/// Where one of these names is this one, if one is.
+fn index_of(names: &[&str], name: &str) -> Option<usize>
+    ensures { is_some result ≡ is_one_of (texts_of names.now) name.now }
 {
-    names.contains(&name)
+    for index in 0..names.len() {
+        if names[index] == name {
+            return Some(index);
+        }
+    }
+    None
 }
 
+/// Whether this is one of the names, or of the others.
 #[tactic(auto, using(crate::proofs::nodes::NamesAmong::one_of_steps))]
 fn is_one_of_either(names: &[&str], others: &[&str], name: &str) -> bool
     ensures { result ≡ is_one_of (texts_of names.now ++ texts_of others.now) name.now }
 {
-    if is_one_of(names, name) {
+    if index_of(names, name).is_some() {
         true
     } else {
-        is_one_of(others, name)
+        index_of(others, name).is_some()
     }
 }
 
@@ -99,18 +106,6 @@ fn is_at(names: &[&str], index: usize, name: &str) -> bool
     ensures { IsTrue result → IsTrue (is_one_of (texts_of names.now) name.now) }
 {
     index < names.len() && names[index] == name
-}
-
-/// Where one of these names is this one, if one is.
-fn index_of(names: &[&str], name: &str) -> Option<usize>
-    ensures { is_some result ≡ is_one_of (texts_of names.now) name.now }
-{
-    for index in 0..names.len() {
-        if names[index] == name {
-            return Some(index);
-        }
-    }
-    None
 }
 
 /// Which of the others is the next one behind this name, if it is one of the names or of the others. The one that is expected

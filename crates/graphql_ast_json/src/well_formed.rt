@@ -192,15 +192,13 @@ pub fn from_well_formed_ast_json_str<T: AstJson + SyntaxTree + Drop>(
         × (first_flaw (T.kind.flaws (T.SyntaxTree.tree value)) ≡ Some flaw))) }
 {
     let mut scratch = Scratch::new(alloc);
-    match parse_json(alloc, text, &mut scratch)? {
-        Some(value) => read_well_formed_json(JsonNode::parsed(
-            alloc,
-            &value,
-            source,
-            Unknown::Refuse,
-        )),
-        None => read_otherwise(alloc, text, source),
+    if let Some(value) = parse_json(alloc, text, &mut scratch)? {
+        let node = JsonNode::parsed(alloc, &value, source, Unknown::Refuse);
+        return read_well_formed_json(node);
     }
+    // The second reading has a scratch of its own, which takes the place of this one.
+    drop(scratch);
+    read_otherwise(alloc, text, source)
 }
 
 /// The same of a text that is no JSON that is parsed: it is read again, for the error.

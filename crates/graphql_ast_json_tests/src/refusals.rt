@@ -8,6 +8,22 @@ use graphql_ast_json::{
 use graphql_base::span::FileId;
 use graphql_text::engine::PrintError;
 use graphql_values::directive_definition::DirectiveDefinition;
+use std::alloc::Global;
+use std::process::Abort;
+
+/// What is said of a text that is of no document. Nothing, where memory was refused.
+fn refusal(rt: &impl Abort, alloc: Global, text: &str) -> Option<String> {
+    match from_ast_json_str::<Document>(alloc, text, FileId::new(1)) {
+        Ok(_) => panic!(rt; "no document"),
+        Err(error) => {
+            if error.is_memory() {
+                None
+            } else {
+                format!(in alloc; "{error}").ok()
+            }
+        }
+    }
+}
 
 #[test]
 fn a_definition_is_read_or_memory_was_refused(rt: HostRuntime) {
@@ -46,5 +62,25 @@ fn a_flaw_is_told_or_memory_was_refused(rt: HostRuntime) {
             assert_eq!(rt; path.as_str(), "definitions[0]");
         }
         Err(error) => assert!(rt; error.is_memory()),
+    }
+}
+
+#[test]
+fn an_unknown_member_is_told_or_memory_was_refused(rt: HostRuntime) {
+    let text = r#"{"kind":"Document","definitions":[],"b":[{}],"\u0061":1}"#;
+    if let Some(said) = refusal(&rt, rt.alloc(), text) {
+        assert_eq!(rt;
+            said.as_str(),
+            "at the root: found a member `a`, which no Document has"
+        );
+    }
+}
+
+/// The text has an escape, and is read twice.
+#[test]
+fn a_text_that_is_no_json_is_told_or_memory_was_refused(rt: HostRuntime) {
+    let text = r#"{"kind":"\u0044ocument","definitions":[}"#;
+    if let Some(said) = refusal(&rt, rt.alloc(), text) {
+        assert_eq!(rt; said.as_str(), "not JSON: invalid JSON at line 1 column 40");
     }
 }

@@ -1,40 +1,73 @@
 -- Of ParsedJson: numbers are tested where they stand in the text.
 use Rattle.std.proofs.Common.{◌≡◌, ℕ, zero, suc, ◌-◌, ◌<◌, Bool, true, false, ◌&&◌, IsTrue, List}
-use Rattle.std.proofs.Common.{[], ◌∷◌, ◌++◌, length, Option, Some, None, Result, Ok, Err, ◌⊎◌, inl, inr}
-use Rattle.std.proofs.Common.{if◌then◌else◌, is_some, option_and_then, refl, sym, ap, ◌∙◌, rules, subst, true≢false}
+use Rattle.std.proofs.Common.{[], ◌∷◌, ◌++◌, length, Option, Some, None, Result, Ok, Err}
+use Rattle.std.specs.Prelude.{IfOk, OnOk, is_ok, option_map, ok_or}
+use Rattle.std.specs.Result.{IsErrAnd}
+use Rattle.json.specs.declared.error.Error.{Error}
+use Rattle.std.proofs.Common.{if◌then◌else◌, is_some, option_and_then, refl, sym, ap, ◌∙◌, subst, true≢false, arith}
 use Rattle.std.specs.Borrow.{Bor}
 use Rattle.std.specs.declared.alloc.Global.{Global}
 use Rattle.json.proofs.Grammar.{members_no_key, value_is, value-begin_array, value-begin_object}
 use Rattle.json.proofs.Trees.{items_before, members_before}
+use Rattle.json.specs.Json as json
 use Rattle.json.specs.Json.{Json, Items, Members, Parse, array, object, number, item, member, items, members, value, parse_map, after_end_array, read_key}
 use Rattle.json.specs.Json.{if_last, items_step, members_step}
 use Rattle.json.specs.Reads.{token_of}
 use Rattle.json.specs.Token as spec
 use Rattle.json.specs.declared.token.Token.{Token}
-use Rattle.json.specs.declared.token.Token.TheVariants.{Bad, EndArray, EndObject, Key}
+use Rattle.json.specs.declared.token.Token.TheVariants as tokens
+use Rattle.json.specs.declared.token.Token.TheVariants.{Bad, BeginArray, BeginObject, EndArray, EndObject, Key, Null, Number, String}
 use Rattle.json.specs.Value.{items_view, members_view, value_view}
-use Rattle.json.specs.declared.value.Value.{Value, the_lemmas}
-use Rattle.json.specs.declared.value.Value as values
+use Rattle.json.specs.declared.value.Value.{Value}
 use Rattle.serde_json.specs.Read.{number_of, of_json}
 use Rattle.parsed_json.proofs.ParsedNumbers.{read_if}
-use Rattle.parsed_json.specs.ParsedJson.{NoneWith, data_of, has_numbers, items_have_numbers, members_have_numbers}
+use Rattle.parsed_json.specs.ParsedJson.{NoneWith, data_of, leaf_of, has_numbers, items_have_numbers, members_have_numbers}
 
--- LEAVES
+-- TOKENS THAT ARE VALUES
 
-pub string_read : (depth : ℕ) (text : Bor (List ℕ)) (ts : List spec.Token) →
-    value depth (spec.string text.now ∷ ts) ≡ Some (value_view {A = Global} (values.String text), ts)
-string_read depth text ts = value_is depth (spec.string text.now ∷ ts) ∙ search (rules, the_lemmas)
+abbrev or_this : {A : Type 0} → A → Option A → A
+or_this a None = a
+or_this a (Some b) = b
 
-pub number_read : (depth : ℕ) (text : Bor (List ℕ)) (ts : List spec.Token) →
-    value depth (spec.number text.now ∷ ts) ≡ Some (value_view {A = Global} (values.Number text), ts)
-number_read depth text ts = value_is depth (spec.number text.now ∷ ts) ∙ search (rules, the_lemmas)
+the_same : {A : Type 0} (a b : A) → Some a ≡ Some b → a ≡ b
+the_same a b is = ap (or_this a) is
 
-pub boolean_read : (depth : ℕ) (is_so : Bool) (ts : List spec.Token) →
-    value depth (spec.boolean is_so ∷ ts) ≡ Some (value_view {A = Global} (values.Bool is_so), ts)
-boolean_read depth is_so ts = value_is depth (spec.boolean is_so ∷ ts) ∙ search (rules, the_lemmas)
+none_is_some : {A : Type 0} {B : Type 0} (a : A) → None ≡ Some a → B
+none_is_some a is = absurd (true≢false (sym (ap is_some is)))
 
-pub null_read : (depth : ℕ) (ts : List spec.Token) → value depth (spec.null ∷ ts) ≡ Some (value_view {A = Global} values.Null, ts)
-null_read depth ts = value_is depth (spec.null ∷ ts) ∙ search (rules, the_lemmas)
+one_if : (b : Bool) (j k : Json) → (if b then Some j else None) ≡ Some k → IsTrue b × (j ≡ k)
+one_if true j k is = (refl, the_same j k is)
+one_if false j k is = none_is_some k is
+
+none_if : (b : Bool) (j : Json) → (if b then Some j else None) ≡ None → b ≡ false
+none_if true j is = none_is_some j (sym is)
+none_if false j is = refl
+
+pub leaf_read : (depth : ℕ) (t : spec.Token) (ts : List spec.Token) (j : Json) → leaf_of t ≡ Some j → value depth (t ∷ ts) ≡ Some (j, ts)
+leaf_read depth spec.null ts j is = value_is depth (spec.null ∷ ts) ∙ ap (λ k. Some (k, ts)) (the_same json.null j is)
+leaf_read depth (spec.boolean b) ts j is = value_is depth (spec.boolean b ∷ ts) ∙ ap (λ k. Some (k, ts)) (the_same (json.boolean b) j is)
+leaf_read depth (spec.string s) ts j is = value_is depth (spec.string s ∷ ts) ∙ ap (λ k. Some (k, ts)) (the_same (json.string s) j is)
+leaf_read depth (spec.number s) ts j is =
+    value_is depth (spec.number s ∷ ts) ∙ ap (λ k. Some (k, ts)) (one_if (is_some (number_of s)) (json.number s) j is).1
+leaf_read depth (spec.key s) ts j is = none_is_some j is
+leaf_read depth spec.begin_array ts j is = none_is_some j is
+leaf_read depth spec.end_array ts j is = none_is_some j is
+leaf_read depth spec.begin_object ts j is = none_is_some j is
+leaf_read depth spec.end_object ts j is = none_is_some j is
+leaf_read depth spec.bad ts j is = none_is_some j is
+
+pub leaf_has_numbers : (t : spec.Token) (j : Json) → leaf_of t ≡ Some j → IsTrue (has_numbers j)
+leaf_has_numbers spec.null j is = subst (λ k. IsTrue (has_numbers k)) (the_same json.null j is) refl
+leaf_has_numbers (spec.boolean b) j is = subst (λ k. IsTrue (has_numbers k)) (the_same (json.boolean b) j is) refl
+leaf_has_numbers (spec.string s) j is = subst (λ k. IsTrue (has_numbers k)) (the_same (json.string s) j is) refl
+leaf_has_numbers (spec.number s) j is =
+    let one = one_if (is_some (number_of s)) (json.number s) j is in subst (λ k. IsTrue (has_numbers k)) one.1 one.0
+leaf_has_numbers (spec.key s) j is = none_is_some j is
+leaf_has_numbers spec.begin_array j is = none_is_some j is
+leaf_has_numbers spec.end_array j is = none_is_some j is
+leaf_has_numbers spec.begin_object j is = none_is_some j is
+leaf_has_numbers spec.end_object j is = none_is_some j is
+leaf_has_numbers spec.bad j is = none_is_some j is
 
 -- WHAT IS REFUSED
 
@@ -56,19 +89,20 @@ number_refused depth s ts fails = this_one has_numbers _ (number s) ts (value_is
 pub nothing_left : (depth : ℕ) → NoneWith has_numbers (value depth [])
 nothing_left depth = nothing has_numbers _ (value_is depth [])
 
--- a token that no value begins with
-abbrev BeginsNone : Token → Type 0
-BeginsNone token = (token ≡ EndObject) ⊎ ((token ≡ EndArray) ⊎ (((name : Bor (List ℕ)) × (token ≡ Key name)) ⊎ (token ≡ Bad)))
-
-at_token : (depth : ℕ) (token same : Token) (ts : List spec.Token) →
-    token ≡ same → value depth (token_of same ∷ ts) ≡ None → NoneWith has_numbers (value depth (token_of token ∷ ts))
-at_token depth token same ts is none = nothing has_numbers _ (ap (λ t. value depth (token_of t ∷ ts)) is ∙ none)
-
-pub no_value_begins : (depth : ℕ) (token : Token) (ts : List spec.Token) → BeginsNone token → NoneWith has_numbers (value depth (token_of token ∷ ts))
-no_value_begins depth token ts (inl is) = at_token depth token EndObject ts is (value_is depth (spec.end_object ∷ ts))
-no_value_begins depth token ts (inr (inl is)) = at_token depth token EndArray ts is (value_is depth (spec.end_array ∷ ts))
-no_value_begins depth token ts (inr (inr (inl is))) = at_token depth token (Key is.0) ts is.1 (value_is depth (spec.key is.0.now ∷ ts))
-no_value_begins depth token ts (inr (inr (inr is))) = at_token depth token Bad ts is (value_is depth (spec.bad ∷ ts))
+-- a token that is no value, and begins none
+pub leaf_refused : (depth : ℕ) (token : Token) (ts : List spec.Token) → (token ≡ BeginArray → ⊥) → (token ≡ BeginObject → ⊥) →
+    leaf_of (token_of token) ≡ None → NoneWith has_numbers (value depth (token_of token ∷ ts))
+leaf_refused depth BeginArray ts no_array no_object none = absurd (no_array refl)
+leaf_refused depth BeginObject ts no_array no_object none = absurd (no_object refl)
+leaf_refused depth EndArray ts no_array no_object none = nothing has_numbers _ (value_is depth (spec.end_array ∷ ts))
+leaf_refused depth EndObject ts no_array no_object none = nothing has_numbers _ (value_is depth (spec.end_object ∷ ts))
+leaf_refused depth (Key s) ts no_array no_object none = nothing has_numbers _ (value_is depth (spec.key s.now ∷ ts))
+leaf_refused depth Bad ts no_array no_object none = nothing has_numbers _ (value_is depth (spec.bad ∷ ts))
+leaf_refused depth (Number s) ts no_array no_object none =
+    number_refused depth s.now ts (none_if (is_some (number_of s.now)) (json.number s.now) none)
+leaf_refused depth (String s) ts no_array no_object none = none_is_some (json.string s.now) (sym none)
+leaf_refused depth (tokens.Bool b) ts no_array no_object none = none_is_some (json.boolean b) (sym none)
+leaf_refused depth Null ts no_array no_object none = none_is_some json.null (sym none)
 
 pub array_too_deep : (ts : List spec.Token) → NoneWith has_numbers (value 0 (spec.begin_array ∷ ts))
 unfolding value
@@ -93,6 +127,22 @@ pub object_refused : (depth : ℕ) (ts : List spec.Token) → 0 < depth → None
     NoneWith has_numbers (value depth (spec.begin_object ∷ ts))
 object_refused depth ts some none =
     subst (NoneWith has_numbers) (sym (value-begin_object depth ts some)) (within members_have_numbers has_numbers object _ (λ ms fails. fails) none)
+
+-- what a token is by itself, or that it is refused
+pub value_or_refusal : (depth : ℕ) (token : Token) (ts all : List spec.Token) (leaf : Option (Value Global)) → all ≡ token_of token ∷ ts →
+    (token ≡ BeginArray → ⊥) → (token ≡ BeginObject → ⊥) → option_map value_view leaf ≡ leaf_of (token_of token) →
+    IfOk (ok_or leaf Error.Invalid) (λ v. value depth all ≡ Some (value_view v, ts))
+    × IfOk (ok_or leaf Error.Invalid) (λ v. IsTrue (has_numbers (value_view v)))
+    × OnOk (ok_or leaf Error.Invalid) (length ts < length all)
+    × (ok_or leaf Error.Invalid ≡ Err Error.Invalid → NoneWith has_numbers (value depth all))
+value_or_refusal depth token ts all None comes no_array no_object same =
+    (_, _, _, λ _. subst (λ tokens. NoneWith has_numbers (value depth tokens)) (sym comes) (leaf_refused depth token ts no_array no_object (sym same)))
+value_or_refusal depth token ts all (Some v) comes no_array no_object same = (
+  ap (value depth) comes ∙ leaf_read depth (token_of token) ts (value_view v) (sym same),
+  leaf_has_numbers (token_of token) (value_view v) (sym same),
+  subst (λ tokens. length ts < length tokens) (sym comes) (omega arith),
+  λ is. absurd (true≢false (ap is_ok is)),
+)
 
 -- ITEMS
 
@@ -204,7 +254,8 @@ one_more_member_numbers (w ∷ ms) m are is =
     let one = both_true (has_numbers (value_view w.1)) (members_have_numbers (members_view ms)) are in
     true_both (has_numbers (value_view w.1)) (members_have_numbers (members_view (ms ++ m ∷ []))) one.0 (one_more_member_numbers ms m one.1 is)
 
--- the same error of a result of another type
+-- ERRORS
+
 abbrev error_or : {A E : Type 0} → E → Result A E → E
 error_or before (Ok a) = before
 error_or before (Err e) = e
@@ -212,8 +263,11 @@ error_or before (Err e) = e
 pub error_is : {A E : Type 0} (a b : E) → a ≡ b → ◌≡◌ {A = Result A E} (Err a) (Err b)
 error_is {A} {E} a b is = ap {A = E} {B = Result A E} Err is
 
-pub same_error : {A B E : Type 0} (a b : E) → ◌≡◌ {A = Result A E} (Err a) (Err b) → ◌≡◌ {A = Result B E} (Err a) (Err b)
-same_error a b is = error_is a b (ap (error_or a) is)
+-- an error that is passed on by `?`
+pub passed_on : {A B E : Type 0} (outer : Result B E) (f e : E) → IsErrAnd outer (λ y. y ≡ f) → outer ≡ Err e →
+    ◌≡◌ {A = Result A E} (Err f) (Err e)
+passed_on (Ok b) f e same is = absurd same
+passed_on (Err y) f e same is = error_is f e (sym same ∙ ap (error_or y) is)
 
 -- THE WHOLE TEXT
 

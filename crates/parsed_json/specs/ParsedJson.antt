@@ -1,6 +1,7 @@
 -- The JSON that a value of `json` is, whose numbers are texts and whose objects have their members as the text has them.
-use Rattle.std.specs.Prelude.{◌≡◌, negsuc, List, Bool, true, false, ◌&&◌, Option, Some, None, is_some}
+use Rattle.std.specs.Prelude.{◌≡◌, negsuc, List, Bool, true, false, ◌&&◌, Option, Some, None, is_some, if◌then◌else◌}
 use Rattle.json.specs.Json as json
+use Rattle.json.specs.Token as token
 use Rattle.json.specs.Token.{Token}
 use Rattle.json.specs.Value.{items_view, value_view}
 use Rattle.json.specs.declared.value.Value.{Value}
@@ -48,6 +49,19 @@ abbrev mutual
   pub members_have_numbers : json.Members → Bool
   members_have_numbers json.no_members = true
   members_have_numbers (json.member name j ms) = has_numbers j && members_have_numbers ms
+
+-- The JSON that a token is by itself: none where it only begins or ends something, and where its number is too large for a float.
+abbrev pub leaf_of : Token → Option json.Json
+leaf_of token.null = Some json.null
+leaf_of (token.boolean b) = Some (json.boolean b)
+leaf_of (token.string s) = Some (json.string s)
+leaf_of (token.number s) = if is_some (number_of s) then Some (json.number s) else None
+leaf_of (token.key s) = None
+leaf_of token.begin_array = None
+leaf_of token.end_array = None
+leaf_of token.begin_object = None
+leaf_of token.end_object = None
+leaf_of token.bad = None
 
 abbrev pub parsed_data : Value Global → Data
 parsed_data value = data_of (value_view value)

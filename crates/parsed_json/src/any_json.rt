@@ -49,9 +49,9 @@ fn two_numbers(members: &[(&str, Parsed<'_>)], first: &str, second: &str) -> Opt
     if members.len() != 2 {
         return None;
     }
-    let start = number_named(&members[0], first)?;
-    let end = number_named(&members[1], second)?;
-    Some((start, end))
+    let first_number = number_named(&members[0], first)?;
+    let second_number = number_named(&members[1], second)?;
+    Some((first_number, second_number))
 }
 
 impl<'j, 't> AnyJson<'j, 't> {

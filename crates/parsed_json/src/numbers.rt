@@ -12,7 +12,7 @@ use serde_json::Number;
 /// How many digits write a number that 64 bits hold, whichever they are.
 const DIGITS: usize = 19;
 
-/// The number that so few digits write, if the text has nothing else: the form of nearly all numbers of a syntax tree, offsets.
+/// The number that so few digits write, if the text has nothing else: the form of most numbers, read in one pass.
 fn few_digits(text: &[u8]) -> Option<u64>
     ensures { IfSome result (λ n. number_of text.now ≡ Some (unsigned n)) }
 {

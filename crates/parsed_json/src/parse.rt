@@ -1,9 +1,10 @@
 //! JSON is parsed from a text, in which its own texts lie then.
 ghost use Rattle.std.specs.Prelude.{◌≡◌, ◌<◌, Err, IfOk, IsTrue, None, OnOk, Some, length, option_map};
 ghost use Rattle.json.specs.Json.{items, members, value};
+ghost use Rattle.json.specs.Reads.{token_of};
 ghost use Rattle.json.specs.Value.{items_view, members_view, value_view};
 ghost use Rattle.serde_json.specs.Read.{read};
-ghost use Rattle.parsed_json.specs.ParsedJson.{NoneWith, has_numbers, items_have_numbers, members_have_numbers, parsed_data};
+ghost use Rattle.parsed_json.specs.ParsedJson.{NoneWith, leaf_of, has_numbers, items_have_numbers, members_have_numbers, parsed_data};
 
 use crate::numbers::number_of;
 use json::{Error, Reader, Scratch, Token, Value as Parsed};
@@ -12,8 +13,23 @@ use std::alloc::{AllocError, Global};
 /// How deep arrays and objects of a text may stand in one another, for its JSON to be read.
 const MAX_DEPTH: usize = 127;
 
+/// The value that a token is by itself. None where the token only begins or ends something, and for a number that is too large
+/// for a float.
+#[inline(always)]
+fn leaf<'t>(token: Token<'t>) -> Option<Parsed<'t>>
+    ensures { option_map value_view result ≡ leaf_of (token_of token.entry) }
+{
+    match token {
+        Token::Null => Some(Parsed::Null),
+        Token::Bool(is_so) => Some(Parsed::Bool(is_so)),
+        Token::String(text) => Some(Parsed::String(text)),
+        Token::Number(text) if number_of(text).is_some() => Some(Parsed::Number(text)),
+        _ => None,
+    }
+}
+
 /// The next value of the reader. `Error::Invalid` where there is none, where arrays and objects stand in one another deeper,
-/// and at a number that is too large for a float.
+/// and at a number that is too large for a float: a text is refused where its first fault stands.
 #[cycle(read)]
 #[inline(always)]
 fn read_value<'t>(alloc: Global, reader: &mut Reader<'t>, depth: usize) -> Result<Parsed<'t>, Error>
@@ -26,35 +42,11 @@ fn read_value<'t>(alloc: Global, reader: &mut Reader<'t>, depth: usize) -> Resul
         return Err(Error::Invalid);
     };
     match token {
-        Token::String(text) => Ok(Parsed::String(text)),
-        Token::Number(text) => {
-            if number_of(text).is_some() {
-                Ok(Parsed::Number(text))
-            } else {
-                Err(Error::Invalid)
-            }
-        }
-        Token::Bool(is_so) => Ok(Parsed::Bool(is_so)),
-        Token::Null => Ok(Parsed::Null),
-        Token::BeginArray => {
-            if depth == 0 {
-                return Err(Error::Invalid);
-            }
-            match read_items(alloc, reader, depth - 1) {
-                Ok(items) => Ok(Parsed::Array(items)),
-                Err(error) => Err(error),
-            }
-        }
-        Token::BeginObject => {
-            if depth == 0 {
-                return Err(Error::Invalid);
-            }
-            match read_members(alloc, reader, depth - 1) {
-                Ok(members) => Ok(Parsed::Object(members)),
-                Err(error) => Err(error),
-            }
-        }
-        Token::EndObject | Token::EndArray | Token::Key(_) | Token::Bad => Err(Error::Invalid),
+        Token::BeginArray if depth == 0 => Err(Error::Invalid),
+        Token::BeginArray => Ok(Parsed::Array(read_items(alloc, reader, depth - 1)?)),
+        Token::BeginObject if depth == 0 => Err(Error::Invalid),
+        Token::BeginObject => Ok(Parsed::Object(read_members(alloc, reader, depth - 1)?)),
+        token => leaf(token).ok_or(Error::Invalid),
     }
 }
 
@@ -76,13 +68,9 @@ fn read_items<'t>(
 {
     let mut found = Vec::new(alloc);
     while !reader.take_end_array() {
-        match read_value(alloc, reader, depth) {
-            Ok(item) => {
-                if found.push(item).is_err() {
-                    return Err(Error::OutOfMemory);
-                }
-            }
-            Err(error) => return Err(error),
+        let item = read_value(alloc, reader, depth)?;
+        if found.push(item).is_err() {
+            return Err(Error::OutOfMemory);
         }
     }
     Ok(found)
@@ -104,25 +92,17 @@ fn read_members<'t>(
         → NoneWith members_have_numbers (members (value depth) (length reader.old) reader.old) }
 {
     let mut found = Vec::new(alloc);
-    loop {
-        let name = match reader.next_key() {
-            Ok(Some(name)) => name,
-            Ok(None) => return Ok(found),
-            Err(_) => return Err(Error::Invalid),
-        };
-        match read_value(alloc, reader, depth) {
-            Ok(member) => {
-                if found.push((name, member)).is_err() {
-                    return Err(Error::OutOfMemory);
-                }
-            }
-            Err(error) => return Err(error),
+    while let Some(name) = reader.next_key()? {
+        let value = read_value(alloc, reader, depth)?;
+        if found.push((name, value)).is_err() {
+            return Err(Error::OutOfMemory);
         }
     }
+    Ok(found)
 }
 
 /// The JSON that a text is, or `None` where it is none that is read: it may be no JSON, arrays and objects of it may stand in
-/// one another more than 127 deep, or a number may be too large. `from_ast_json_str` tells which.
+/// one another more than 127 deep, or a number may be too large. `serde_json`, which reads none of these, tells which.
 ///
 /// Its texts lie in the text, or in the scratch where they have escapes. The scratch takes as much memory as the text has
 /// bytes. `AllocError` where memory is refused.

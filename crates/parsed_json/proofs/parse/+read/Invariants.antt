@@ -23,11 +23,11 @@ invariant-read_items-loop-alloc l =
 abbrev pub decreases-read_items-loop-alloc : goal.decreases-read_items-loop-alloc
 decreases-read_items-loop-alloc l = length l.reader
 
-abbrev pub invariant-read_members-loop-name : goal.invariant-read_members-loop-name
-invariant-read_members-loop-name l =
+abbrev pub invariant-read_members-loop-found : goal.invariant-read_members-loop-found
+invariant-read_members-loop-found l =
     (n : ℕ)
     × (members (value l.depth) (length l.initial.reader) l.initial.reader ≡ parse_map (members_before l.found.items) (members (value l.depth) n l.reader))
     × (length l.reader ≤ n) × (length l.reader ≤ length l.initial.reader) × IsTrue (members_have_numbers (members_view l.found.items))
 
-abbrev pub decreases-read_members-loop-name : goal.decreases-read_members-loop-name
-decreases-read_members-loop-name l = length l.reader
+abbrev pub decreases-read_members-loop-found : goal.decreases-read_members-loop-found
+decreases-read_members-loop-found l = length l.reader

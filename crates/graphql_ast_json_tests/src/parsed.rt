@@ -11,19 +11,33 @@ use serde_json::Value as Json;
 use std::alloc::Global;
 use std::process::Abort;
 
-/// A type and an operation in which the reader's ways are taken: members in any order, twice, null and unknown, locations,
-/// escapes, lists and objects in one another.
-const DOCUMENT: &str = r#"{"kind":"Document","definitions":[
+/// A type in which the reader's ways are taken: members in any order and null, locations, escapes,
+/// lists and objects in one another.
+const TYPE: &str = r#"{"kind":"Document","definitions":[
 {"kind":"ObjectTypeDefinition","name":{"kind":"Name","value":"T","loc":{"start":5,"end":6}},
-"description":{"block":true,"kind":"StringValue","value":"a\nb\u00e9"},"interfaces":[],"directives":null,
-"fields":[{"name":{"kind":"Name","value":"f"},"kind":"FieldDefinition","type":{"kind":"NonNullType","type":
-{"kind":"ListType","type":{"kind":"NamedType","name":{"kind":"Name","value":"T"}}}},"extra":[1,-2.5e3,{}]}],
-"loc":{"end":9,"start":0},"zeta":0,"alpha":{"b":[]}},
-{"kind":"OperationDefinition","operation":"query","operation":"mutation","selectionSet":{"kind":"SelectionSet",
-"selections":[{"kind":"Field","name":{"kind":"Name","value":"on"},"arguments":[{"kind":"Argument","name":
-{"kind":"Name","value":"x"},"value":{"kind":"ObjectValue","fields":[{"kind":"ObjectField","name":
-{"kind":"Name","value":"y"},"value":{"kind":"ListValue","values":[{"kind":"IntValue","value":"4"},
-{"kind":"EnumValue","value":"true"},{"kind":"BooleanValue","value":false},{"kind":"NullValue"}]}}]}}]},
+"description":{"block":true,"kind":"StringValue","value":"a\nb\u00e9"},"interfaces":[],
+"directives":null,"fields":[{"name":{"kind":"Name","value":"f"},"kind":"FieldDefinition",
+"type":{"kind":"NonNullType","type":{"kind":"ListType","type":{"kind":"NamedType",
+"name":{"kind":"Name","value":"T"}}}}}],"loc":{"end":9,"start":0}}]}"#;
+
+/// The same with members that no node of their kinds has.
+const UNKNOWN: &str = r#"{"kind":"Document","definitions":[
+{"kind":"ObjectTypeDefinition","name":{"kind":"Name","value":"T","loc":{"start":5,"end":6}},
+"description":{"block":true,"kind":"StringValue","value":"a\nb\u00e9"},"interfaces":[],
+"directives":null,"fields":[{"name":{"kind":"Name","value":"f"},"kind":"FieldDefinition",
+"type":{"kind":"NonNullType","type":{"kind":"ListType","type":{"kind":"NamedType",
+"name":{"kind":"Name","value":"T"}}}},"extra":[1,-2.5e3,{}]}],"loc":{"end":9,"start":0},"zeta":0,
+"alpha":{"b":[]}}]}"#;
+
+/// An operation with values in one another, a member twice, and two flaws.
+const OPERATION: &str = r#"{"kind":"Document","definitions":[
+{"kind":"OperationDefinition","operation":"query","operation":"mutation",
+"selectionSet":{"kind":"SelectionSet","selections":[{"kind":"Field",
+"name":{"kind":"Name","value":"on"},"arguments":[{"kind":"Argument",
+"name":{"kind":"Name","value":"x"},"value":{"kind":"ObjectValue","fields":[{"kind":"ObjectField",
+"name":{"kind":"Name","value":"y"},"value":{"kind":"ListValue","values":[
+{"kind":"IntValue","value":"4"},{"kind":"EnumValue","value":"true"},
+{"kind":"BooleanValue","value":false},{"kind":"NullValue"}]}}]}}]},
 {"kind":"InlineFragment","selectionSet":{"kind":"SelectionSet","selections":[]}}]}}]}"#;
 
 /// What is told of a text that nests too deep.
@@ -65,7 +79,16 @@ fn said_of_text(rt: &impl Abort, alloc: Global, text: &str) -> (String, String) 
     )
 }
 
-/// What the readings of JSON say, by a rule for what is unknown: of what was parsed the same as of a value of `serde_json`.
+/// The same of a reading by a kind of another crate.
+fn said_outside(rt: &impl Abort, alloc: Global, read: Result<Outside, AstJsonError>) -> String {
+    match read {
+        Ok(Outside { document }) => said(rt, alloc, Ok(document)),
+        Err(error) => said(rt, alloc, Err(error)),
+    }
+}
+
+/// What the readings of JSON say, by a rule for what is unknown: of what was parsed the same as of
+/// a value of `serde_json`, by its own reader and as a node, and so by a kind of another crate.
 fn said_of_both(
     rt: &impl Abort,
     alloc: Global,
@@ -73,7 +96,8 @@ fn said_of_both(
     json: &Json,
     unknown: Unknown,
 ) -> (String, String) {
-    let node = JsonNode::parsed(alloc, value, FileId::new(1), unknown);
+    let parsed = JsonNode::parsed(alloc, value, FileId::new(1), unknown);
+    let owned = JsonNode::owned(alloc, json, FileId::new(1), unknown);
     let reader = NodeReader {
         alloc,
         json,
@@ -81,10 +105,16 @@ fn said_of_both(
         unknown,
     };
     let read = said(rt, alloc, Document::read_ast_json(reader));
-    let found = said(rt, alloc, Document::read_json(node));
+    let found = said(rt, alloc, Document::read_json(parsed));
+    assert_eq!(rt; found.as_str(), read.as_str());
+    let found = said(rt, alloc, Document::read_json(owned));
+    assert_eq!(rt; found.as_str(), read.as_str());
+    let found = said_outside(rt, alloc, Outside::read_json(owned));
     assert_eq!(rt; found.as_str(), read.as_str());
     let well_formed = said_well_formed(rt, alloc, read_well_formed_ast_json(reader));
-    let found = said_well_formed(rt, alloc, read_well_formed_json(node));
+    let found = said_well_formed(rt, alloc, read_well_formed_json(parsed));
+    assert_eq!(rt; found.as_str(), well_formed.as_str());
+    let found = said_well_formed(rt, alloc, read_well_formed_json(owned));
     assert_eq!(rt; found.as_str(), well_formed.as_str());
     (read, well_formed)
 }
@@ -95,10 +125,8 @@ fn check(rt: &impl Abort, alloc: Global, text: &str) {
     let mut scratch = Scratch::new(alloc);
     let parsed = parse_json(alloc, text, &mut scratch).expect(rt, "memory");
     let (read, well_formed) = said_of_text(rt, alloc, text);
-    let outside = match from_ast_json_str::<Outside>(alloc, text, FileId::new(1)) {
-        Ok(Outside { document }) => said(rt, alloc, Ok(document)),
-        Err(error) => said(rt, alloc, Err(error)),
-    };
+    let outside = from_ast_json_str::<Outside>(alloc, text, FileId::new(1));
+    let outside = said_outside(rt, alloc, outside);
     assert_eq!(rt; outside.as_str(), read.as_str());
     match (parsed, Json::from_str(alloc, text)) {
         (Some(value), Ok(json)) => {
@@ -129,11 +157,10 @@ fn changed(rt: &impl Abort, alloc: Global, text: &str, at: usize, piece: &str) -
     whole
 }
 
-#[test]
-fn both_forms_are_read_alike(rt: HostRuntime) {
-    let alloc = rt.alloc();
-    check(&rt, alloc, DOCUMENT);
-    for at in 0..DOCUMENT.len() {
+/// Whether a text of ASCII is read alike, and with each of its characters changed.
+fn check_changes(rt: &impl Abort, alloc: Global, text: &str) {
+    check(rt, alloc, text);
+    for at in 0..text.len() {
         let piece = match at % 6 {
             0 => "",
             1 => "\"",
@@ -142,9 +169,42 @@ fn both_forms_are_read_alike(rt: HostRuntime) {
             4 => "x",
             _ => ",\"kind\":1,",
         };
-        let text = changed(&rt, alloc, DOCUMENT, at, piece);
-        check(&rt, alloc, text.as_str());
+        check(rt, alloc, changed(rt, alloc, text, at, piece).as_str());
     }
+}
+
+/// With unknown members and without: where they are refused, most texts that have them and are JSON
+/// are refused for one.
+#[test]
+fn both_forms_of_a_type_are_read_alike(rt: HostRuntime) {
+    let alloc = rt.alloc();
+    let (read, _) = said_of_text(&rt, alloc, UNKNOWN);
+    assert_eq!(rt;
+        read.as_str(),
+        "at `definitions[0]`, in a node from 0 to 9: \
+         found a member `alpha`, which no ObjectTypeDefinition has"
+    );
+    check_changes(&rt, alloc, UNKNOWN);
+    let (_, well_formed) = said_of_text(&rt, alloc, TYPE);
+    assert_eq!(rt;
+        well_formed.as_str(),
+        "\"\"\"\na\nb\u{e9}\n\"\"\"\ntype T {\n  f: [T]!\n}\n"
+    );
+    check_changes(&rt, alloc, TYPE);
+}
+
+/// It is read, though it isn't well formed.
+#[test]
+fn both_forms_of_an_operation_are_read_alike(rt: HostRuntime) {
+    let alloc = rt.alloc();
+    let (read, well_formed) = said_of_text(&rt, alloc, OPERATION);
+    assert!(rt; Json::from_str(alloc, read.as_str()).is_ok());
+    assert_eq!(rt;
+        well_formed.as_str(),
+        "at `definitions[0].selectionSet.selections[0].arguments[0].value.fields[0].value\
+         .values[1].value`: a reserved enum value: `true`"
+    );
+    check_changes(&rt, alloc, OPERATION);
 }
 
 /// 127 arrays stand in one another in both forms, and 128 in neither.
@@ -234,15 +294,88 @@ const OFFSETS: [&str; 25] = [
     "7.",
 ];
 
+/// A document before and behind the members of its definition's location. That of the document
+/// itself would be left out of what is read.
+const GIVEN: (&str, &str) = (
+    r#"{"kind":"Document","definitions":[{"name":{"kind":"Name","value":"S"},"loc":{"#,
+    r#"},"kind":"ScalarTypeDefinition"}]}"#,
+);
+
+/// The same as it is written.
+const WRITTEN: (&str, &str) = (
+    r#"{"definitions":[{"directives":[],"kind":"ScalarTypeDefinition","loc":{"#,
+    r#"},"name":{"kind":"Name","value":"S"}}],"kind":"Document"}"#,
+);
+
+/// And what is told of it where the location is refused.
+const REFUSED: (&str, &str) = ("at `definitions[0].loc`", "");
+
+/// Members of a location, and what is said of the document. Of two of one name the last counts.
+const SAID: [(&str, (&str, &str), &str); 9] = [
+    (r#""start":0,"end":7"#, WRITTEN, r#""end":7,"start":0"#),
+    (r#""end":8,"start":7"#, WRITTEN, r#""end":8,"start":7"#),
+    (r#""start":3,"end":3"#, WRITTEN, r#""end":3,"start":3"#),
+    (
+        r#""start":9,"end":2,"start":0"#,
+        WRITTEN,
+        r#""end":2,"start":0"#,
+    ),
+    (
+        r#""end":4294967295,"end":6,"start":1,"end":4294967295"#,
+        WRITTEN,
+        r#""end":4294967295,"start":1"#,
+    ),
+    (
+        r#""start":0,"start":9,"end":2"#,
+        REFUSED,
+        ": found a location from 9 to 2, which starts after its end",
+    ),
+    (
+        r#""end":7,"start":8"#,
+        REFUSED,
+        ": found a location from 8 to 7, which starts after its end",
+    ),
+    (
+        r#""start":0,"line":1,"end":7"#,
+        REFUSED,
+        ", in a node from 0 to 7: found a member `line`, which no location has",
+    ),
+    (
+        r#""start":0"#,
+        REFUSED,
+        ": found no member `end`, which each location has",
+    ),
+];
+
+/// A text between two others.
+fn around(rt: &impl Abort, alloc: Global, ends: (&str, &str), text: &str) -> String {
+    let (before, behind) = ends;
+    format!(in alloc; "{before}{text}{behind}").expect(rt, "memory")
+}
+
+/// What is read of a location is written with its definition, and so is compared too.
 #[test]
 fn offsets_are_read_alike(rt: HostRuntime) {
     let alloc = rt.alloc();
-    let node = "{\"kind\":\"Document\",\"definitions\":[],\"loc\":{";
     for offset in OFFSETS {
-        for (before, after) in LOCATIONS {
-            let text = format!(in alloc; "{node}{before}{offset}{after}}}}}").expect(&rt, "memory");
+        for ends in LOCATIONS {
+            let members = around(&rt, alloc, ends, offset);
+            let text = around(&rt, alloc, GIVEN, members.as_str());
             check(&rt, alloc, text.as_str());
         }
+    }
+}
+
+/// What is said stands written out, for both forms could be read wrongly alike.
+#[test]
+fn locations_are_read_as_they_stand(rt: HostRuntime) {
+    let alloc = rt.alloc();
+    for (members, ends, told) in SAID {
+        let text = around(&rt, alloc, GIVEN, members);
+        check(&rt, alloc, text.as_str());
+        let (read, _) = said_of_text(&rt, alloc, text.as_str());
+        let wanted = around(&rt, alloc, ends, told);
+        assert_eq!(rt; read.as_str(), wanted.as_str());
     }
 }
 

@@ -1,5 +1,5 @@
 //! What calls answer with ample memory.
-use crate::samples::{ILL_FORMED, QUERY};
+use crate::samples::{ILL_FORMED, NO_JSON, QUERY};
 use graphql_ast_calls::{Status, check_json, print_json, print_value_json, write_json};
 use std::alloc::Global;
 use std::process::Abort;
@@ -48,6 +48,13 @@ fn prints_answer_each_status(rt: HostRuntime) {
     let rows = [
         (QUERY, "  ", 0, Status::Done, "{\n  a\n}\n"),
         (QUERY, "\t", 1, Status::Done, "\tquery {\n\t\ta\n\t}\n"),
+        (
+            NO_JSON,
+            "  ",
+            0,
+            Status::NotJson,
+            "not JSON: invalid JSON at line 1 column 40",
+        ),
         (
             "7",
             "  ",

@@ -1,7 +1,8 @@
 //! Calls that meet a refused growth, wherever it comes: the answer is the refusal, or that of an undisturbed call.
 //! `rt try --test --fail-alloc N` refuses the Nth growth of each test.
-use crate::samples::{ILL_FORMED, QUERY};
-use graphql_ast_calls::{Status, print_json, write_json};
+use crate::samples::{ILL_FORMED, NO_JSON, QUERY};
+use graphql_ast_calls::{Status, check_json, print_json, write_json};
+use std::process::Abort;
 
 #[test]
 fn a_call_answers_or_memory_was_refused(rt: HostRuntime) {
@@ -19,4 +20,28 @@ fn a_call_answers_or_memory_was_refused(rt: HostRuntime) {
             assert_eq!(rt; status, Status::OutOfMemory);
         }
     }
+}
+
+/// That a call told that the bytes are no JSON, or that memory was refused.
+fn check_no_json(rt: &impl Abort, status: Status, needed: usize) {
+    if status == Status::NotJson {
+        assert_eq!(rt; needed, "not JSON: invalid JSON at line 1 column 40".len());
+    } else {
+        assert_eq!(rt; status, Status::OutOfMemory);
+        assert_eq!(rt; needed, 13);
+    }
+}
+
+/// The bytes are read twice: what isn't parsed is read again for the error.
+#[test]
+fn bytes_that_are_no_json_are_told_or_memory_was_refused(rt: HostRuntime) {
+    let alloc = rt.alloc();
+    let (mut out, mut needed) = ([b'#'; 100], 0usize);
+    let json = NO_JSON.as_bytes();
+    let status = print_json(alloc, json, true, b"  ", 0, false, &mut out, &mut needed);
+    check_no_json(&rt, status, needed);
+    let status = check_json(alloc, json, false, &mut out, &mut needed);
+    check_no_json(&rt, status, needed);
+    let status = write_json(alloc, json, false, &mut out, &mut needed);
+    check_no_json(&rt, status, needed);
 }

@@ -16,6 +16,8 @@ use graphql_ast::ast::Type;
 use graphql_ast::name::Name;
 
 /// The name that a named type is.
+// It has a frame of its own, so that the frames of types in one another are small.
+#[inline(never)]
 pub(crate) fn read_named_type(node: JsonNode<'_, '_>) -> Result<Name, AstJsonError>
     requires { IsLocated node.unknown (node_data node) }
     ensures ok { IfOk result (λ name. IsReadFrom IsNamedType node.entry (name_tree name)) }

@@ -1,5 +1,6 @@
 //! Values from AST JSON.
-ghost use Rattle.std.specs.Prelude.{Bool, IfOk, IfErr, codes};
+ghost use Rattle.std.specs.Prelude.{◌≡◌, ◌≢◌, Bool, IfOk, IfErr, Some, codes};
+ghost use Rattle.serde_json.specs.Data.{string};
 ghost use Rattle.graphql_base.specs.Node.{node_location, node_value};
 ghost use Rattle.graphql_text.specs.trees.Leaves.{name_tree};
 ghost use Rattle.graphql_text.specs.lexical.Literals.{FloatText, IntText, NameText};
@@ -11,7 +12,7 @@ ghost use Rattle.graphql_ast_json.specs.code.Errors.{IsMemory};
 ghost use Rattle.graphql_ast_json.specs.code.JsonNodes.{node_data, IsFromNone, IsReadFrom};
 ghost use Rattle.graphql_ast_json.specs.code.NodeReading.{IsInFile, StandsAt};
 ghost use Rattle.graphql_ast_json.specs.kinds.ValueJson.{IsValue, AreValues, AreObjectFields, IsNamedValue};
-ghost use Rattle.graphql_ast_json.specs.nodes.Nodes.{IsLocated};
+ghost use Rattle.graphql_ast_json.specs.nodes.Nodes.{IsLocated, member_of};
 
 use crate::ast_json::node_at;
 use crate::error::{AstJsonError, JsonType};
@@ -80,16 +81,17 @@ fn boolean(node: JsonNode<'_, '_>) -> Result<bool, AstJsonError>
     }
 }
 
-/// The value that a node is of, whose location was read.
-///
-/// `{"kind":"IntValue","value":"4"}` is of the value `4`.
-#[cycle(value)]
-pub(crate) fn read_value(node: JsonNode<'_, '_>) -> Result<Value, AstJsonError>
-    requires { IsLocated node.unknown (node_data node) }
+/// The value that a node of this kind is of, if it is one that has no other values in it.
+// It has a frame of its own, so that the frames of lists and objects in one another are small.
+#[inline(never)]
+fn leaf(node: JsonNode<'_, '_>, kind: &str) -> Result<Value, AstJsonError>
+    requires located { IsLocated node.unknown (node_data node) }
+    requires kind { member_of (codes "kind") (node_data node) ≡ Some (string kind.now) }
+    requires list { kind.now ≢ codes "ListValue" }
+    requires object { kind.now ≢ codes "ObjectValue" }
     ensures ok { IfOk result (λ value. IsReadFrom IsValue node.entry (value_tree value)) }
     ensures err { IfErr result (λ error. ¬ IsMemory error → IsFromNone IsValue node.entry) }
 {
-    let kind = node.text("kind")?;
     match kind {
         "NullValue" => {
             node.check("NullValue", &[])?;
@@ -104,9 +106,24 @@ pub(crate) fn read_value(node: JsonNode<'_, '_>) -> Result<Value, AstJsonError>
         "FloatValue" => Ok(Value::Float(float(node)?)),
         "IntValue" => Ok(Value::Int(int(node)?)),
         "BooleanValue" => Ok(Value::Boolean(boolean(node)?)),
+        _ => Err(node.wrong_kind(kind, "a value")),
+    }
+}
+
+/// The value that a node is of, whose location was read.
+///
+/// `{"kind":"IntValue","value":"4"}` is of the value `4`.
+#[cycle(value)]
+pub(crate) fn read_value(node: JsonNode<'_, '_>) -> Result<Value, AstJsonError>
+    requires { IsLocated node.unknown (node_data node) }
+    ensures ok { IfOk result (λ value. IsReadFrom IsValue node.entry (value_tree value)) }
+    ensures err { IfErr result (λ error. ¬ IsMemory error → IsFromNone IsValue node.entry) }
+{
+    let kind = node.text("kind")?;
+    match kind {
         "ListValue" => Ok(Value::List(list_items(node)?)),
         "ObjectValue" => Ok(Value::Object(object_fields(node)?)),
-        _ => Err(node.wrong_kind(kind, "a value")),
+        _ => leaf(node, kind),
     }
 }
 

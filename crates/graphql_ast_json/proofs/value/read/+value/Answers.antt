@@ -1,4 +1,4 @@
-use Rattle.std.proofs.Common.{◌≡◌, ℕ, ◌+◌, ◌<◌, ◌≤◌, List, [], ◌∷◌, ◌++◌, length, take, Some, codes, string_bytes, sym, ap, subst, ◌∙◌, arith}
+use Rattle.std.proofs.Common.{◌≡◌, ℕ, ◌+◌, ◌<◌, ◌≤◌, List, [], ◌∷◌, ◌++◌, length, take, Some, codes, sym, ap, subst, ◌∙◌, arith}
 use Rattle.std.proofs.lemmas.Grind.{common_steps}
 use Rattle.std.proofs.lemmas.List.{take_all}
 use Rattle.graphql_base.specs.declared.name.Name.{Name}
@@ -16,54 +16,9 @@ use Rattle.graphql_ast_json.specs.kinds.ValueJson.{IsValue, AreValues, AreObject
 use Rattle.graphql_ast_json.proofs.nodes.JsonDepths.{item-depth}
 use Rattle.graphql_ast_json.proofs.nodes.NodeLists.{take_item}
 use Rattle.graphql_ast_json.proofs.general.PassedErrors.{passed}
-use Rattle.graphql_ast_json.proofs.kinds.ValueJsonByKind.{only_enum, only_string, only_float, only_int, only_boolean, only_list}
-use Rattle.graphql_ast_json.proofs.kinds.ValueJsonByKind.{only_object, more_are_values, more_are_fields, none_at, no_field_at, string_is}
+use Rattle.graphql_ast_json.proofs.kinds.ValueJsonByKind.{only_list}
+use Rattle.graphql_ast_json.proofs.kinds.ValueJsonByKind.{only_object, more_are_values, more_are_fields, none_at, no_field_at}
 use Rattle.graphql_ast_json.proofs.value.read.+value.Goals as goal
-
-pub read_value-returns-in_err-name_of_kind-in-EnumValue-clause-err : goal.read_value-returns-in_err-name_of_kind-in-EnumValue-clause-err
-read_value-returns-in_err-name_of_kind-in-EnumValue-clause-err t c =
-    let json = node_data c.args.node in
-    let kind : member_of (codes "kind") json ≡ Some (string (codes "EnumValue")) =
-    c.in_ok-kind.ensures.ok ∙ ap (λ (s : List ℕ). Some (string s)) c.in-EnumValue.is in
-    let none : ¬ IsMemory c.in_err-name_of_kind-in-EnumValue.field-0.0 → (tree : ValueTree) → ¬ IsValue c.args.node.unknown tree json =
-    λ m. only_enum c.args.node.unknown json kind (c.in_err-name_of_kind-in-EnumValue.ensures.err m) in
-    passed _ _ _ none c.from_residual-in_err-name_of_kind-in-EnumValue.ensures.1
-
-pub read_value-returns-in_err-text-in-StringValue-clause-err : goal.read_value-returns-in_err-text-in-StringValue-clause-err
-read_value-returns-in_err-text-in-StringValue-clause-err t c =
-    let json = node_data c.args.node in
-    let kind : member_of (codes "kind") json ≡ Some (string (codes "StringValue")) =
-    c.in_ok-kind.ensures.ok ∙ ap (λ (s : List ℕ). Some (string s)) c.in-StringValue.is in
-    let none : ¬ IsMemory c.in_err-text-in-StringValue.field-0.0 → (tree : ValueTree) → ¬ IsValue c.args.node.unknown tree json =
-    λ m. only_string c.args.node.unknown json kind (c.in_err-text-in-StringValue.ensures.err m) in
-    passed _ _ _ none c.from_residual-in_err-text-in-StringValue.ensures.1
-
-pub read_value-returns-in_err-float-in-FloatValue-clause-err : goal.read_value-returns-in_err-float-in-FloatValue-clause-err
-read_value-returns-in_err-float-in-FloatValue-clause-err t c =
-    let json = node_data c.args.node in
-    let kind : member_of (codes "kind") json ≡ Some (string (codes "FloatValue")) =
-    c.in_ok-kind.ensures.ok ∙ ap (λ (s : List ℕ). Some (string s)) c.in-FloatValue.is in
-    let none : ¬ IsMemory c.in_err-float-in-FloatValue.field-0.0 → (tree : ValueTree) → ¬ IsValue c.args.node.unknown tree json =
-    λ m. only_float c.args.node.unknown json kind (c.in_err-float-in-FloatValue.ensures.err m) in
-    passed _ _ _ none c.from_residual-in_err-float-in-FloatValue.ensures.1
-
-pub read_value-returns-in_err-int-in-IntValue-clause-err : goal.read_value-returns-in_err-int-in-IntValue-clause-err
-read_value-returns-in_err-int-in-IntValue-clause-err t c =
-    let json = node_data c.args.node in
-    let kind : member_of (codes "kind") json ≡ Some (string (codes "IntValue")) =
-    c.in_ok-kind.ensures.ok ∙ ap (λ (s : List ℕ). Some (string s)) c.in-IntValue.is in
-    let none : ¬ IsMemory c.in_err-int-in-IntValue.field-0.0 → (tree : ValueTree) → ¬ IsValue c.args.node.unknown tree json =
-    λ m. only_int c.args.node.unknown json kind (c.in_err-int-in-IntValue.ensures.err m) in
-    passed _ _ _ none c.from_residual-in_err-int-in-IntValue.ensures.1
-
-pub read_value-returns-in_err-boolean-in-BooleanValue-clause-err : goal.read_value-returns-in_err-boolean-in-BooleanValue-clause-err
-read_value-returns-in_err-boolean-in-BooleanValue-clause-err t c =
-    let json = node_data c.args.node in
-    let kind : member_of (codes "kind") json ≡ Some (string (codes "BooleanValue")) =
-    c.in_ok-kind.ensures.ok ∙ ap (λ (s : List ℕ). Some (string s)) c.in-BooleanValue.is in
-    let none : ¬ IsMemory c.in_err-boolean-in-BooleanValue.field-0.0 → (tree : ValueTree) → ¬ IsValue c.args.node.unknown tree json =
-    λ m. only_boolean c.args.node.unknown json kind (c.in_err-boolean-in-BooleanValue.ensures.err m) in
-    passed _ _ _ none c.from_residual-in_err-boolean-in-BooleanValue.ensures.1
 
 pub read_value-returns-in_err-list_items-in-ListValue-clause-err : goal.read_value-returns-in_err-list_items-in-ListValue-clause-err
 read_value-returns-in_err-list_items-in-ListValue-clause-err t c =
@@ -82,12 +37,6 @@ read_value-returns-in_err-object_fields-in-ObjectValue-clause-err t c =
     let none : ¬ IsMemory c.in_err-object_fields-in-ObjectValue.field-0.0 → (tree : ValueTree) → ¬ IsValue c.args.node.unknown tree json =
     λ m. only_object c.args.node.unknown json kind (c.in_err-object_fields-in-ObjectValue.ensures.err m) in
     passed _ _ _ none c.from_residual-in_err-object_fields-in-ObjectValue.ensures.1
-
-pub read_value-returns-in_ok-from_str-in-StringValue-clause-ok : goal.read_value-returns-in_ok-from_str-in-StringValue-clause-ok
-read_value-returns-in_ok-from_str-in-StringValue-clause-ok t c =
-    let text = c.in_ok-from_str-in-StringValue.field-0 in
-    let same : string_bytes text ≡ c.in_ok-text-in-StringValue.text.now = grind arith in
-    string_is c.args.node.unknown text c.in_ok-text-in-StringValue.text.now (node_data c.args.node) same c.in_ok-text-in-StringValue.ensures.ok
 
 pub values-read_value_node-requires : goal.values-read_value_node-requires
 values-read_value_node-requires t c =

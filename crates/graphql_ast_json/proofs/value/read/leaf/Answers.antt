@@ -1,0 +1,62 @@
+use Rattle.std.proofs.Common.{◌≡◌, ℕ, List, Some, codes, string_bytes, ap, ◌∙◌, arith}
+use Rattle.graphql_values.specs.kinds.Values.{ValueTree}
+use Rattle.serde_json.specs.Data.{string}
+use Rattle.graphql_ast_json.specs.code.JsonNodes.{node_data}
+use Rattle.graphql_ast_json.specs.code.Errors.{IsMemory}
+use Rattle.graphql_ast_json.specs.nodes.Nodes.{member_of}
+use Rattle.graphql_ast_json.specs.kinds.ValueJson.{IsValue}
+use Rattle.graphql_ast_json.proofs.general.PassedErrors.{passed}
+use Rattle.graphql_ast_json.proofs.kinds.ValueJsonByKind.{only_enum, only_string, only_float, only_int, only_boolean}
+use Rattle.graphql_ast_json.proofs.kinds.ValueJsonByKind.{string_is}
+use Rattle.graphql_ast_json.proofs.value.read.leaf.Goals as goal
+
+pub returns-in_err-name_of_kind-in-EnumValue-clause-err : goal.returns-in_err-name_of_kind-in-EnumValue-clause-err
+returns-in_err-name_of_kind-in-EnumValue-clause-err c =
+    let json = node_data c.args.node in
+    let kind : member_of (codes "kind") json ≡ Some (string (codes "EnumValue")) =
+    c.requires.kind ∙ ap (λ (s : List ℕ). Some (string s)) c.in-EnumValue.is in
+    let none : ¬ IsMemory c.in_err-name_of_kind-in-EnumValue.field-0.0 → (tree : ValueTree) → ¬ IsValue c.args.node.unknown tree json =
+    λ m. only_enum c.args.node.unknown json kind (c.in_err-name_of_kind-in-EnumValue.ensures.err m) in
+    passed _ _ _ none c.from_residual-in_err-name_of_kind-in-EnumValue.ensures.1
+
+pub returns-in_err-text-in-StringValue-clause-err : goal.returns-in_err-text-in-StringValue-clause-err
+returns-in_err-text-in-StringValue-clause-err c =
+    let json = node_data c.args.node in
+    let kind : member_of (codes "kind") json ≡ Some (string (codes "StringValue")) =
+    c.requires.kind ∙ ap (λ (s : List ℕ). Some (string s)) c.in-StringValue.is in
+    let none : ¬ IsMemory c.in_err-text-in-StringValue.field-0.0 → (tree : ValueTree) → ¬ IsValue c.args.node.unknown tree json =
+    λ m. only_string c.args.node.unknown json kind (c.in_err-text-in-StringValue.ensures.err m) in
+    passed _ _ _ none c.from_residual-in_err-text-in-StringValue.ensures.1
+
+pub returns-in_err-float-in-FloatValue-clause-err : goal.returns-in_err-float-in-FloatValue-clause-err
+returns-in_err-float-in-FloatValue-clause-err c =
+    let json = node_data c.args.node in
+    let kind : member_of (codes "kind") json ≡ Some (string (codes "FloatValue")) =
+    c.requires.kind ∙ ap (λ (s : List ℕ). Some (string s)) c.in-FloatValue.is in
+    let none : ¬ IsMemory c.in_err-float-in-FloatValue.field-0.0 → (tree : ValueTree) → ¬ IsValue c.args.node.unknown tree json =
+    λ m. only_float c.args.node.unknown json kind (c.in_err-float-in-FloatValue.ensures.err m) in
+    passed _ _ _ none c.from_residual-in_err-float-in-FloatValue.ensures.1
+
+pub returns-in_err-int-in-IntValue-clause-err : goal.returns-in_err-int-in-IntValue-clause-err
+returns-in_err-int-in-IntValue-clause-err c =
+    let json = node_data c.args.node in
+    let kind : member_of (codes "kind") json ≡ Some (string (codes "IntValue")) =
+    c.requires.kind ∙ ap (λ (s : List ℕ). Some (string s)) c.in-IntValue.is in
+    let none : ¬ IsMemory c.in_err-int-in-IntValue.field-0.0 → (tree : ValueTree) → ¬ IsValue c.args.node.unknown tree json =
+    λ m. only_int c.args.node.unknown json kind (c.in_err-int-in-IntValue.ensures.err m) in
+    passed _ _ _ none c.from_residual-in_err-int-in-IntValue.ensures.1
+
+pub returns-in_err-boolean-in-BooleanValue-clause-err : goal.returns-in_err-boolean-in-BooleanValue-clause-err
+returns-in_err-boolean-in-BooleanValue-clause-err c =
+    let json = node_data c.args.node in
+    let kind : member_of (codes "kind") json ≡ Some (string (codes "BooleanValue")) =
+    c.requires.kind ∙ ap (λ (s : List ℕ). Some (string s)) c.in-BooleanValue.is in
+    let none : ¬ IsMemory c.in_err-boolean-in-BooleanValue.field-0.0 → (tree : ValueTree) → ¬ IsValue c.args.node.unknown tree json =
+    λ m. only_boolean c.args.node.unknown json kind (c.in_err-boolean-in-BooleanValue.ensures.err m) in
+    passed _ _ _ none c.from_residual-in_err-boolean-in-BooleanValue.ensures.1
+
+pub returns-in_ok-from_str-in-StringValue-clause-ok : goal.returns-in_ok-from_str-in-StringValue-clause-ok
+returns-in_ok-from_str-in-StringValue-clause-ok c =
+    let text = c.in_ok-from_str-in-StringValue.field-0 in
+    let same : string_bytes text ≡ c.in_ok-text-in-StringValue.text.now = grind arith in
+    string_is c.args.node.unknown text c.in_ok-text-in-StringValue.text.now (node_data c.args.node) same c.in_ok-text-in-StringValue.ensures.ok

@@ -78,6 +78,12 @@ pub trait AstJson: Sized {
         }
     }
 
+    /// Whether `read_json` reads parsed JSON as it stands. If not, a text is made a value of `serde_json` at once, for
+    /// `read_ast_json`. The answer changes only the time: a kind with a `read_json` of its own has one of this too.
+    fn reads_parsed() -> bool {
+        false
+    }
+
     /// The tree as JSON. `AllocError` where memory is refused.
     fn to_ast_json(&self, alloc: Global) -> Result<Json, AllocError>
         ensures ok { IfOk result (λ json. (unknown : Unknown)
@@ -182,6 +188,11 @@ impl<T: AstNode> AstJson for T {
         T::read_json_node(node)
     }
 
+    /// Each node does, as `AstNode` is implemented in this crate alone.
+    fn reads_parsed() -> bool {
+        true
+    }
+
     fn to_ast_json(&self, alloc: Global) -> Result<Json, AllocError> {
         self.to_ast_json_at(alloc, None)
     }
@@ -210,6 +221,10 @@ impl<T: AstNode + Drop> AstJson for Node<T> {
         let location = node.location()?;
         let value = T::read_json_node(node)?;
         Ok(node_at(node.alloc, location, value)?)
+    }
+
+    fn reads_parsed() -> bool {
+        true
     }
 
     /// The node, at its location if it has one.
@@ -248,17 +263,19 @@ pub fn from_ast_json_str<T: AstJson>(
         → (json : Data) → read text.now ≡ Some json
         → (tree : T.Tree) → ¬ T.is_json_of Refuse tree json) }
 {
-    let mut scratch = Scratch::new(alloc);
-    if let Some(value) = parse_json(alloc, text, &mut scratch)? {
-        return T::read_json(JsonNode::parsed(alloc, &value, source, Unknown::Refuse));
+    if T::reads_parsed() {
+        // The scratch is dropped before the text is read otherwise, with another one.
+        let mut scratch = Scratch::new(alloc);
+        if let Some(value) = parse_json(alloc, text, &mut scratch)? {
+            return T::read_json(JsonNode::parsed(alloc, &value, source, Unknown::Refuse));
+        }
     }
-    // The second reading has a scratch of its own, which takes the place of this one.
-    drop(scratch);
     read_otherwise(alloc, text, source)
 }
 
-/// The same of a text that is no JSON that is parsed: it is read again, for the error.
-#[cold]
+/// The same by a value of `serde_json`. A text that was not parsed is no JSON: it is read again, for the error.
+// It has a frame of its own, so that a text that is parsed is read without it.
+#[inline(never)]
 fn read_otherwise<T: AstJson>(alloc: Global, text: &str, source: FileId) -> Result<T, AstJsonError>
     ensures ok { IfOk result (λ value.
         (json : Data) × (read text.now ≡ Some json) × T.is_json_of Refuse (T.tree value) json) }

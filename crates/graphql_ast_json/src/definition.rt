@@ -59,6 +59,10 @@ impl AstJson for Definition {
         }
     }
 
+    fn reads_parsed() -> bool {
+        true
+    }
+
     fn to_ast_json(&self, alloc: Global) -> Result<Json, AllocError> {
         match self {
             Self::OperationDefinition(node) => node.to_ast_json(alloc),

@@ -35,6 +35,10 @@ impl AstJson for DirectiveList {
         Ok(DirectiveList(node.array::<Node<Directive>>()?))
     }
 
+    fn reads_parsed() -> bool {
+        true
+    }
+
     fn to_ast_json(&self, alloc: Global) -> Result<Json, AllocError> {
         write_list::<Node<Directive>>(alloc, self.0.as_slice())
     }

@@ -80,6 +80,10 @@ impl AstJson for Name {
         Ok(name_at(name, location))
     }
 
+    fn reads_parsed() -> bool {
+        true
+    }
+
     fn to_ast_json(&self, alloc: Global) -> Result<Json, AllocError> {
         NodeWriter::new(alloc, self.location()).with_text("Name", self.as_str())
     }

@@ -43,6 +43,10 @@ impl AstJson for Selection {
         read_selection(node)
     }
 
+    fn reads_parsed() -> bool {
+        true
+    }
+
     fn to_ast_json(&self, alloc: Global) -> Result<Json, AllocError> {
         write_selection(alloc, self)
     }

@@ -108,6 +108,10 @@ impl AstJson for NodeStr {
         Ok(text_at(node.alloc, location, text)?)
     }
 
+    fn reads_parsed() -> bool {
+        true
+    }
+
     /// The text tells `block` exactly where the default layout prints the description as a block string.
     fn to_ast_json(&self, alloc: Global) -> Result<Json, AllocError> {
         let text = self.as_str();

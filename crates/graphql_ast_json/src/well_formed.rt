@@ -191,18 +191,20 @@ pub fn from_well_formed_ast_json_str<T: AstJson + SyntaxTree + Drop>(
         × (read text.now ≡ Some json) × T.is_json_of Refuse (T.AstJson.tree value) json
         × (first_flaw (T.kind.flaws (T.SyntaxTree.tree value)) ≡ Some flaw))) }
 {
-    let mut scratch = Scratch::new(alloc);
-    if let Some(value) = parse_json(alloc, text, &mut scratch)? {
-        let node = JsonNode::parsed(alloc, &value, source, Unknown::Refuse);
-        return read_well_formed_json(node);
+    if T::reads_parsed() {
+        // The scratch is dropped before the text is read otherwise, with another one.
+        let mut scratch = Scratch::new(alloc);
+        if let Some(value) = parse_json(alloc, text, &mut scratch)? {
+            let node = JsonNode::parsed(alloc, &value, source, Unknown::Refuse);
+            return read_well_formed_json(node);
+        }
     }
-    // The second reading has a scratch of its own, which takes the place of this one.
-    drop(scratch);
     read_otherwise(alloc, text, source)
 }
 
-/// The same of a text that is no JSON that is parsed: it is read again, for the error.
-#[cold]
+/// The same by a value of `serde_json`. A text that was not parsed is no JSON: it is read again, for the error.
+// It has a frame of its own, so that a text that is parsed is read without it.
+#[inline(never)]
 fn read_otherwise<T: AstJson + SyntaxTree + Drop>(
     alloc: Global,
     text: &str,

@@ -1,10 +1,12 @@
 //! JSON that is parsed from a text is read as a value of `serde_json` is: as the same tree, or with the same error.
 use crate::outside::Outside;
-use graphql_ast::ast::Document;
+use graphql_ast::ast::{Definition, DirectiveList, Document, Selection};
+use graphql_ast::name::Name;
 use graphql_ast_json::{
     AstJson, AstJsonError, JsonNode, NodeReader, Unknown, WellFormedError, from_ast_json_str,
     from_well_formed_ast_json_str, parse_json, read_well_formed_ast_json, read_well_formed_json,
 };
+use graphql_base::node::{Node, NodeStr};
 use graphql_base::span::FileId;
 use json::{Scratch, Value as Parsed};
 use serde_json::Value as Json;
@@ -109,8 +111,10 @@ fn said_of_both(
     assert_eq!(rt; found.as_str(), read.as_str());
     let found = said(rt, alloc, Document::read_json(owned));
     assert_eq!(rt; found.as_str(), read.as_str());
-    let found = said_outside(rt, alloc, Outside::read_json(owned));
-    assert_eq!(rt; found.as_str(), read.as_str());
+    for node in [parsed, owned] {
+        let found = said_outside(rt, alloc, Outside::read_json(node));
+        assert_eq!(rt; found.as_str(), read.as_str());
+    }
     let well_formed = said_well_formed(rt, alloc, read_well_formed_ast_json(reader));
     let found = said_well_formed(rt, alloc, read_well_formed_json(parsed));
     assert_eq!(rt; found.as_str(), well_formed.as_str());
@@ -205,6 +209,23 @@ fn both_forms_of_an_operation_are_read_alike(rt: HostRuntime) {
          .values[1].value`: a reserved enum value: `true`"
     );
     check_changes(&rt, alloc, OPERATION);
+}
+
+/// The texts of the kinds here are read as they are parsed, and not those of other crates.
+#[test]
+fn kinds_tell_whether_they_read_parsed_json(rt: HostRuntime) {
+    for (reads, wanted) in [
+        (Document::reads_parsed(), true),
+        (Node::<Document>::reads_parsed(), true),
+        (Definition::reads_parsed(), true),
+        (Selection::reads_parsed(), true),
+        (DirectiveList::reads_parsed(), true),
+        (Name::reads_parsed(), true),
+        (NodeStr::reads_parsed(), true),
+        (Outside::reads_parsed(), false),
+    ] {
+        assert_eq!(rt; reads, wanted);
+    }
 }
 
 /// 127 arrays stand in one another in both forms, and 128 in neither.

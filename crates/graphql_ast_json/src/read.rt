@@ -61,7 +61,7 @@ pub struct JsonNode<'j, 't> {
 }
 
 /// Where one of these names is this one, if one is.
-fn index_of(names: &[&str], name: &str) -> Option<usize>
+pub(crate) fn index_of(names: &[&str], name: &str) -> Option<usize>
     ensures { is_some result ≡ is_one_of (texts_of names.now) name.now }
 {
     for index in 0..names.len() {

@@ -1,5 +1,5 @@
 -- JSON that is read, in either form.
-use Rattle.std.specs.Prelude.{ℕ, List, [], map}
+use Rattle.std.specs.Prelude.{ℕ, List, map}
 use Rattle.serde_json.specs.Data.{Data, Items, no_members, number, object, put, unsigned}
 use Rattle.serde_json.specs.View.{items_of, view}
 use Rattle.parsed_json.specs.ParsedJson.{parsed_data}
@@ -16,7 +16,6 @@ any_data (json.Parsed value) = parsed_data value.now
 abbrev pub item_datas : AnyItems → List Data
 item_datas (items.Owned values) = map view values.now
 item_datas (items.Parsed values) = map parsed_data values.now
-item_datas items.None = []
 
 abbrev pub items_data : AnyItems → Items
 items_data values = items_of (item_datas values)

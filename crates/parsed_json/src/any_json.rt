@@ -23,8 +23,6 @@ pub enum AnyJson<'j, 't> {
 pub enum AnyItems<'j, 't> {
     Owned(&'j [Json]),
     Parsed(&'j [Parsed<'t>]),
-    /// Those of an array that isn't there.
-    None,
 }
 
 /// The number that a member of this name is, if it is an integer from 0 on that 64 bits hold.
@@ -165,7 +163,6 @@ impl<'j, 't> AnyItems<'j, 't> {
         match self {
             AnyItems::Owned(items) => items.len(),
             AnyItems::Parsed(items) => items.len(),
-            AnyItems::None => 0,
         }
     }
 
@@ -184,7 +181,6 @@ impl<'j, 't> AnyItems<'j, 't> {
         match self {
             AnyItems::Owned(items) => AnyJson::Owned(&items[index]),
             AnyItems::Parsed(items) => AnyJson::Parsed(&items[index]),
-            AnyItems::None => unreachable!(),
         }
     }
 }

@@ -1,12 +1,15 @@
 -- JSON that is read as a node, in either form.
-use Rattle.std.specs.Prelude.{ℕ, List, [], ◌∷◌, Bool, false, not}
-use Rattle.serde_json.specs.Data.{Data, null, boolean, number, string, array, object, Members, no_members, member}
+use Rattle.std.specs.Prelude.{ℕ, List, [], ◌∷◌, Bool, true, false, not, Option, Some, option_and_then, codes}
+use Rattle.std.specs.Option.{option_map_or, unwrap_or}
+use Rattle.serde_json.specs.Data.{Data, null, boolean, number, string, array, object, Items, item, Members, no_members, member}
+use Rattle.serde_json.specs.Find.{as_array, as_str, get}
+use Rattle.graphql_text.specs.grammar.Forms.{is_one_of}
 use Rattle.parsed_json.specs.AnyJson.{any_data}
 use Rattle.graphql_ast_json.specs.declared.error.JsonType.{JsonType}
 use Rattle.graphql_ast_json.specs.declared.error.JsonType.TheVariants as json_type
 use Rattle.graphql_ast_json.specs.declared.read.JsonNode.{JsonNode}
 use Rattle.graphql_ast_json.specs.declared.read.Unknown.{Unknown}
-use Rattle.graphql_ast_json.specs.nodes.Nodes.{names_among}
+use Rattle.graphql_ast_json.specs.nodes.Nodes.{member_of, names_among}
 
 -- the JSON that is read
 abbrev pub node_data : JsonNode → Data
@@ -38,3 +41,19 @@ type_of (number n) = json_type.Number
 type_of (string s) = json_type.Text
 type_of (array js) = json_type.Array
 type_of (object ms) = json_type.Object
+
+-- the kind that a node tells, or else the word `node`
+abbrev pub told_kind : Data → List ℕ
+told_kind json = unwrap_or (option_and_then as_str (get (codes "kind") json)) (codes "node")
+
+abbrev pub has_none : Option Items → Bool
+has_none (Some (item _ _)) = false
+has_none _ = true
+
+-- the member of this name is no list, or an empty one
+abbrev pub lacks : List ℕ → Data → Bool
+lacks name json = has_none (option_and_then as_array (member_of name json))
+
+-- the text of a node is one of these
+abbrev pub has_text_of : List (List ℕ) → Data → Bool
+has_text_of texts json = option_map_or (is_one_of texts) (option_and_then as_str (member_of (codes "value") json)) false

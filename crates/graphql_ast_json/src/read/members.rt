@@ -6,7 +6,7 @@ ghost use Rattle.graphql_values.specs.kinds.Directives.{DirectiveTree};
 ghost use Rattle.graphql_values.specs.trees.DirectiveTrees.{directive_trees};
 ghost use Rattle.parsed_json.specs.AnyJson.{any_data, items_data};
 ghost use Rattle.graphql_ast_json.specs.code.Errors.{IsMemory};
-ghost use Rattle.graphql_ast_json.specs.code.JsonNodes.{node_data};
+ghost use Rattle.graphql_ast_json.specs.code.JsonNodes.{node_data, told_kind};
 ghost use Rattle.graphql_ast_json.specs.code.NodeReading.{IsTextNode};
 ghost use Rattle.graphql_ast_json.specs.kinds.DirectiveJson.{HasDirectives};
 ghost use Rattle.graphql_ast_json.specs.nodes.Nodes.{Each, IsFlag, IsLocated, IsOptional, ListMember, Member, OptionalListMember, items_or_none, member_of};
@@ -38,7 +38,9 @@ impl<'j, 't> JsonNode<'j, 't> {
     }
 
     /// The kind that the node tells, for an error.
-    pub(crate) fn kind(self) -> &'j str {
+    pub(crate) fn kind(self) -> &'j str
+        ensures { result.now ≡ told_kind (node_data self.entry) }
+    {
         match self.json.get("kind") {
             Some(kind) => kind.as_str().unwrap_or("node"),
             None => "node",
@@ -182,7 +184,7 @@ impl<'j, 't> JsonNode<'j, 't> {
             → items_or_none (member_of name.now (node_data self.entry)) ≡ None) }
     {
         match member(self.json, name) {
-            None => Ok(AnyItems::None),
+            None => Ok(AnyItems::Owned(&[])),
             Some(member) => match member.as_items() {
                 Some(items) => Ok(items),
                 None => Err(self.within(name, self.wrong_type(member, JsonType::Array))),

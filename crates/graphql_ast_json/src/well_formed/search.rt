@@ -1,6 +1,11 @@
 //! Where in the JSON of a tree the first flaw is: one walk in the order of print.
+ghost use Rattle.std.specs.Prelude.{◌≡◌};
+ghost use Rattle.parsed_json.specs.AnyJson.{any_data};
+ghost use Rattle.graphql_ast_json.specs.code.JsonNodes.{has_text_of, lacks};
+ghost use Rattle.graphql_ast_json.specs.code.NodeReading.{texts_of};
+
 use crate::error::JsonPath;
-use crate::read::{JsonNode, member};
+use crate::read::{JsonNode, index_of, member};
 use graphql_base::span::SourceSpan;
 use graphql_text::ill_formed::SideCondition::{
     self, AddsSomething, HasDefinition, HasLocation, HasRootOperation, HasSelection, IsConstant,
@@ -74,7 +79,9 @@ fn parts_of(kind: &str) -> &'static [&'static str] {
 }
 
 /// Whether there is nothing in the list that the member of this name is.
-fn lacks(json: AnyJson<'_, '_>, name: &str) -> bool {
+fn lacks(json: AnyJson<'_, '_>, name: &str) -> bool
+    ensures { result ≡ lacks name.now (any_data json.entry) }
+{
     match member(json, name) {
         Some(found) => match found.as_items() {
             Some(items) => items.is_empty(),
@@ -85,10 +92,12 @@ fn lacks(json: AnyJson<'_, '_>, name: &str) -> bool {
 }
 
 /// Whether the text of the node is one of these.
-fn is_any_of(texts: &[&str], json: AnyJson<'_, '_>) -> bool {
+fn is_any_of(texts: &[&str], json: AnyJson<'_, '_>) -> bool
+    ensures { result ≡ has_text_of (texts_of texts.now) (any_data json.entry) }
+{
     match member(json, "value") {
         Some(found) => match found.as_str() {
-            Some(text) => texts.contains(&text),
+            Some(text) => index_of(texts, text).is_some(),
             None => false,
         },
         None => false,

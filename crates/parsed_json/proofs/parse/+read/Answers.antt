@@ -77,14 +77,16 @@ read_members-loop-found-preserved t c =
     let less = c.in_ok-value.ensures.shorter in
     let lesser = read_key-shorter c.loop-found.reader (Some name.now) c.next_key.new.self key in
     let room : 0 < before.0 = omega (arith, less, lesser, before.2) in
-    let more = members_more p before.0 name.now c.loop-found.reader c.next_key.new.self c.read_value.new.reader (value_view v) room key c.in_ok-value.ensures.ok in
+    let rest = c.read_value.new.reader in
+    let more = members_more p before.0 name.now c.loop-found.reader c.next_key.new.self rest (value_view v) room key c.in_ok-value.ensures.ok in
     let pushed : c.push.new.self.items ≡ found ++ (name, v) ∷ [] = search rules in (
       before.0 - 1,
       before.1 ∙ ap (parse_map (members_before found)) more ∙ one_more_member found (name, v) (members p (before.0 - 1) c.read_value.new.reader)
           ∙ ap (λ ms. parse_map (members_before ms) (members p (before.0 - 1) c.read_value.new.reader)) (sym pushed),
       omega (arith, less, lesser, before.2),
       omega (arith, less, lesser, before.3),
-      subst (λ ms. IsTrue (members_have_numbers (members_view ms))) (sym pushed) (one_more_member_numbers found (name, v) before.4 c.in_ok-value.ensures.numbers),
+      subst (λ ms. IsTrue (members_have_numbers (members_view ms))) (sym pushed)
+          (one_more_member_numbers found (name, v) before.4 c.in_ok-value.ensures.numbers),
     )
 
 pub read_members-returns-in_err-value-clause-refused : goal.read_members-returns-in_err-value-clause-refused

@@ -1,5 +1,5 @@
 //! How often calls ask for memory. A test `NAME_built` makes what a call is given, and `NAME_then_CALL_takes_COUNT` makes it and
-//! calls. Each fails where any of its growths is refused, and `tools/growths.sh` compares how many those are.
+//! calls. Each fails where any of its growths is refused, and `tools/refused_growths.py` compares how many those are.
 use crate::checks::check_printed;
 use crate::samples::{directive, input, items};
 use graphql_values::directive::{Directive, SpecifiedArgumentError};

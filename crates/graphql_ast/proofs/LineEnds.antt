@@ -1,14 +1,15 @@
 -- Of LinesAndColumns: line terminators, and the characters of the last line, are counted by bytes.
 use Rattle.std.proofs.Common.{◌≡◌, ℕ, ◌+◌, ◌-◌, ◌/◌, ◌%◌, ◌≤◌, ◌<◌, ◌==◌, Bool, true, false, not, ◌&&◌, ◌||◌, cond, if◌then◌else◌}
-use Rattle.std.proofs.Common.{List, [], ◌∷◌, ◌++◌, codes, length, nat_lt, take, Some}
+use Rattle.std.proofs.Common.{List, [], ◌∷◌, ◌++◌, codes, drop, length, nat_lt, reverse, take, Some}
 use Rattle.std.proofs.Common.{refl, sym, ap, ◌∙◌, arith, append_assoc, append-nil, true≢false, count_by, inl, inr}
-use Rattle.std.specs.List.{suffix_len}
+use Rattle.std.specs.List.{after_last, prefix_len, suffix_len}
 use Rattle.std.proofs.Math.Dec.{ltb}
 use Rattle.std.proofs.Math.Utf8.{encode, encodes}
-use Rattle.std.proofs.Math.ListN.{get_or}
+use Rattle.std.proofs.Math.ListN.{drop_of_length-le, get_or}
 use Rattle.std.proofs.Math.Seq.{take-length}
 use Rattle.std.specs.Prelude.{slice_get}
-use Rattle.std.proofs.lemmas.List.{take_more}
+use Rattle.std.proofs.lemmas.List.{drop-append-le, length_push, reverse-append, reverse-reverse, take_more}
+use Rattle.std.proofs.lemmas.List.Sums.{suffix_len-le-length, sum_by-append}
 use Rattle.std.proofs.lemmas.Option.{get_or_from_slice_get}
 use Rattle.std.proofs.lemmas.Bool.{cases_lt, le-ltb, lt-ltb, ne_eqb}
 use Rattle.std.specs.Str.{IsUtf8, chars}
@@ -229,6 +230,79 @@ last_of_long n bytes rest long =
     ap (λ bytes. last_bytes n (bytes ++ rest)) long.4
     ∙ ap (λ m. last_bytes m (long.1 ++ rest)) (adds_one n _ _ (no_end false long.0 (omega (arith, long.2))).1 (begins long.0 long.2))
     ∙ last_of_continuations (n + 1) long.1 rest long.3
+
+-- CHUNKS FROM THE END
+
+pub last_bytes_append : (n : ℕ) (text more : List ℕ) → last_bytes n (text ++ more) ≡ last_bytes (last_bytes n text) more
+last_bytes_append n [] more = refl
+last_bytes_append n (c ∷ text) more = last_bytes_append (if ends_line false c then 0 else n + cond (begins_character c) 1 0) text more
+
+goes_on : (is_cr is_lf : Bool) (text : List ℕ) → cond (is_cr || (is_lf && not false)) 1 0 + ends_in is_cr text ≡ 0 →
+    ((is_cr || (is_lf && not false)) ≡ false) × (ends_in false text ≡ 0)
+goes_on true is_lf text none = absurd (omega (arith, none))
+goes_on false true text none = absurd (omega (arith, none))
+goes_on false false text none = (refl, omega (arith, none))
+
+-- where no line ends in bytes, each character that begins in them counts
+pub last_bytes_on : (n : ℕ) (text : List ℕ) → ends_in false text ≡ 0 → last_bytes n text ≡ n + count_by begins_character text
+last_bytes_on n [] none = omega arith
+last_bytes_on n (c ∷ text) none =
+    let on = goes_on (c == 0xD) (c == 0xA) text none in
+    let rest = last_bytes_on (n + cond (begins_character c) 1 0) text on.1 in
+    let one = sum_by-append (λ d. cond {A = ℕ} (begins_character d) 1 0) (c ∷ []) text in
+    ap (λ (b : Bool). last_bytes (if b then 0 else n + cond (begins_character c) 1 0) text) on.0 ∙ omega (arith, rest, one)
+
+anew_behind : (is_cr is_lf : Bool) (n m : ℕ) (text : List ℕ) → ((k l : ℕ) → 0 < ends_in false text → last_bytes k text ≡ last_bytes l text) →
+    0 < cond (is_cr || (is_lf && not false)) 1 0 + ends_in is_cr text →
+    last_bytes (if is_cr || (is_lf && not false) then 0 else n) text ≡ last_bytes (if is_cr || (is_lf && not false) then 0 else m) text
+anew_behind true is_lf n m text rest some = refl
+anew_behind false true n m text rest some = refl
+anew_behind false false n m text rest some = rest n m (omega (arith, some))
+
+-- where a line ends in bytes, nothing counts that stands before them
+pub last_bytes_anew : (n m : ℕ) (text : List ℕ) → 0 < ends_in false text → last_bytes n text ≡ last_bytes m text
+last_bytes_anew n m [] some = absurd (omega (arith, some))
+last_bytes_anew n m (c ∷ text) some =
+    anew_behind (c == 0xD) (c == 0xA) (n + cond (begins_character c) 1 0) (m + cond (begins_character c) 1 0) text
+    (λ k l more. last_bytes_anew k l text more) some
+
+abbrev begun_behind : List ℕ → ℕ
+begun_behind text = count_by begins_character (after_last (λ c. (c == 0xD) || (c == 0xA)) text)
+
+behind_more : (text : List ℕ) (c n m : ℕ) (is_cr is_lf : Bool) → n ≤ length text → m ≡ cond (not (is_cr || is_lf)) (1 + n) 0 →
+    count_by begins_character (drop (length (text ++ c ∷ []) - m) (text ++ c ∷ []))
+    ≡ (if is_cr || (is_lf && not false) then 0 else count_by begins_character (drop (length text - n) text) + cond (begins_character c) 1 0)
+behind_more text c n m true is_lf within is =
+    ap (count_by begins_character) (drop_of_length-le (text ++ c ∷ []) (omega (arith, is)))
+behind_more text c n m false true within is =
+    ap (count_by begins_character) (drop_of_length-le (text ++ c ∷ []) (omega (arith, is)))
+behind_more text c n m false false within is =
+    let size = length_push text c in
+    let from : length (text ++ c ∷ []) - m ≡ length text - n = omega (arith, is, size) in
+    let parts = ap (λ k. drop k (text ++ c ∷ [])) from ∙ drop-append-le (length text - n) text (c ∷ []) (omega arith) in
+    let one = sum_by-append (λ d. cond {A = ℕ} (begins_character d) 1 0) (drop (length text - n) text) (c ∷ []) in
+    ap (count_by begins_character) parts ∙ omega (arith, one)
+
+behind_one : (text : List ℕ) (c : ℕ) →
+    begun_behind (text ++ c ∷ []) ≡ (if ends_line false c then 0 else begun_behind text + cond (begins_character c) 1 0)
+behind_one text c =
+    behind_more text c (suffix_len (λ d. not ((d == 0xD) || (d == 0xA))) text) _ (c == 0xD) (c == 0xA)
+    (suffix_len-le-length (λ d. not ((d == 0xD) || (d == 0xA))) text)
+    (ap (prefix_len (λ d. not ((d == 0xD) || (d == 0xA)))) (reverse-append text (c ∷ [])))
+
+behind_reversed : (text : List ℕ) → last_bytes 0 (reverse text) ≡ begun_behind (reverse text)
+behind_reversed [] = refl
+behind_reversed (c ∷ text) =
+    let split : reverse (c ∷ text) ≡ reverse text ++ c ∷ [] = reverse-append (c ∷ []) text in
+    ap (last_bytes 0) split
+    ∙ last_bytes_one 0 (reverse text) c
+    ∙ ap (λ n. if ends_line false c then 0 else n + cond (begins_character c) 1 0) (behind_reversed text)
+    ∙ sym (behind_one (reverse text) c)
+    ∙ ap begun_behind (sym split)
+
+pub last_bytes_behind : (text : List ℕ) → last_bytes 0 text ≡ count_by begins_character (after_last (λ c. (c == 0xD) || (c == 0xA)) text)
+last_bytes_behind text =
+    ap (last_bytes 0) (sym (reverse-reverse text)) ∙ behind_reversed (reverse text) ∙ ap begun_behind (reverse-reverse text)
 
 -- both are the same of a text's bytes as of its characters
 pub ends_in_bytes : (behind : Bool) (text : List ℕ) → ends_in behind (encodes text) ≡ ends_in behind text

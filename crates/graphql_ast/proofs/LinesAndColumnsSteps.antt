@@ -1,5 +1,5 @@
 -- Of LinesAndColumns: what one character more changes.
-use Rattle.std.proofs.Common.{◌≡◌, ℕ, ◌+◌, ◌==◌, Bool, true, false, not, ◌&&◌, ◌||◌, cond, if◌then◌else◌, List, [], ◌∷◌, ◌++◌, codes}
+use Rattle.std.proofs.Common.{◌≡◌, ℕ, ◌+◌, ◌≤◌, ◌==◌, Bool, true, false, not, ◌&&◌, ◌||◌, cond, if◌then◌else◌, List, [], ◌∷◌, ◌++◌, codes}
 use Rattle.std.proofs.Common.{refl, sym, ap, ap₂, ◌∙◌, arith, append_assoc, append-nil, true≢false, count_by}
 use Rattle.std.specs.List.{suffix_len, prefix_len}
 use Rattle.std.proofs.lemmas.Bool.{eqb-true}
@@ -148,3 +148,15 @@ pub position_more : (text : List ℕ) (c : ℕ) → position_behind (text ++ c �
 position_more text c =
     one_of_three (position_behind text) (position_behind (text ++ c ∷ [])) (ends_line (ends_with_return text) c) (c == 0xA)
     (line_ended text c) (line_ended_before text c) (line_goes_on text c)
+
+abbrev pub size : LineColumn → ℕ
+size position = position.line + position.column
+
+size_more : (position : LineColumn) (n : ℕ) (ends is_lf : Bool) → 1 ≤ position.column → size position ≤ n →
+    size (if ends then line_begun position else if is_lf then position else column_further position) ≤ n + 1
+size_more position n true is_lf h l = omega arith
+size_more position n false true h l = omega arith
+size_more position n false false h l = omega arith
+
+pub next_size : (text : List ℕ) (c n : ℕ) → size (position_behind text) ≤ n → size (next_position (position_behind text) (ends_with_return text) c) ≤ n + 1
+next_size text c n l = size_more (position_behind text) n (ends_line (ends_with_return text) c) (c == 0xA) (omega arith) l

@@ -1,6 +1,6 @@
 //! Positions in source texts: the line and the column, as messages name them.
 ghost use Rattle.std.specs.Prelude.{◌≡◌, ◌+◌, ◌^◌, ◌<◌, ◌≤◌, ◌==◌, ◌&&◌, ◌||◌, [], ◌++◌, chars, codes, count_by, if◌then◌else◌, length, nat_lt, not, option_copied, string_bytes};
-ghost use Rattle.std.specs.List.{suffix_len};
+ghost use Rattle.std.specs.List.{after_last, suffix_len};
 ghost use Rattle.graphql_text.specs.strings.BlockStringValue.{with_lf};
 ghost use Rattle.graphql_ast.specs.LinesAndColumns.{IsPositionAt, IsStartPosition, position_behind, source_file_of};
 
@@ -65,8 +65,62 @@ impl Document {
     }
 }
 
+/// A text of fewer bytes is gone through by its characters, which takes less time than counting.
+const FEW: usize = 64;
+
 /// The position behind a text.
 fn position_behind(text: &str) -> LineColumn
+    requires { length text.now < 2 ^ 63 }
+    ensures { result ≡ position_behind (chars text.now) }
+{
+    if text.len() < FEW {
+        position_by_characters(text)
+    } else {
+        position_by_counts(text)
+    }
+}
+
+/// The position behind a text, character by character.
+fn position_by_characters(text: &str) -> LineColumn
+    requires { length text.now < 2 ^ 63 }
+    ensures { result ≡ position_behind (chars text.now) }
+{
+    let mut position = LineColumn { line: 1, column: 1 };
+    let mut is_behind_return = false;
+    for character in text.chars() {
+        position = next_position(position, is_behind_return, character);
+        is_behind_return = character == '\r';
+    }
+    position
+}
+
+/// The position behind one character more, where a CR may stand before it.
+fn next_position(position: LineColumn, is_behind_return: bool, character: char) -> LineColumn
+    requires { position.line + position.column < 2 ^ 63 + 2 }
+    ensures { result ≡
+        (if (character == 0xD) || ((character == 0xA) && not is_behind_return)
+        then record { line = position.line + 1; column = 1 }
+        else if character == 0xA then position
+        else record { line = position.line; column = position.column + 1 }) }
+{
+    if character == '\r' || character == '\n' && !is_behind_return {
+        LineColumn {
+            line: position.line + 1,
+            column: 1,
+        }
+    } else if character == '\n' {
+        position
+    } else {
+        LineColumn {
+            line: position.line,
+            column: position.column + 1,
+        }
+    }
+}
+
+/// The position behind a text, by counts of its bytes. It isn't inlined, so that short texts don't pay for it.
+#[inline(never)]
+fn position_by_counts(text: &str) -> LineColumn
     requires { length text.now < 2 ^ 63 }
     ensures { result ≡ position_behind (chars text.now) }
 {
@@ -127,6 +181,37 @@ fn begins_character(byte: u8) -> bool
     byte < 0x80 || byte > 0xBF
 }
 
+/// How many characters begin in these bytes.
+fn characters_begun(bytes: &[u8]) -> u8
+    requires { length bytes.now < 256 }
+    ensures { result ≡ count_by (λ c. nat_lt c 0x80 || nat_lt 0xBF c) bytes.now }
+{
+    let mut count = 0;
+    for byte in bytes {
+        count += begins_character(*byte) as u8;
+    }
+    count
+}
+
+/// How many characters begin in these bytes behind the last CR or LF.
+fn characters_behind_line_end(bytes: &[u8]) -> usize
+    requires { length bytes.now < 2 ^ 63 }
+    ensures count { result ≡ count_by (λ c. nat_lt c 0x80 || nat_lt 0xBF c)
+        (after_last (λ c. (c == 0xD) || (c == 0xA)) bytes.now) }
+    ensures most { result ≤ length bytes.now }
+{
+    let mut len = 0;
+    for byte in bytes.iter().rev() {
+        if ends_line(*byte, false) {
+            return len;
+        }
+        if begins_character(*byte) {
+            len += 1;
+        }
+    }
+    len
+}
+
 /// How many characters stand behind the last line terminator of a text.
 fn last_line_len(text: &str) -> usize
     requires { length text.now < 2 ^ 63 }
@@ -134,13 +219,11 @@ fn last_line_len(text: &str) -> usize
     ensures most { result ≤ length text.now }
 {
     let mut len = 0;
-    for byte in text.as_bytes().iter().rev() {
-        if ends_line(*byte, false) {
-            return len;
+    for bytes in text.as_bytes().rchunks(CHUNK) {
+        if line_ends(bytes, false) > 0 {
+            return len + characters_behind_line_end(bytes);
         }
-        if begins_character(*byte) {
-            len += 1;
-        }
+        len += characters_begun(bytes) as usize;
     }
     len
 }

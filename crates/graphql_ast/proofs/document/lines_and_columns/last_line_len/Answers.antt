@@ -1,42 +1,37 @@
-use Rattle.std.proofs.Common.{◌+◌, length, sym, ap, ◌∙◌, arith}
-use Rattle.std.proofs.lemmas.List.{length_push, nil_from_length}
-use Rattle.std.specs.Slice.Iter.{iter_rest}
-use Rattle.std.specs.Iterator.Adapters.{rev_source}
-use Rattle.graphql_ast.proofs.LineEnds.{last_bytes, last_bytes_begun, last_bytes_end, last_bytes_within, last_line_bytes}
+use Rattle.std.proofs.Common.{◌+◌, false, length, length-append, sym, ap, rules, ◌∙◌, arith}
+use Rattle.std.proofs.lemmas.List.{nil_from_length}
+use Rattle.std.specs.Slice.Iter.{rchunks_rest}
+use Rattle.graphql_ast.proofs.LineEnds.{begins_character, last_bytes, last_bytes_anew, last_bytes_append, last_bytes_behind, last_bytes_on, last_line_bytes, terminators_behind}
+use Rattle.std.proofs.lemmas.List.Sums.{count_by-le-length}
 use Rattle.graphql_ast.proofs.document.lines_and_columns.last_line_len.Goals as goal
 
-pub returns-then-ends_line-clause-count : goal.returns-then-ends_line-clause-count
-returns-then-ends_line-clause-count c =
-    let rest = iter_rest (rev_source c.next.new.self) in
-    let ends = sym c.ends_line.ensures ∙ c.if-ends_line.true in
-    let none = ap (last_bytes 0) c.in-Some.ensures.steps ∙ last_bytes_end 0 rest c.in-Some.byte.now ends in
-    let counted = c.loop-byte.invariant.2 in
+pub returns-then-line_ends-gt0-clause-count : goal.returns-then-line_ends-gt0-clause-count
+returns-then-line_ends-gt0-clause-count c =
+    let bytes = c.in-Some.bytes.now in
+    let rest = rchunks_rest c.next.new.self in
+    let counted = terminators_behind false bytes in
+    let split = ap (last_bytes 0) c.in-Some.ensures.steps.1.0 ∙ last_bytes_append 0 rest bytes in
+    let anew = last_bytes_anew (last_bytes 0 rest) 0 bytes (omega (arith, counted, c.line_ends.ensures, c.if-line_ends-gt0.true)) in
+    let behind = last_bytes_behind bytes in
     let all = last_line_bytes c.args.text.now c.utf8.text in
-    omega (arith, none, counted, all)
+    omega (arith, split, anew, behind, all, c.loop-bytes.invariant.3, c.characters_behind_line_end.ensures.count)
 
-pub loop-byte-preserved-then-begins_character : goal.loop-byte-preserved-then-begins_character
-loop-byte-preserved-then-begins_character c =
-    let rest = iter_rest (rev_source c.next.new.self) in
-    let byte = c.in-Some.byte.now in
-    let one =
-    ap (last_bytes 0) c.in-Some.ensures.steps
-    ∙ last_bytes_begun 0 rest byte (sym c.ends_line.ensures ∙ c.if-ends_line.false) (sym c.begins_character.ensures ∙ c.if-begins_character.true) in
-    let size = ap length c.in-Some.ensures.steps ∙ length_push rest byte in
-    (tt, tt, omega (arith, one, c.loop-byte.invariant.2), omega (arith, size, c.loop-byte.invariant.3))
-
-pub loop-byte-preserved : goal.loop-byte-preserved
-loop-byte-preserved c =
-    let rest = iter_rest (rev_source c.next.new.self) in
-    let byte = c.in-Some.byte.now in
-    let none =
-    ap (last_bytes 0) c.in-Some.ensures.steps
-    ∙ last_bytes_within 0 rest byte (sym c.ends_line.ensures ∙ c.if-ends_line.false) (sym c.begins_character.ensures ∙ c.if-begins_character.false) in
-    let size = ap length c.in-Some.ensures.steps ∙ length_push rest byte in
-    (tt, tt, omega (arith, none, c.loop-byte.invariant.2), omega (arith, size, c.loop-byte.invariant.3))
+pub loop-bytes-preserved : goal.loop-bytes-preserved
+loop-bytes-preserved c =
+    let bytes = c.in-Some.bytes.now in
+    let rest = rchunks_rest c.next.new.self in
+    let steps = c.in-Some.ensures.steps in
+    let counted = terminators_behind false bytes in
+    let split = ap (last_bytes 0) steps.1.0 ∙ last_bytes_append 0 rest bytes in
+    let on = last_bytes_on (last_bytes 0 rest) bytes (omega (arith, counted, c.line_ends.ensures, c.if-line_ends-gt0.false)) in
+    let begun = c.characters_begun.ensures in
+    let most = count_by-le-length begins_character bytes in
+    let sizes = ap length steps.1.0 ∙ length-append rest bytes in
+    (search rules, tt, steps.0 ∙ c.loop-bytes.invariant.2, omega (arith, split, on, begun, c.loop-bytes.invariant.3), omega (arith, sizes, begun, most, c.loop-bytes.invariant.4))
 
 pub returns-clause-count : goal.returns-clause-count
 returns-clause-count c =
-    let none = nil_from_length _ c.in-None.ensures.steps.0 in
-    let counted = ap (λ rest. last_bytes 0 rest + c.loop-byte.len) (sym none) ∙ c.loop-byte.invariant.2 in
+    let none = nil_from_length _ c.in-None.ensures.steps.1.0 in
+    let counted = ap (λ rest. last_bytes 0 rest + c.loop-bytes.len) (sym none) ∙ c.loop-bytes.invariant.3 in
     let all = last_line_bytes c.args.text.now c.utf8.text in
     omega (arith, counted, all)

@@ -2,5 +2,7 @@
 
 -- JSON as it is parsed from a text
 pub mod ParsedJson
+-- JSON of which a part was read
+pub mod OpenJson
 -- JSON that is read, in either form
 pub mod AnyJson

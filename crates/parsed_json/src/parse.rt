@@ -1,17 +1,139 @@
-//! JSON is parsed from a text, in which its own texts lie then.
-ghost use Rattle.std.specs.Prelude.{◌≡◌, ◌<◌, Err, IfOk, IsTrue, None, OnOk, Some, length, option_map};
-ghost use Rattle.json.specs.Json.{items, members, value};
+//! JSON is parsed from a text, in which its own texts lie then: one loop goes over the tokens, and keeps the arrays and objects
+//! that are open in a list.
+ghost use Rattle.std.specs.Prelude.{◌≡◌, ℕ, ◌-◌, ◌++◌, ◌∷◌, [], IfOk, IsTrue, false, length, not, option_map, vec_len};
+ghost use Rattle.std.specs.Bool.{MatchBool};
 ghost use Rattle.json.specs.Reads.{token_of};
-ghost use Rattle.json.specs.Value.{items_view, members_view, value_view};
-ghost use Rattle.serde_json.specs.Read.{read};
-ghost use Rattle.parsed_json.specs.ParsedJson.{NoneWith, leaf_of, has_numbers, items_have_numbers, members_have_numbers, parsed_data};
+ghost use Rattle.json.specs.Token as token;
+ghost use Rattle.json.specs.Value.{value_view};
+ghost use Rattle.serde_json.specs.Read.{max_depth, read};
+ghost use Rattle.parsed_json.specs.OpenJson.{AreWithin, IsProgress, IsWithin, ended_array, ended_object, innermost_takes_value, open_tokens, read_tokens, so_far, takes_name, takes_value, value_tokens};
+ghost use Rattle.parsed_json.specs.ParsedJson.{leaf_of, parsed_data};
 
 use crate::numbers::number_of;
-use json::{Error, Reader, Scratch, Token, Value as Parsed};
+use json::{Reader, Scratch, Token, Value as Parsed};
 use std::alloc::{AllocError, Global};
 
 /// How deep arrays and objects of a text may stand in one another, for its JSON to be read.
 const MAX_DEPTH: usize = 127;
+
+/// An array or object that the text has begun and not ended yet.
+#[derive(Drop)]
+enum Open<'t> {
+    /// The items so far.
+    Array(Vec<Parsed<'t>>),
+    Object(Members<'t>),
+}
+
+/// The members of an object so far, and the name whose value comes next.
+#[derive(Drop)]
+struct Members<'t> {
+    found: Vec<(&'t str, Parsed<'t>)>,
+    name: Option<&'t str>,
+}
+
+/// What comes of the tokens that were read.
+#[derive(Drop)]
+enum Progress<'t> {
+    /// More has to come.
+    Unfinished,
+    /// They are a value.
+    Whole(Parsed<'t>),
+    /// Nothing that is read begins so.
+    Refused,
+}
+
+impl<'t> Open<'t> {
+    fn takes_value(&self) -> bool
+        ensures { result ≡ takes_value self.now }
+    {
+        match self {
+            Open::Array(_) => true,
+            Open::Object(members) => members.name.is_some(),
+        }
+    }
+
+    /// The array, where a bracket ends it. None of an object.
+    fn ended_array(self) -> Option<Parsed<'t>>
+        ensures { option_map value_view result ≡ ended_array self.entry }
+    {
+        match self {
+            Open::Array(items) => Some(Parsed::Array(items)),
+            Open::Object(_) => None,
+        }
+    }
+
+    /// The object, where a brace ends it. None of an array, and where a value has to come.
+    fn ended_object(self) -> Option<Parsed<'t>>
+        ensures { option_map value_view result ≡ ended_object self.entry }
+    {
+        match self {
+            Open::Object(Members { found, name: None }) => Some(Parsed::Object(found)),
+            _ => None,
+        }
+    }
+
+    /// Adds a value. False where none may come.
+    #[inline(always)]
+    fn add(&mut self, value: Parsed<'t>) -> Result<bool, AllocError>
+        ensures added { IfOk result (λ added. MatchBool added
+            (open_tokens self.new ≡ open_tokens self.old ++ value_tokens value.entry)
+            (takes_value self.old ≡ false)) }
+        ensures within { (d : ℕ) → IsWithin d (so_far self.old)
+            → IsWithin (d - 1) (value_view value.entry)
+            → IfOk result (λ added. IsTrue added → IsWithin d (so_far self.new)) }
+    {
+        match self {
+            Open::Array(items) => {
+                items.push(value)?;
+                Ok(true)
+            }
+            Open::Object(members) => members.add(value),
+        }
+    }
+
+    /// Adds the name of a member. False where none may come.
+    fn add_name(&mut self, name: &'t str) -> bool
+        ensures added { MatchBool result
+            (open_tokens self.new ≡ open_tokens self.old ++ token.key name.now ∷ [])
+            (takes_name self.old ≡ false) }
+        ensures same { so_far self.new ≡ so_far self.old }
+    {
+        match self {
+            Open::Object(members) if members.name.is_none() => {
+                members.name = Some(name);
+                true
+            }
+            _ => false,
+        }
+    }
+}
+
+impl<'t> Members<'t> {
+    fn new(alloc: Global) -> Members<'t>
+        ensures found { result.found.items ≡ [] }
+        ensures name { result.name ≡ None }
+    {
+        Members {
+            found: Vec::new(alloc),
+            name: None,
+        }
+    }
+
+    /// Adds the value of the name. False where there is no name.
+    #[inline(always)]
+    fn add(&mut self, value: Parsed<'t>) -> Result<bool, AllocError>
+        ensures { IfOk result (λ added. MatchBool added
+            ((self.new.name ≡ None) × (Some self.new.found.items
+            ≡ option_map (λ name. self.old.found.items ++ (name, value.entry) ∷ []) self.old.name))
+            (self.old.name ≡ None)) }
+    {
+        let Some(name) = self.name.take() else {
+            return Ok(false);
+        };
+        self.found.push((name, value))?;
+        Ok(true)
+    }
+}
 
 /// The value that a token is by itself. None where the token only begins or ends something, and for a number that is too large
 /// for a float.
@@ -28,77 +150,117 @@ fn leaf<'t>(token: Token<'t>) -> Option<Parsed<'t>>
     }
 }
 
-/// The next value of the reader. `Error::Invalid` where there is none, where arrays and objects stand in one another deeper,
-/// and at a number that is too large for a float: a text is refused where its first fault stands.
-#[cycle(read)]
+/// Adds a value to the innermost. Where nothing is open, it is the whole.
 #[inline(always)]
-fn read_value<'t>(alloc: Global, reader: &mut Reader<'t>, depth: usize) -> Result<Parsed<'t>, Error>
-    ensures ok { IfOk result (λ v. value depth reader.old ≡ Some (value_view v, reader.new)) }
-    ensures numbers { IfOk result (λ v. IsTrue (has_numbers (value_view v))) }
-    ensures shorter { OnOk result (length reader.new < length reader.old) }
-    ensures refused { result ≡ Err Error.Invalid → NoneWith has_numbers (value depth reader.old) }
+fn add<'t>(opened: &mut Vec<Open<'t>>, value: Parsed<'t>) -> Result<Progress<'t>, AllocError>
+    requires open_within { AreWithin max_depth opened.old.items }
+    requires value_within { IsWithin (max_depth - vec_len opened.old) (value_view value) }
+    ensures { IfOk result (λ progress. IsProgress
+        (read_tokens opened.old.items ++ value_tokens value.entry) progress opened.new.items) }
 {
-    let Some(token) = reader.next() else {
-        return Err(Error::Invalid);
+    let Some(innermost) = opened.last_mut() else {
+        return Ok(Progress::Whole(value));
     };
+    if innermost.add(value)? {
+        Ok(Progress::Unfinished)
+    } else {
+        Ok(Progress::Refused)
+    }
+}
+
+/// Adds the name of a member to the innermost.
+fn add_name<'t>(opened: &mut Vec<Open<'t>>, name: &'t str) -> Progress<'t>
+    requires open_within { AreWithin max_depth opened.old.items }
+    ensures { IsProgress (read_tokens opened.old.items ++ token.key name.now ∷ [])
+        result opened.new.items }
+{
+    let Some(innermost) = opened.last_mut() else {
+        return Progress::Refused;
+    };
+    if innermost.add_name(name) {
+        Progress::Unfinished
+    } else {
+        Progress::Refused
+    }
+}
+
+/// Whether a value may come next. One has to, where nothing is open.
+fn innermost_takes_value(opened: &[Open<'_>]) -> bool
+    ensures { result ≡ innermost_takes_value opened.now }
+{
+    match opened.last() {
+        Some(innermost) => innermost.takes_value(),
+        None => true,
+    }
+}
+
+/// Begins an array or object, which has nothing in it yet.
+#[inline(always)]
+fn begin<'t>(opened: &mut Vec<Open<'t>>, empty: Open<'t>) -> Result<Progress<'t>, AllocError>
+    requires open_within { AreWithin max_depth opened.old.items }
+    requires empty { IsWithin 1 (so_far empty) }
+    ensures { IfOk result (λ progress. IsProgress
+        (read_tokens opened.old.items ++ open_tokens empty.entry) progress opened.new.items) }
+{
+    if !innermost_takes_value(opened) || opened.len() == MAX_DEPTH {
+        return Ok(Progress::Refused);
+    }
+    opened.push(empty)?;
+    Ok(Progress::Unfinished)
+}
+
+/// Ends the innermost by a bracket.
+fn end_array<'t>(opened: &mut Vec<Open<'t>>) -> Result<Progress<'t>, AllocError>
+    requires open_within { AreWithin max_depth opened.old.items }
+    ensures { IfOk result (λ progress. IsProgress
+        (read_tokens opened.old.items ++ token.end_array ∷ []) progress opened.new.items) }
+{
+    let Some(innermost) = opened.pop() else {
+        return Ok(Progress::Refused);
+    };
+    match innermost.ended_array() {
+        Some(array) => add(opened, array),
+        None => Ok(Progress::Refused),
+    }
+}
+
+/// Ends the innermost by a brace.
+fn end_object<'t>(opened: &mut Vec<Open<'t>>) -> Result<Progress<'t>, AllocError>
+    requires open_within { AreWithin max_depth opened.old.items }
+    ensures { IfOk result (λ progress. IsProgress
+        (read_tokens opened.old.items ++ token.end_object ∷ []) progress opened.new.items) }
+{
+    let Some(innermost) = opened.pop() else {
+        return Ok(Progress::Refused);
+    };
+    match innermost.ended_object() {
+        Some(object) => add(opened, object),
+        None => Ok(Progress::Refused),
+    }
+}
+
+/// Reads one more token.
+#[inline(always)]
+fn read_token<'t>(
+    alloc: Global,
+    opened: &mut Vec<Open<'t>>,
+    token: Token<'t>,
+) -> Result<Progress<'t>, AllocError>
+    requires open_within { AreWithin max_depth opened.old.items }
+    ensures { IfOk result (λ progress. IsProgress
+        (read_tokens opened.old.items ++ token_of token.entry ∷ []) progress opened.new.items) }
+{
     match token {
-        Token::BeginArray if depth == 0 => Err(Error::Invalid),
-        Token::BeginArray => Ok(Parsed::Array(read_items(alloc, reader, depth - 1)?)),
-        Token::BeginObject if depth == 0 => Err(Error::Invalid),
-        Token::BeginObject => Ok(Parsed::Object(read_members(alloc, reader, depth - 1)?)),
-        token => leaf(token).ok_or(Error::Invalid),
+        Token::BeginArray => begin(opened, Open::Array(Vec::new(alloc))),
+        Token::EndArray => end_array(opened),
+        Token::BeginObject => begin(opened, Open::Object(Members::new(alloc))),
+        Token::EndObject => end_object(opened),
+        Token::Key(name) => Ok(add_name(opened, name)),
+        token => match leaf(token) {
+            Some(value) => add(opened, value),
+            None => Ok(Progress::Refused),
+        },
     }
-}
-
-/// The items of an array, behind its opening bracket.
-#[cycle(read)]
-#[inline(never)]
-fn read_items<'t>(
-    alloc: Global,
-    reader: &mut Reader<'t>,
-    depth: usize,
-) -> Result<Vec<Parsed<'t>>, Error>
-    ensures ok { IfOk result (λ v.
-        items (value depth) (length reader.old) reader.old
-        ≡ Some (items_view v.items, reader.new)) }
-    ensures numbers { IfOk result (λ v. IsTrue (items_have_numbers (items_view v.items))) }
-    ensures shorter { OnOk result (length reader.new < length reader.old) }
-    ensures refused { result ≡ Err Error.Invalid
-        → NoneWith items_have_numbers (items (value depth) (length reader.old) reader.old) }
-{
-    let mut found = Vec::new(alloc);
-    while !reader.take_end_array() {
-        let item = read_value(alloc, reader, depth)?;
-        if found.push(item).is_err() {
-            return Err(Error::OutOfMemory);
-        }
-    }
-    Ok(found)
-}
-
-/// The members of an object, behind its opening brace.
-#[cycle(read)]
-#[inline(never)]
-fn read_members<'t>(
-    alloc: Global,
-    reader: &mut Reader<'t>,
-    depth: usize,
-) -> Result<Vec<(&'t str, Parsed<'t>)>, Error>
-    ensures ok { IfOk result (λ v. members (value depth) (length reader.old) reader.old
-        ≡ Some (members_view v.items, reader.new)) }
-    ensures numbers { IfOk result (λ v. IsTrue (members_have_numbers (members_view v.items))) }
-    ensures shorter { OnOk result (length reader.new < length reader.old) }
-    ensures refused { result ≡ Err Error.Invalid
-        → NoneWith members_have_numbers (members (value depth) (length reader.old) reader.old) }
-{
-    let mut found = Vec::new(alloc);
-    while let Some(name) = reader.next_key()? {
-        let value = read_value(alloc, reader, depth)?;
-        if found.push((name, value)).is_err() {
-            return Err(Error::OutOfMemory);
-        }
-    }
-    Ok(found)
 }
 
 /// The JSON that a text is, or `None` where it is none that is read: it may be no JSON, arrays and objects of it may stand in
@@ -106,6 +268,7 @@ fn read_members<'t>(
 ///
 /// Its texts lie in the text, or in the scratch where they have escapes. The scratch takes as much memory as the text has
 /// bytes. `AllocError` where memory is refused.
+#[inline(never)]
 pub fn parse_json<'t>(
     alloc: Global,
     text: &'t str,
@@ -114,13 +277,16 @@ pub fn parse_json<'t>(
     ensures { IfOk result (λ found. option_map parsed_data found ≡ read text.now) }
 {
     let mut reader = Reader::new(text, scratch)?;
-    let value = match read_value(alloc, &mut reader, MAX_DEPTH) {
-        Ok(value) => value,
-        Err(Error::Invalid) => return Ok(None),
-        Err(_) => return Err(AllocError),
-    };
-    match reader.next() {
-        None => Ok(Some(value)),
-        Some(_) => Ok(None),
+    let mut opened = Vec::new(alloc);
+    while let Some(token) = reader.next() {
+        match read_token(alloc, &mut opened, token)? {
+            Progress::Unfinished => {}
+            Progress::Whole(value) => match reader.next() {
+                None => return Ok(Some(value)),
+                Some(_) => return Ok(None),
+            },
+            Progress::Refused => return Ok(None),
+        }
     }
+    Ok(None)
 }

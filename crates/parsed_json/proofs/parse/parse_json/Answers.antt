@@ -1,20 +1,39 @@
-use Rattle.std.proofs.Common.{List, option_and_then, sym, ap, ◌∙◌}
-use Rattle.json.specs.Json.{if_last, value}
-use Rattle.json.specs.Token.{Token}
-use Rattle.json.specs.Value.{value_view}
-use Rattle.serde_json.specs.Read.{of_json}
-use Rattle.parsed_json.proofs.NumbersTested.{all_read, error_is, none_read}
+use Rattle.std.proofs.Common.{◌++◌, ◌∷◌, [], subst}
+use Rattle.json.specs.Reads.{token_of}
+use Rattle.parsed_json.specs.OpenJson.{IsProgress, read_tokens}
+use Rattle.parsed_json.proofs.OpenJson.{more, refused, unfinished, whole}
 use Rattle.parsed_json.proofs.parse.parse_json.Goals as goal
 
-pub returns-in-Err-Invalid : goal.returns-in-Err-Invalid
-returns-in-Err-Invalid c =
-    sym (ap (λ (ts : List Token). option_and_then of_json (option_and_then (λ p. if_last p.0 p.1) (value 127 ts))) (sym c.in_ok-reader.ensures.ok)
-    ∙ none_read (value 127 c.in_ok-reader.reader) (c.in-Err-Invalid.ensures.refused (error_is _ _ c.in-Err-Invalid.field-0-is)))
+pub returns-in-Refused : goal.returns-in-Refused
+returns-in-Refused c =
+    let before = c.loop-token in
+    let t = token_of c.in-Some.token in
+    let ps = c.read_token.new.opened.items in
+    refused c.args.text.now before.opened.items ps t c.in_ok-reader.reader c.next.new.self before.reader c.in_ok-reader.ensures.ok
+    before.invariant.0 c.in-Some.ensures.value
+    (subst (λ progress. IsProgress (read_tokens before.opened.items ++ t ∷ []) progress ps) c.in-Refused.is c.in_ok-read_token.ensures)
+
+pub returns : goal.returns
+returns c =
+    unfinished c.args.text.now c.loop-token.opened.items c.in_ok-reader.reader c.loop-token.reader c.in_ok-reader.ensures.ok
+    c.loop-token.invariant.0 c.loop-token.invariant.1 c.in_default.ensures.value.0
 
 pub returns-in-None : goal.returns-in-None
 returns-in-None c =
-    let j = value_view c.in-Ok.value in
-    sym (ap (λ (ts : List Token). option_and_then of_json (option_and_then (λ p. if_last p.0 p.1) (value 127 ts))) (sym c.in_ok-reader.ensures.ok)
-    ∙ ap (λ parsed. option_and_then of_json (option_and_then (λ p. if_last p.0 p.1) parsed)) c.in-Ok.ensures.ok
-    ∙ ap (λ rest. option_and_then of_json (if_last j rest)) c.in-None.ensures.value.0
-    ∙ all_read j c.in-Ok.ensures.numbers)
+    let before = c.loop-token in
+    let t = token_of c.in-Some.token in
+    let ps = c.read_token.new.opened.items in
+    whole c.args.text.now c.in-Whole.value before.opened.items ps t c.in_ok-reader.reader c.next.new.self before.reader c.in_ok-reader.ensures.ok
+    before.invariant.0 c.in-Some.ensures.value
+    (subst (λ progress. IsProgress (read_tokens before.opened.items ++ t ∷ []) progress ps) c.in-Whole.is c.in_ok-read_token.ensures)
+    c.in-None.ensures.value.0
+
+pub returns-in-Some-next : goal.returns-in-Some-next
+returns-in-Some-next c =
+    let before = c.loop-token in
+    let t = token_of c.in-Some.token in
+    let ps = c.read_token.new.opened.items in
+    more c.args.text.now c.in-Whole.value before.opened.items ps t (token_of c.in-Some-next.field-0) c.in_ok-reader.reader c.next.new.self
+    c.next-in-Whole.new.self before.reader c.in_ok-reader.ensures.ok before.invariant.0 c.in-Some.ensures.value
+    (subst (λ progress. IsProgress (read_tokens before.opened.items ++ t ∷ []) progress ps) c.in-Whole.is c.in_ok-read_token.ensures)
+    c.in-Some-next.ensures.value

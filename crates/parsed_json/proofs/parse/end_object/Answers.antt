@@ -1,0 +1,27 @@
+use Rattle.std.proofs.Common.{◌≡◌, ◌-◌, IfOk, List, length, arith, subst}
+use Rattle.json.specs.Token.{Token}
+use Rattle.serde_json.specs.Read.{max_depth}
+use Rattle.parsed_json.specs.OpenJson.{IsProgress, IsWithin, so_far}
+use Rattle.parsed_json.proofs.OpenJson.{object_end_alone, object_ends, object_within, no_object_ends, popped}
+use Rattle.parsed_json.proofs.parse.end_object.Goals as goal
+
+pub returns-in_default : goal.returns-in_default
+returns-in_default c = object_end_alone c.args.opened.now.items (omega (arith, c.args.opened.now.ok.0, c.in_default.ensures.cases.0))
+
+pub add-requires-clause-open_within : goal.add-requires-clause-open_within
+add-requires-clause-open_within c = (popped _ _ _ c.in-Some.ensures.items c.requires.open_within).0
+
+pub add-requires-clause-value_within : goal.add-requires-clause-value_within
+add-requires-clause-value_within c =
+    let rest = c.pop.new.self in
+    let same : length rest.items ≡ rest.len = omega (arith, rest.ok.0) in
+    object_within c.in-Some.innermost c.in-Some-ended_object.object (max_depth - rest.len) c.in-Some-ended_object.ensures
+    (subst (λ n. IsWithin (max_depth - n) (so_far c.in-Some.innermost)) same (popped _ _ _ c.in-Some.ensures.items c.requires.open_within).1)
+
+pub returns-in-Some-ended_object : goal.returns-in-Some-ended_object
+returns-in-Some-ended_object c =
+    subst (λ (read : List Token). IfOk c.add.result (λ progress. IsProgress read progress c.add.new.opened.items))
+    (object_ends _ _ c.in-Some.innermost c.in-Some-ended_object.object c.in-Some.ensures.items c.in-Some-ended_object.ensures) c.add.ensures
+
+pub returns-in-None : goal.returns-in-None
+returns-in-None c = no_object_ends c.args.opened.now.items c.pop.new.self.items c.in-Some.innermost c.in-Some.ensures.items c.requires.open_within c.in-None.ensures

@@ -66,12 +66,16 @@ pub(crate) fn number_of(text: &str) -> Option<Number>
     }
 }
 
-/// The same, if it is an integer from 0 on that 64 bits hold.
+/// The same, if it is an integer from 0 on that 64 bits hold. No number is converted to a float for that.
+#[tactic(auto, unfolding(serde_json::specs::Read::number_of))]
 pub(crate) fn unsigned_number(text: &str) -> Option<u64>
     ensures { result ≡ option_and_then as_u64 (number_of text.now) }
 {
-    match number_of(text) {
-        Some(number) => number.as_u64(),
-        None => None,
+    if let Some(number) = few_digits(text.as_bytes()) {
+        return Some(number);
+    }
+    match text.as_bytes() {
+        [b'-', ..] => None,
+        digits => Numeral::scan(digits).to_u64(),
     }
 }

@@ -2,13 +2,13 @@
 """Runs the tests of refused memory with each of their growths refused in turn: such a test passes where the call that met the refusal
 answered it, and left what it promises to leave.
 
-    tools/refused_growths.py [--jobs N] [--count] [CRATE..]
+    tools/refused_growths.py [--jobs JOBS] [--count] [CRATE..]
 
 A growth is a request for memory. The tests are those whose name has `refused_memory`, or `refusals::` before it; without a name it goes over
 all crates that have some. First it counts the growths of each, by one run of a copy of the crate in which each of these tests goes on with
 growths that have to be granted: `rt try --test --fail-alloc 4000` refuses one of those, and the test tells which. Then `rt try --test
---fail-alloc N` refuses the Nth growth of each test, for each N up to the highest count; a run takes as long as a build, and N of them go at
-once. With --count it only counts.
+--fail-alloc N` refuses the Nth growth of each test, for each N up to the highest count, which is 172. Each run builds the tests anew, which
+takes half a minute, and JOBS of them go at once. With --count it only counts.
 
 It also compares how often calls ask for memory, by the tests below `growths`, each of which fails where one of its own growths is refused:
 what the test NAME_then_CALL_takes_COUNT asks for has to be COUNT more than what NAME_built asks for.
@@ -127,7 +127,7 @@ def crates_with_some():
 
 
 def main():
-    arguments = argparse.ArgumentParser(usage=__doc__)
+    arguments = argparse.ArgumentParser(description=__doc__, formatter_class=argparse.RawDescriptionHelpFormatter)
     arguments.add_argument("--jobs", type=int, default=1)
     arguments.add_argument("--count", action="store_true")
     arguments.add_argument("crates", nargs="*")

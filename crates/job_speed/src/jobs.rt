@@ -1,6 +1,9 @@
 //! The jobs, each over inputs of its own.
 
 use crate::digest::Digest;
+use crate::faults;
+use crate::locations::add_locations;
+use crate::numbers::Numbers;
 use crate::operation_json::OperationJson;
 use crate::schema_json::SchemaJson;
 use crate::texts::Texts;
@@ -11,8 +14,8 @@ use graphql_ast::ast::{
 };
 use graphql_ast::span::{FileId, SourceSpan};
 use graphql_ast::{Node, name};
-use graphql_ast_calls::{Status, print_json};
-use graphql_ast_json::{AstJson, from_well_formed_ast_json_str};
+use graphql_ast_calls::{Status, check_json, print_json};
+use graphql_ast_json::{AstJson, from_ast_json_str, from_well_formed_ast_json_str};
 use std::alloc::Global;
 
 /// What is done, how often, over inputs of which size, and of which seed they are.
@@ -28,6 +31,12 @@ impl Task {
     fn seed_of(self, index: usize) -> u64 {
         self.seed.wrapping_mul(1_000_003).wrapping_add(index as u64)
     }
+
+    /// The seed of a small input with this fault, one of those that come with the input of this index.
+    fn seed_of_fault(self, index: usize, fault: usize) -> u64 {
+        let number = index.wrapping_mul(faults::COUNT).wrapping_add(fault);
+        self.seed_of(self.count).wrapping_add(number as u64)
+    }
 }
 
 /// Schemas of so many definitions in the AST JSON of graphql-js are read, and printed.
@@ -37,6 +46,28 @@ pub fn read_schemas(alloc: Global, task: Task, digest: &mut Digest) -> Result<()
         let json = SchemaJson::document(alloc, &texts, task.seed_of(index), task.size)?;
         let schema: Document = from_well_formed_ast_json_str(alloc, &json, FileId::new(1))?;
         digest.add(&schema.serialize().to_text(alloc)?);
+        add_locations(&schema, digest);
+        add_refused_schemas(alloc, &texts, task, index, digest)?;
+    }
+    Ok(())
+}
+
+/// What is told of small schemas, each of which has another fault.
+fn add_refused_schemas(
+    alloc: Global,
+    texts: &Texts,
+    task: Task,
+    index: usize,
+    digest: &mut Digest,
+) -> Result<()> {
+    for fault in 0..faults::COUNT {
+        let seed = task.seed_of_fault(index, fault);
+        let json = SchemaJson::document(alloc, texts, seed, (task.size / 256).wrapping_add(1))?;
+        let json = faults::in_schema(alloc, &json, fault, &mut Numbers::new(seed))?;
+        match from_well_formed_ast_json_str::<Document>(alloc, &json, FileId::new(1)) {
+            Ok(_) => digest.add_number(0),
+            Err(error) => digest.add(&format!(in alloc; "{error}")?),
+        }
     }
     Ok(())
 }
@@ -47,7 +78,8 @@ pub fn print_sorted_json(alloc: Global, task: Task, digest: &mut Digest) -> Resu
     let mut out = vec![in alloc; 0u8; task.size.saturating_mul(100_000).min(10_000_000)]?;
     let texts = Texts::escaped(alloc, task.seed)?;
     for index in 0..task.count {
-        let json = OperationJson::document(alloc, &texts, task.seed_of(index), task.size)?;
+        let seed = task.seed_of(index);
+        let json = OperationJson::new(alloc, &texts, seed, true).document(task.size)?;
         let mut needed = 0;
         let status = print_json(
             alloc,
@@ -62,6 +94,37 @@ pub fn print_sorted_json(alloc: Global, task: Task, digest: &mut Digest) -> Resu
         match (status, out.get(..needed)) {
             (Status::Done, Some(text)) => digest.add(str::from_utf8(text)?),
             _ => bail!("a document was not printed"),
+        }
+        if index % 32 == 0 {
+            add_small_documents(alloc, &texts, task, index, &mut out, digest)?;
+        }
+    }
+    Ok(())
+}
+
+/// What the nodes of small documents have, their locations too, and what is told of others, each of which has another fault.
+fn add_small_documents(
+    alloc: Global,
+    texts: &Texts,
+    task: Task,
+    index: usize,
+    out: &mut [u8],
+    digest: &mut Digest,
+) -> Result<()> {
+    let size = (task.size / 16).max(1);
+    for fault in 0..faults::COUNT {
+        let seed = task.seed_of_fault(index, fault);
+        let json = OperationJson::new(alloc, texts, !seed, false).document(size)?;
+        let document: Document = from_ast_json_str(alloc, &json, FileId::new(1))?;
+        digest.add(&document.to_ast_json(alloc)?.to_string(alloc)?);
+        let json = OperationJson::new(alloc, texts, seed, true).document(size)?;
+        let json = faults::in_operations(alloc, &json, fault, &mut Numbers::new(seed))?;
+        let mut needed = 0;
+        let status = check_json(alloc, json.as_bytes(), true, out, &mut needed);
+        digest.add_number(status.code() as u64);
+        match out.get(..needed) {
+            Some(message) => digest.add(str::from_utf8(message)?),
+            None => bail!("a message has no room"),
         }
     }
     Ok(())
@@ -168,12 +231,16 @@ fn mixed_document(alloc: Global, builder: &mut Builder<'_>, size: usize) -> Resu
     Ok(document)
 }
 
+fn span_at(offset: u32) -> Option<SourceSpan> {
+    SourceSpan::new(FileId::new(1), offset, offset)
+}
+
 /// The line and the column of places all over a source text.
 fn add_positions(document: &Document, length: usize, digest: &mut Digest) {
-    for step in 0..32u64 {
-        let offset = (length as u64).wrapping_mul(step) / 32;
+    for step in 0..30u64 {
+        let offset = (length as u64).wrapping_mul(step) / 30;
         let offset = u32::try_from(offset).unwrap_or(0);
-        if let Some(span) = SourceSpan::new(FileId::new(1), offset, offset) {
+        if let Some(span) = span_at(offset) {
             if let Some(position) = document.line_column(span) {
                 digest.add_number(position.line as u64);
                 digest.add_number(position.column as u64);
@@ -182,33 +249,118 @@ fn add_positions(document: &Document, length: usize, digest: &mut Digest) {
     }
 }
 
-/// Documents of so many operations and some types are rewritten: copied, changed in a few places, compared with what they
-/// were, tested for flaws, and printed. Where things stand in the text that was printed first is asked for too.
-pub fn rewrite(alloc: Global, task: Task, digest: &mut Digest) -> Result<()> {
-    let texts = Texts::plain(alloc, task.seed)?;
-    for index in 0..task.count {
-        let mut builder = Builder::new(alloc, &texts, task.seed_of(index));
-        let mut document = mixed_document(alloc, &mut builder, task.size)?;
+/// A document that is rewritten again and again, and one that is equal to it and shares nothing with it.
+#[derive(Drop)]
+struct Twins {
+    document: Document,
+    other: Document,
+    /// The length of the source text, which is what the document is printed as first.
+    length: usize,
+    /// The index of an operation, one of the last eighth, which each rewriting replaces by a new one.
+    place: usize,
+}
+
+impl Twins {
+    fn new(
+        alloc: Global,
+        builder: &mut Builder<'_>,
+        other: Document,
+        size: usize,
+    ) -> Result<Twins> {
+        let mut document = mixed_document(alloc, builder, size)?;
         let text = document.serialize().to_text(alloc)?;
         let length = text.len();
         let path = String::from_str(alloc, "a.graphql")?;
         document
             .sources
             .insert(FileId::new(1), SourceFile { path, text })?;
+        let behind = builder.numbers.below(size / 8).wrapping_add(1);
+        Ok(Twins {
+            place: document.definitions.len().saturating_sub(behind),
+            document,
+            other,
+            length,
+        })
+    }
+
+    /// Both rewritten. In two of eight rounds the new operation of the first has a flaw.
+    fn rewritten(&self, alloc: Global, builder: &mut Builder<'_>, round: usize) -> Result<Twins> {
+        let mut document = rewritten(alloc, &self.document, round)?;
+        let mut other = rewritten(alloc, &self.other, round)?;
+        let mut operation = builder.operation()?;
+        put(
+            &mut other,
+            self.place,
+            Node::new(alloc, operation.clone()?)?,
+        );
+        if round % 4 == 2 {
+            builder.spoil(&mut operation)?;
+        }
+        let offset = builder.numbers.below(self.length);
+        let span = span_at(u32::try_from(offset).unwrap_or(0));
+        let node = match span {
+            Some(span) => Node::new_parsed(alloc, operation, span)?,
+            None => Node::new(alloc, operation)?,
+        };
+        put(&mut document, self.place, node);
+        Ok(Twins {
+            document,
+            other,
+            length: self.length,
+            place: self.place,
+        })
+    }
+}
+
+fn put(document: &mut Document, place: usize, operation: Node<OperationDefinition>) {
+    if let Some(definition) = document.definitions.get_mut(place) {
+        *definition = Definition::OperationDefinition(operation);
+    }
+}
+
+/// What is found of a document that was rewritten, beside what it was.
+fn add_found(alloc: Global, before: &Document, after: &Twins, digest: &mut Digest) -> Result<()> {
+    let copy = &after.document;
+    digest.add_number((copy == before) as u64);
+    digest.add_number((*copy == after.other) as u64);
+    digest.add_number(copy.is_well_formed() as u64);
+    match copy.find_placed_flaw() {
+        Some(flaw) => digest.add(&format!(in alloc; "{flaw}")?),
+        None => digest.add_number(0),
+    }
+    digest.add(&copy.serialize().to_text(alloc)?);
+    Ok(())
+}
+
+/// Rewrites a document eight times, each time what the last time made.
+fn rewrite_by_rounds(
+    alloc: Global,
+    builder: &mut Builder<'_>,
+    twins: Twins,
+    digest: &mut Digest,
+) -> Result<()> {
+    let mut twins = twins;
+    for round in 0..8 {
+        let rewritten = twins.rewritten(alloc, builder, round)?;
+        add_found(alloc, &twins.document, &rewritten, digest)?;
+        twins = rewritten;
+    }
+    add_positions(&twins.document, twins.length, digest);
+    Ok(())
+}
+
+/// Documents of so many operations and some types are rewritten: copied, changed in a few places, compared with what they
+/// were, tested for flaws, and printed. Where things stand in the text that was printed first is asked for too.
+pub fn rewrite(alloc: Global, task: Task, digest: &mut Digest) -> Result<()> {
+    let texts = Texts::plain(alloc, task.seed)?;
+    for index in 0..task.count {
         let other = {
             let mut builder = Builder::new(alloc, &texts, task.seed_of(index));
             mixed_document(alloc, &mut builder, task.size)?
         };
-        for round in 0..8 {
-            let copy = rewritten(alloc, &document, round)?;
-            let other_copy = rewritten(alloc, &other, round)?;
-            digest.add_number((copy == document) as u64);
-            digest.add_number((copy == other_copy) as u64);
-            digest.add_number(copy.is_well_formed() as u64);
-            digest.add_number(copy.find_placed_flaw().is_some() as u64);
-            digest.add(&copy.serialize().to_text(alloc)?);
-        }
-        add_positions(&document, length, digest);
+        let mut builder = Builder::new(alloc, &texts, task.seed_of(index));
+        let twins = Twins::new(alloc, &mut builder, other, task.size)?;
+        rewrite_by_rounds(alloc, &mut builder, twins, digest)?;
     }
     Ok(())
 }

@@ -1,19 +1,23 @@
 //! `job_speed JOB COUNT SIZE SEED` does a job that users of the library wait for, so often and over inputs of such a size that
-//! follow from the seed, and prints a digest of all its results. It tells no times: its caller takes them.
+//! follow from the seed, and prints a digest of all its results: texts, what is told of faults and flaws, and where things
+//! stand. It tells no times: its caller takes them.
 //!
 //! JOB is
 //!
-//! - `read`: schemas in AST JSON are read and printed;
-//! - `sorted`: documents in AST JSON, with members in the order of the alphabet, are printed by a call of the C interface;
+//! - `read`: schemas in AST JSON are read and printed, and some small ones, each with a fault, are refused;
+//! - `sorted`: documents in AST JSON, with members in the order of the alphabet, are printed by a call of the C interface; some
+//!   small ones are read, and some, each with a fault, are refused by another call;
 //! - `write`: trees are written as AST JSON;
 //! - `build`: schemas are built, printed and dropped;
 //! - `operations`: operations are built, and printed on one line;
-//! - `rewrite`: documents are copied, changed, compared, tested and printed;
+//! - `rewrite`: documents are copied, changed, compared, tested and printed, and some have a flaw;
 //! - `all`: each of these.
 #![tactic(auto)]
 
 mod digest;
+mod faults;
 mod jobs;
+mod locations;
 mod numbers;
 mod operation_json;
 mod schema_json;

@@ -13,33 +13,34 @@ pub struct OperationJson<'t> {
     text: String,
     numbers: Numbers,
     at: u64,
+    has_unknown: bool,
 }
 
-impl OperationJson<'_> {
-    /// The text of a document of so many operations and as many fragments.
-    pub fn document(
-        alloc: Global,
-        texts: &Texts,
-        seed: u64,
-        count: usize,
-    ) -> Result<String, AllocError> {
-        let mut json = OperationJson {
+impl<'t> OperationJson<'t> {
+    /// The beginning of a document, with unknown members or without.
+    pub fn new(alloc: Global, texts: &'t Texts, seed: u64, has_unknown: bool) -> OperationJson<'t> {
+        OperationJson {
             texts,
             text: String::new(alloc),
             numbers: Numbers::new(seed),
             at: 0,
-        };
-        json.push("{\"definitions\":[")?;
-        for index in 0..count {
-            json.separate(index)?;
-            json.operation()?;
-            json.push(",")?;
-            json.fragment()?;
+            has_unknown,
         }
-        json.push("]")?;
-        json.kind("Document", 0)?;
-        json.push("}")?;
-        Ok(json.text)
+    }
+
+    /// The text of a document of so many operations and as many fragments.
+    pub fn document(mut self, count: usize) -> Result<String, AllocError> {
+        self.push("{\"definitions\":[")?;
+        for index in 0..count {
+            self.separate(index)?;
+            self.operation()?;
+            self.push(",")?;
+            self.fragment()?;
+        }
+        self.push("]")?;
+        self.kind("Document", 0)?;
+        self.push("}")?;
+        Ok(self.text)
     }
 
     fn push(&mut self, piece: &str) -> Result<(), AllocError> {
@@ -59,10 +60,10 @@ impl OperationJson<'_> {
         Ok(())
     }
 
-    /// The members `kind` and `loc`, behind those that come before them in the alphabet. Some nodes have a member
-    /// `extra` before `kind`, which isn't known.
+    /// The members `kind` and `loc`, behind those that come before them in the alphabet. Where there are unknown members,
+    /// some nodes have one before `kind`, `extra`.
     fn kind(&mut self, kind: &str, start: u64) -> Result<(), AllocError> {
-        if self.numbers.once_in(8) {
+        if self.numbers.once_in(8) && self.has_unknown {
             self.push(",\"extra\":{\"line\":[1,2.5e3,null],\"source\":{\"path\":\"a.graphql\"}}")?;
         }
         self.push(",")?;

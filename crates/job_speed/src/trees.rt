@@ -10,7 +10,7 @@ use graphql_ast::ast::{
     Type, UnionTypeDefinition, Value, VariableDefinition,
 };
 use graphql_ast::node::NodeStr;
-use graphql_ast::{Name, Node};
+use graphql_ast::{Name, Node, name};
 use std::alloc::Global;
 
 /// What makes the trees.
@@ -334,5 +334,27 @@ impl<'t> Builder<'t> {
                 .push(Selection::field(self.alloc, field)?)?;
         }
         Ok(operation)
+    }
+
+    /// Puts a flaw into an operation.
+    pub fn spoil(&mut self, operation: &mut OperationDefinition) -> Result<()> {
+        match self.numbers.below(3) {
+            0 => operation.selection_set.clear(),
+            1 => {
+                let spread = FragmentSpread::new(self.alloc, name!("on"));
+                operation
+                    .selection_set
+                    .push(Selection::fragment_spread(self.alloc, spread)?)?;
+            }
+            _ => {
+                let name = self.name(NameOf::Field)?;
+                let ty = Node::new(self.alloc, self.type_reference()?)?;
+                let mut variable = VariableDefinition::new(self.alloc, name, ty);
+                let value = Value::Enum(name!("true"));
+                variable.default_value = Some(Node::new(self.alloc, value)?);
+                operation.variables.push(Node::new(self.alloc, variable)?)?;
+            }
+        }
+        Ok(())
     }
 }

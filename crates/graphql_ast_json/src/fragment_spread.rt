@@ -26,8 +26,6 @@ impl AstNode for FragmentSpread {
         Self::read_json_node(JsonNode::of(node))
     }
 
-    // It has a frame of its own, so that the frames of selections in one another are small.
-    #[inline(never)]
     fn read_json_node(node: JsonNode<'_, '_>) -> Result<FragmentSpread, AstJsonError> {
         node.check("FragmentSpread", &["name", "directives"])?;
         Ok(FragmentSpread {

@@ -101,41 +101,14 @@ fn unknown_name<'j>(
     None
 }
 
-/// Whether the name of this index is this one.
-fn is_at(names: &[&str], index: usize, name: &str) -> bool
-    ensures { IsTrue result → IsTrue (is_one_of (texts_of names.now) name.now) }
-{
-    index < names.len() && names[index] == name
-}
-
-/// Which of the others is the next one behind this name, if it is one of the names or of the others. The one that is expected
-/// is looked at first: members of most nodes come in the order of the kind's names, so that few are searched for.
-#[tactic(auto, using(crate::proofs::nodes::NamesAmong::one_of_steps))]
-fn next_behind(names: &[&str], others: &[&str], expected: usize, name: &str) -> Option<usize>
-    ensures { is_some result ≡ is_one_of (texts_of names.now ++ texts_of others.now) name.now }
-{
-    if is_at(others, expected, name) {
-        Some(expected.wrapping_add(1))
-    } else if index_of(names, name).is_some() {
-        Some(expected)
-    } else {
-        match index_of(others, name) {
-            Some(index) => Some(index.wrapping_add(1)),
-            None => None,
-        }
-    }
-}
-
 /// Whether each member has one of these names.
 fn have_only_names(members: &[(&str, Parsed<'_>)], names: &[&str], others: &[&str]) -> bool
     ensures { result ≡ names_among (texts_of names.now ++ texts_of others.now)
         (with_members (parsed_members members.now) no_members) }
 {
-    let mut next = 0usize;
     for (name, _) in members {
-        match next_behind(names, others, next, name) {
-            Some(index) => next = index,
-            None => return false,
+        if !is_one_of_either(names, others, name) {
+            return false;
         }
     }
     true

@@ -1,9 +1,7 @@
 -- Whether a name is one of some names.
-use Rattle.std.proofs.Common.{◌≡◌, ℕ, zero, suc, ◌<◌, Bool, true, false, ◌||◌, nat_eq, List, [], ◌∷◌, ◌++◌, length}
-use Rattle.std.proofs.Common.{Bor, slice_index_or, refl, ap, ◌∙◌, arith}
+use Rattle.std.proofs.Common.{◌≡◌, ℕ, Bool, true, false, ◌||◌, nat_eq, List, [], ◌∷◌, ◌++◌, refl, ap, ◌∙◌}
 use Rattle.std.specs.Cmp.Lexicographic.{pointwise}
 use Rattle.graphql_text.specs.grammar.Forms.{is_one_of}
-use Rattle.graphql_ast_json.specs.code.NodeReading.{texts_of}
 
 or_true : (a : Bool) → (a || true) ≡ true
 or_true true = refl
@@ -28,14 +26,5 @@ one_of_others names others name is = one_of_either names others name ∙ ap (λ 
 
 pub one_of_last : (names others : List (List ℕ)) (name : List ℕ) → is_one_of others name ≡ true → is_one_of (names ++ others) name ≡ true
 one_of_last names others name is = one_of_either names others name ∙ ap (λ one. is_one_of names name || one) is ∙ or_true (is_one_of names name)
-
--- a name that is found at an index is one of them
-pub one_of_known : (names : List (Bor (List ℕ))) (i : ℕ) (name : List ℕ) (other : Bor (List ℕ)) → i < length names →
-    pointwise nat_eq (slice_index_or names i other).now name ≡ true → is_one_of (texts_of names) name ≡ true
-one_of_known [] i name other within is = absurd (omega (arith, within))
-one_of_known (first ∷ names) zero name other within is = ap (λ one. one || is_one_of (texts_of names) name) is
-one_of_known (first ∷ names) (suc i) name other within is =
-    ap (λ rest. pointwise nat_eq first.now name || rest) (one_of_known names i name other (omega (arith, within)) is)
-    ∙ or_true (pointwise nat_eq first.now name)
 
 pub ruleset one_of_steps = (one_of_first, one_of_last, one_of_others)

@@ -9,8 +9,8 @@ use Rattle.graphql_ast_json.proofs.nodes.NodeLists.{drop_next}
 use Rattle.graphql_ast_json.proofs.nodes.ParsedNames.{names_of_members, only_names}
 use Rattle.graphql_ast_json.proofs.read.have_only_names.Goals as goal
 
-pub returns-in-None : goal.returns-in-None
-returns-in-None c =
+pub returns-then-not-is_one_of_either : goal.returns-then-not-is_one_of_either
+returns-then-not-is_one_of_either c =
     let all = texts_of c.args.names.now ++ texts_of c.args.others.now in
     let members = c.args.members.now in
     let i = c.loop-name.name-index in
@@ -18,7 +18,7 @@ returns-in-None c =
     sym (names_of_members all (parsed_members members) ∙ c.loop-name.invariant
     ∙ ap (λ (ms : List (Bor (List ℕ) × Value Global)). only_names all (parsed_members ms))
     (drop_next members i c.loop-name-item.result c.loop-name-test.true c.loop-name-item.is)
-    ∙ ap (λ b. b && rest) (sym c.in-None.ensures))
+    ∙ ap (λ b. b && rest) (sym c.if-not-is_one_of_either.ensures))
 
 pub returns : goal.returns
 returns c =

@@ -4,3 +4,5 @@
 pub mod OkValues
 -- an error that is passed up by `?`
 pub mod PassedErrors
+-- the first characters of a text
+pub mod Excerpts

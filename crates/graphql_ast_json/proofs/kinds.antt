@@ -8,3 +8,5 @@ pub mod TypeJsonByKind
 pub mod SelectionJsonByKind
 -- of ValueJson: lists of values and of fields are written item by item
 pub mod ValueListsWritten
+-- of ToldErrors: the kind of a value is one alone
+pub mod ValueKinds

@@ -20,3 +20,5 @@ pub mod NodeLists
 pub mod JsonDepths
 -- of Nodes and NodeReading: where a name stands
 pub mod NamePlaces
+-- of ToldErrors: what is told where a member is no text
+pub mod ToldTexts

@@ -14,3 +14,5 @@ pub mod JsonNodes
 pub mod NodeReading
 -- what a reader finds within a non-null type
 pub mod TypeReading
+-- which error is told of JSON, and where from the node it stands
+pub mod ToldErrors

@@ -41,13 +41,20 @@ pub struct Excerpt {
 }
 
 impl Excerpt {
-    fn new(alloc: Global, found: &str) -> Result<Excerpt, AllocError> {
+    ghost use Rattle.std.specs.Prelude.{IfOk};
+    ghost use Rattle.graphql_ast_json.specs.code.ToldErrors.{IsExcerptOf};
+
+    fn new(alloc: Global, found: &str) -> Result<Excerpt, AllocError>
+        ensures { IfOk result (IsExcerptOf found.now) }
+    {
         let mut text = String::new(alloc);
-        for (count, character) in found.chars().enumerate() {
+        let mut count = 0usize;
+        for character in found.chars() {
             if count == EXCERPT {
                 return Ok(Excerpt { text, is_cut: true });
             }
             text.push(character)?;
+            count += 1;
         }
         Ok(Excerpt {
             text,
@@ -198,7 +205,11 @@ impl Display for NodePlace {
 }
 
 impl AstJsonError {
+    ghost use Rattle.std.specs.Prelude.{[]};
+    ghost use Rattle.std.specs.Option.{option_or};
     ghost use Rattle.graphql_ast_json.specs.code.Errors.{IsMemory};
+    ghost use Rattle.graphql_ast_json.specs.code.Paths.{item_name, path_text};
+    ghost use Rattle.graphql_ast_json.specs.code.ToldErrors.{IsInvalidAnd, IsToldFrom};
 
     /// Whether memory was refused.
     pub fn is_memory(&self) -> bool
@@ -212,7 +223,10 @@ impl AstJsonError {
         alloc: Global,
         place: Option<SourceSpan>,
         problem: AstJsonProblem,
-    ) -> AstJsonError {
+    ) -> AstJsonError
+        ensures { IsInvalidAnd (λ told told_place told_problem. (path_text told ≡ [])
+            × (told_place.0 ≡ place) × (told_problem ≡ problem)) result }
+    {
         AstJsonError::Invalid {
             path: JsonPath::root(alloc),
             place: NodePlace(place),
@@ -227,7 +241,9 @@ impl AstJsonError {
         name: &str,
         outer: Option<SourceSpan>,
     ) -> AstJsonError
-        ensures { IsMemory self → IsMemory result }
+        ensures memory { IsMemory self → IsMemory result }
+        ensures told { IsToldFrom name.now
+            (λ place told. told.0 ≡ option_or place.0 outer) self result }
     {
         match self {
             AstJsonError::Invalid {
@@ -248,7 +264,8 @@ impl AstJsonError {
 
     /// The error, told from the array that has the position in this item.
     pub(crate) fn in_item(self, alloc: Global, index: usize) -> AstJsonError
-        ensures { IsMemory self → IsMemory result }
+        ensures memory { IsMemory self → IsMemory result }
+        ensures told { IsToldFrom (item_name index) (λ place told. told ≡ place) self result }
     {
         match self {
             AstJsonError::Invalid {
@@ -269,12 +286,13 @@ impl AstJsonError {
 }
 
 impl AstJsonProblem {
+    ghost use Rattle.std.specs.Prelude.{IfOk};
+    ghost use Rattle.graphql_ast_json.specs.code.ToldErrors.{IsMissing, IsUnknownKind, IsUnknownMember, IsWrongText};
+
     /// A member that is missing in each of these.
-    pub(crate) fn missing(
-        alloc: Global,
-        name: &str,
-        of: &str,
-    ) -> Result<AstJsonProblem, AllocError> {
+    pub(crate) fn missing(alloc: Global, name: &str, of: &str) -> Result<AstJsonProblem, AllocError>
+        ensures { IfOk result (IsMissing name.now of.now) }
+    {
         Ok(AstJsonProblem::MissingMember {
             name: String::from_str(alloc, name)?,
             of: String::from_str(alloc, of)?,
@@ -282,11 +300,9 @@ impl AstJsonProblem {
     }
 
     /// A member that none of these has.
-    pub(crate) fn unknown(
-        alloc: Global,
-        name: &str,
-        of: &str,
-    ) -> Result<AstJsonProblem, AllocError> {
+    pub(crate) fn unknown(alloc: Global, name: &str, of: &str) -> Result<AstJsonProblem, AllocError>
+        ensures { IfOk result (IsUnknownMember name.now of.now) }
+    {
         Ok(AstJsonProblem::UnknownMember {
             name: Excerpt::new(alloc, name)?,
             of: String::from_str(alloc, of)?,
@@ -298,7 +314,9 @@ impl AstJsonProblem {
         alloc: Global,
         found: &str,
         wanted: &str,
-    ) -> Result<AstJsonProblem, AllocError> {
+    ) -> Result<AstJsonProblem, AllocError>
+        ensures { IfOk result (IsUnknownKind found.now wanted.now) }
+    {
         Ok(AstJsonProblem::UnknownKind {
             found: Excerpt::new(alloc, found)?,
             wanted: String::from_str(alloc, wanted)?,
@@ -310,7 +328,9 @@ impl AstJsonProblem {
         alloc: Global,
         found: &str,
         wanted: &str,
-    ) -> Result<AstJsonProblem, AllocError> {
+    ) -> Result<AstJsonProblem, AllocError>
+        ensures { IfOk result (IsWrongText found.now wanted.now) }
+    {
         Ok(AstJsonProblem::WrongText {
             found: Excerpt::new(alloc, found)?,
             wanted: String::from_str(alloc, wanted)?,

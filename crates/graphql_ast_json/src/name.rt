@@ -1,11 +1,12 @@
 //! Names in AST JSON: nodes of the kind `Name`.
-ghost use Rattle.std.specs.Prelude.{◌≡◌, IfOk, IfErr, IfSome, None, Some, length, option_map};
+ghost use Rattle.std.specs.Prelude.{◌≡◌, IfOk, IfErr, IfSome, None, Some, codes, length, option_map};
 ghost use Rattle.graphql_base.specs.Name.{name_location, name_text};
 ghost use Rattle.graphql_text.specs.trees.Leaves.{name_tree};
 ghost use Rattle.graphql_text.specs.lexical.Literals.{NameText};
 ghost use Rattle.graphql_ast_json.specs.code.Errors.{IsMemory};
 ghost use Rattle.graphql_ast_json.specs.code.JsonNodes.{node_data};
 ghost use Rattle.graphql_ast_json.specs.code.NodeReading.{IsTextNode, NameStandsAt, stretch_of};
+ghost use Rattle.graphql_ast_json.specs.code.ToldErrors.{IsToldOfText};
 ghost use Rattle.graphql_ast_json.specs.lemmas.Leaves.{json_laws, name_laws};
 ghost use Rattle.graphql_ast_json.specs.nodes.Nodes.{IsLocated, IsName, as_long_as};
 
@@ -26,6 +27,8 @@ pub(crate) fn name_of_kind(node: JsonNode<'_, '_>, kind: &str) -> Result<Name, A
     ensures new { IfOk result (λ name. name_location name ≡ None) }
     ensures err { IfErr result (λ error. ¬ IsMemory error → (name : NameText)
         → ¬ IsTextNode node.entry.unknown kind.now name.text (node_data node.entry)) }
+    ensures told { IfErr result (λ error. ¬ IsMemory error
+        → IsToldOfText node.entry kind.now (codes "a name") error) }
 {
     let text = node.text_of_kind(kind)?;
     if Name::is_valid_syntax(text) {

@@ -1,5 +1,5 @@
 //! JSON is read: a node's kind, the names of its members, and where it stands.
-ghost use Rattle.std.specs.Prelude.{◌≡◌, ◌<◌, ◌++◌, IfOk, IfErr, IfSome, OnOk, OnSome, Some, None, IsTrue, codes, is_some, not, option_map};
+ghost use Rattle.std.specs.Prelude.{◌≡◌, ◌<◌, [], ◌++◌, IfOk, IfErr, IfSome, OnOk, OnSome, Some, None, IsTrue, codes, is_some, not, option_map};
 ghost use Rattle.json.specs.Value.{members_view as parsed_members};
 ghost use Rattle.serde_json.specs.Data.{depth, no_members, object};
 ghost use Rattle.serde_json.specs.Find.{get};
@@ -9,6 +9,7 @@ ghost use Rattle.parsed_json.specs.AnyJson.{any_data, two_numbers};
 ghost use Rattle.graphql_ast_json.specs.code.Errors.{IsMemory};
 ghost use Rattle.graphql_ast_json.specs.code.JsonNodes.{has_other_names, member_names, node_data, type_of};
 ghost use Rattle.graphql_ast_json.specs.code.NodeReading.{IsInFile, StandsAt, node_json, stretch_of, texts_of};
+ghost use Rattle.graphql_ast_json.specs.code.ToldErrors.{HasUnknown, IsTold, IsToldOfNode, first_unknown};
 ghost use Rattle.parsed_json.specs.ParsedJson.{parsed_data, with_members};
 ghost use Rattle.graphql_ast_json.specs.nodes.Nodes.{HasOnly, IsLocated, IsLocation, IsNode, member_of, names_among, offset_of, stretch_in};
 
@@ -90,8 +91,11 @@ fn unknown_name<'j>(
     names: &[&str],
     others: &[&str],
 ) -> Option<&'j str>
-    ensures { is_some result ≡ not (names_among (texts_of names.now ++ texts_of others.now)
+    ensures other { is_some result ≡ not (names_among (texts_of names.now ++ texts_of others.now)
         (members_view members.now.entries)) }
+    ensures first { option_map (λ name. name.now) result
+        ≡ first_unknown (texts_of names.now ++ texts_of others.now)
+        (member_names (members_view members.now.entries)) }
 {
     for (name, _) in members.iter() {
         if !is_one_of_either(names, others, name.as_str()) {
@@ -241,6 +245,9 @@ impl<'j, 't> JsonNode<'j, 't> {
         ensures err { IfErr result (λ error. ¬ IsMemory error → IsTrue (has_other_names
             (texts_of names.now ++ texts_of others.now)
             (object (members_view members.now.entries)))) }
+        ensures told { IfErr result (λ error. ¬ IsMemory error → IsTold self.entry []
+            (HasUnknown (texts_of names.now ++ texts_of others.now) of.now
+            (object (members_view members.now.entries))) error) }
     {
         match unknown_name(members, names, others) {
             Some(name) => Err(self.unknown(name, of)),
@@ -263,6 +270,9 @@ impl<'j, 't> JsonNode<'j, 't> {
         ensures err { IfErr result (λ error. ¬ IsMemory error → IsTrue (has_other_names
             (texts_of names.now ++ texts_of others.now)
             (object (with_members (parsed_members members.now) no_members)))) }
+        ensures told { IfErr result (λ error. ¬ IsMemory error → IsTold self.entry []
+            (HasUnknown (texts_of names.now ++ texts_of others.now) of.now
+            (object (with_members (parsed_members members.now) no_members))) error) }
     {
         if have_only_names(members, names, others) {
             return Ok(());
@@ -282,6 +292,9 @@ impl<'j, 't> JsonNode<'j, 't> {
             (texts_of names.now ++ texts_of others.now) (node_data self.entry)))) }
         ensures err { IfErr result (λ error. ¬ IsMemory error → IsTrue (has_other_names
             (texts_of names.now ++ texts_of others.now) (node_data self.entry))) }
+        ensures told { IfErr result (λ error. ¬ IsMemory error → IsTold self.entry []
+            (HasUnknown (texts_of names.now ++ texts_of others.now) of.now
+            (node_data self.entry)) error) }
     {
         match self.json {
             AnyJson::Owned(json) => match json {
@@ -305,6 +318,9 @@ impl<'j, 't> JsonNode<'j, 't> {
         ensures err { IfErr result (λ error. ¬ IsMemory error →
             ¬ HasOnly self.entry.unknown (texts_of names.now ++ texts_of others.now)
             (node_data self.entry)) }
+        ensures told { IfErr result (λ error. ¬ IsMemory error → IsTold self.entry []
+            (HasUnknown (texts_of names.now ++ texts_of others.now) of.now
+            (node_data self.entry)) error) }
     {
         if !self.json.is_object() {
             return Err(self.wrong_type(self.json, JsonType::Object));
@@ -404,6 +420,8 @@ impl<'j, 't> JsonNode<'j, 't> {
             (IsNode self.entry.unknown kind.now (texts_of names.now) (node_data self.entry)) }
         ensures err { IfErr result (λ error. ¬ IsMemory error
             → ¬ IsNode self.entry.unknown kind.now (texts_of names.now) (node_data self.entry)) }
+        ensures told { IfErr result (λ error. ¬ IsMemory error
+            → IsToldOfNode self.entry kind.now (texts_of names.now) error) }
     {
         let found = self.text("kind")?;
         if found != kind {

@@ -9,6 +9,8 @@ ghost use Rattle.graphql_ast_json.specs.code.Drafts.{place_of};
 ghost use Rattle.graphql_ast_json.specs.code.Errors.{IsMemory};
 ghost use Rattle.graphql_ast_json.specs.code.JsonNodes.{node_data, IsReadFrom};
 ghost use Rattle.graphql_ast_json.specs.code.NodeReading.{IsStringOf, StandsAt};
+ghost use Rattle.graphql_ast_json.specs.code.ToldErrors.{IsToldOfOptional, IsToldOfString};
+ghost use Rattle.graphql_ast_json.specs.declared.error.JsonType.TheVariants.{Boolean};
 ghost use Rattle.graphql_ast_json.specs.declared.read.Unknown.{Unknown};
 ghost use Rattle.graphql_ast_json.specs.lemmas.Leaves.{json_laws, string_laws};
 ghost use Rattle.graphql_ast_json.specs.nodes.Nodes.{IsBoolean, IsLocated, IsStringValue, OptionalMember, member_of};
@@ -28,6 +30,8 @@ fn check_optional_boolean(node: JsonNode<'_, '_>, name: &str) -> Result<(), AstJ
     ensures ok { IfOk result (λ _. OptionalMember name.now (node_data node.entry) IsBoolean) }
     ensures err { IfErr result (λ error. ¬ IsMemory error
         → ¬ OptionalMember name.now (node_data node.entry) IsBoolean) }
+    ensures told { IfErr result (λ error. ¬ IsMemory error
+        → IsToldOfOptional node.entry name.now Boolean error) }
 {
     match member(node.json, name) {
         None => Ok(()),
@@ -44,6 +48,7 @@ pub(crate) fn string_text<'j>(node: JsonNode<'j, '_>) -> Result<&'j str, AstJson
     ensures ok { IfOk result (λ text. IsReadFrom IsStringOf node.entry text.now) }
     ensures err { IfErr result (λ error. ¬ IsMemory error
         → (text : List ℕ) → ¬ IsReadFrom IsStringOf node.entry text) }
+    ensures told { IfErr result (λ error. ¬ IsMemory error → IsToldOfString node.entry error) }
 {
     node.check("StringValue", &["value", "block"])?;
     let text = node.text("value")?;

@@ -1,15 +1,17 @@
 //! Members of a node, and the trees that they are of.
-ghost use Rattle.std.specs.Prelude.{◌≡◌, ◌<◌, ◌+◌, ℕ, Bool, List, Option, IfOk, IfErr, IsSomeAnd, Some, None, map, option_map, option_and_then};
+ghost use Rattle.std.specs.Prelude.{◌≡◌, ◌<◌, ◌+◌, ℕ, Bool, List, [], ◌∷◌, Option, IfOk, IfErr, codes, IsSomeAnd, Some, None, map, option_map, option_and_then};
 ghost use Rattle.serde_json.specs.Data.{depth, items_depth, string};
-ghost use Rattle.serde_json.specs.Find.{as_array};
+ghost use Rattle.serde_json.specs.Find.{as_array, get};
 ghost use Rattle.graphql_values.specs.kinds.Directives.{DirectiveTree};
 ghost use Rattle.graphql_values.specs.trees.DirectiveTrees.{directive_trees};
 ghost use Rattle.parsed_json.specs.AnyJson.{any_data, items_data};
 ghost use Rattle.graphql_ast_json.specs.code.Errors.{IsMemory};
 ghost use Rattle.graphql_ast_json.specs.code.JsonNodes.{node_data, told_kind};
-ghost use Rattle.graphql_ast_json.specs.code.NodeReading.{IsTextNode};
+ghost use Rattle.graphql_ast_json.specs.code.NodeReading.{IsInFile, IsTextNode, StandsAt, stretch_of};
+ghost use Rattle.graphql_ast_json.specs.code.ToldErrors.{IsPlaceOr, IsTold, IsToldFrom, IsToldOfArray, IsToldOfItem, IsToldOfMember, IsToldOfNodeOr, IsToldOfOptional, IsUnknownKind, IsUnknownMember, IsWithout, IsWrongText, IsWrongType};
+ghost use Rattle.graphql_ast_json.specs.declared.error.JsonType.TheVariants.{Array, Boolean, Text};
 ghost use Rattle.graphql_ast_json.specs.kinds.DirectiveJson.{HasDirectives};
-ghost use Rattle.graphql_ast_json.specs.nodes.Nodes.{Each, IsFlag, IsLocated, IsOptional, ListMember, Member, OptionalListMember, items_or_none, member_of};
+ghost use Rattle.graphql_ast_json.specs.nodes.Nodes.{Each, IsFlag, IsLocated, IsOptional, ListMember, Member, OptionalListMember, items_or_none, member_of, offset_of, stretch_in};
 
 use crate::error::{AstJsonError, AstJsonProblem, JsonType};
 use crate::form::Form;
@@ -24,17 +26,38 @@ use std::alloc::AllocError;
 /// The greatest offset of a location.
 pub(crate) const MAX_OFFSET: u64 = 4294967295;
 
+/// The offset that a location tells in the member of this name, for an error.
+fn told_offset(location: AnyJson<'_, '_>, name: &str) -> Option<u32>
+    ensures { result ≡ offset_of (get name.now (any_data location.entry)) }
+{
+    let offset = location.get(name)?.as_u64()?;
+    if offset <= MAX_OFFSET {
+        Some(offset as u32)
+    } else {
+        None
+    }
+}
+
 impl<'j, 't> JsonNode<'j, 't> {
     /// Where the node tells that it stands, for an error.
-    pub(crate) fn place(self) -> Option<SourceSpan> {
-        let location = self.json.get("loc")?;
-        let start = location.get("start")?.as_u64()?;
-        let end = location.get("end")?.as_u64()?;
-        if start <= MAX_OFFSET && end <= MAX_OFFSET {
-            SourceSpan::new(self.source, start as u32, end as u32)
-        } else {
-            None
+    pub(crate) fn place(self) -> Option<SourceSpan>
+        ensures stands { StandsAt result (node_data self.entry) }
+        ensures file { IsInFile self.entry.source result }
+    {
+        match member(self.json, "loc") {
+            Some(location) => self.told_span(location),
+            None => None,
         }
+    }
+
+    /// The stretch that a location tells, for an error.
+    fn told_span(self, location: AnyJson<'j, 't>) -> Option<SourceSpan>
+        ensures stands { option_map stretch_of result ≡ stretch_in (any_data location.entry) }
+        ensures file { IsInFile self.entry.source result }
+    {
+        let start = told_offset(location, "start")?;
+        let end = told_offset(location, "end")?;
+        SourceSpan::new(self.source, start, end)
     }
 
     /// The kind that the node tells, for an error.
@@ -48,12 +71,17 @@ impl<'j, 't> JsonNode<'j, 't> {
     }
 
     /// The error of a problem of this JSON.
-    pub(crate) fn problem(self, problem: AstJsonProblem) -> AstJsonError {
+    pub(crate) fn problem(self, problem: AstJsonProblem) -> AstJsonError
+        ensures { IsTold self.entry [] (λ told. told ≡ problem) result }
+    {
         AstJsonError::here(self.alloc, self.place(), problem)
     }
 
     /// The same, or out of memory.
-    fn problem_or_memory(self, problem: Result<AstJsonProblem, AllocError>) -> AstJsonError {
+    fn problem_or_memory(self, problem: Result<AstJsonProblem, AllocError>) -> AstJsonError
+        ensures ok { IfOk problem (λ found. IsTold self.entry [] (λ told. told ≡ found) result) }
+        ensures err { IfErr problem (λ _. IsMemory result) }
+    {
         match problem {
             Ok(problem) => self.problem(problem),
             Err(_) => AstJsonError::Memory,
@@ -61,37 +89,52 @@ impl<'j, 't> JsonNode<'j, 't> {
     }
 
     /// The error of JSON that is of another type than the one that is wanted.
-    pub(crate) fn wrong_type(self, json: AnyJson<'_, '_>, wanted: JsonType) -> AstJsonError {
+    pub(crate) fn wrong_type(self, json: AnyJson<'_, '_>, wanted: JsonType) -> AstJsonError
+        ensures { IsTold self.entry [] (IsWrongType (any_data json.entry) wanted) result }
+    {
         let found = type_of(json);
         self.problem(AstJsonProblem::WrongType { found, wanted })
     }
 
     /// The error, told from this node, which has the position in this member.
     pub(crate) fn within(self, name: &str, error: AstJsonError) -> AstJsonError
-        ensures { IsMemory error → IsMemory result }
+        ensures memory { IsMemory error → IsMemory result }
+        ensures told { IsToldFrom name.now (IsPlaceOr self.entry) error result }
     {
         error.in_member(self.alloc, name, self.place())
     }
 
     /// The error of a text that is the member of this name, and outside the syntax of what is wanted.
-    pub(crate) fn wrong_text(self, name: &str, text: &str, wanted: &str) -> AstJsonError {
+    pub(crate) fn wrong_text(self, name: &str, text: &str, wanted: &str) -> AstJsonError
+        ensures { ¬ IsMemory result
+            → IsTold self.entry name.now (IsWrongText text.now wanted.now) result }
+    {
         let problem = AstJsonProblem::text(self.alloc, text, wanted);
         self.within(name, self.problem_or_memory(problem))
     }
 
     /// The error of a kind that isn't wanted here.
-    pub(crate) fn wrong_kind(self, kind: &str, wanted: &str) -> AstJsonError {
+    pub(crate) fn wrong_kind(self, kind: &str, wanted: &str) -> AstJsonError
+        ensures { ¬ IsMemory result
+            → IsTold self.entry (codes "kind") (IsUnknownKind kind.now wanted.now) result }
+    {
         let problem = AstJsonProblem::kind(self.alloc, kind, wanted);
         self.within("kind", self.problem_or_memory(problem))
     }
 
     /// The error of a member that none of these has.
-    pub(crate) fn unknown(self, name: &str, of: &str) -> AstJsonError {
+    pub(crate) fn unknown(self, name: &str, of: &str) -> AstJsonError
+        ensures { ¬ IsMemory result
+            → IsTold self.entry [] (IsUnknownMember name.now of.now) result }
+    {
         self.problem_or_memory(AstJsonProblem::unknown(self.alloc, name, of))
     }
 
     /// The error of JSON without a member that each of these has.
-    pub(crate) fn missing(self, name: &str, of: &str) -> AstJsonError {
+    pub(crate) fn missing(self, name: &str, of: &str) -> AstJsonError
+        ensures { ¬ IsMemory result
+            → IsTold self.entry [] (IsWithout name.now of.now (node_data self.entry)) result }
+    {
         if self.json.is_object() {
             self.problem_or_memory(AstJsonProblem::missing(self.alloc, name, of))
         } else {
@@ -106,6 +149,9 @@ impl<'j, 't> JsonNode<'j, 't> {
         ensures inside { IfOk result (λ v. depth (any_data v) < depth (node_data self.entry)) }
         ensures err { IfErr result (λ error. ¬ IsMemory error
             → member_of name.now (node_data self.entry) ≡ None) }
+        ensures told { IfErr result (λ error. ¬ IsMemory error → IsTold self.entry []
+            (IsWithout name.now (told_kind (node_data self.entry)) (node_data self.entry))
+            error) }
     {
         match member(self.json, name) {
             Some(member) => Ok(member),
@@ -120,6 +166,8 @@ impl<'j, 't> JsonNode<'j, 't> {
         ensures err { IfErr result (λ error. ¬ IsMemory error
             → (text : List ℕ) → ¬ (member_of name.now (node_data self.entry)
             ≡ Some (string text))) }
+        ensures told { IfErr result (λ error. ¬ IsMemory error
+            → IsToldOfMember self.entry name.now Text error) }
     {
         match member(self.json, name) {
             None => Err(self.missing(name, self.kind())),
@@ -138,6 +186,9 @@ impl<'j, 't> JsonNode<'j, 't> {
         ensures err { IfErr result (λ error. ¬ IsMemory error
             → (text : List ℕ) → ¬ IsTextNode self.entry.unknown kind.now text
             (node_data self.entry)) }
+        ensures told { IfErr result (λ error. ¬ IsMemory error
+            → IsToldOfNodeOr self.entry kind.now (codes "value" ∷ [])
+            (IsToldOfMember self.entry (codes "value") Text error) error) }
     {
         self.check(kind, &["value"])?;
         self.text("value")
@@ -149,6 +200,8 @@ impl<'j, 't> JsonNode<'j, 't> {
             IsFlag is_so (member_of name.now (node_data self.entry))) }
         ensures err { IfErr result (λ error. ¬ IsMemory error
             → (is_so : Bool) → ¬ IsFlag is_so (member_of name.now (node_data self.entry))) }
+        ensures told { IfErr result (λ error. ¬ IsMemory error
+            → IsToldOfOptional self.entry name.now Boolean error) }
     {
         match member(self.json, name) {
             None => Ok(false),
@@ -167,6 +220,8 @@ impl<'j, 't> JsonNode<'j, 't> {
             items_depth (items_data items) + 1 < depth (node_data self.entry)) }
         ensures err { IfErr result (λ error. ¬ IsMemory error
             → option_and_then as_array (member_of name.now (node_data self.entry)) ≡ None) }
+        ensures told { IfErr result (λ error. ¬ IsMemory error
+            → IsToldOfMember self.entry name.now Array error) }
     {
         let member = self.required(name)?;
         match member.as_items() {
@@ -182,6 +237,8 @@ impl<'j, 't> JsonNode<'j, 't> {
             (items_data items)) }
         ensures err { IfErr result (λ error. ¬ IsMemory error
             → items_or_none (member_of name.now (node_data self.entry)) ≡ None) }
+        ensures told { IfErr result (λ error. ¬ IsMemory error
+            → IsToldOfOptional self.entry name.now Array error) }
     {
         match member(self.json, name) {
             None => Ok(AnyItems::Owned(&[])),
@@ -199,6 +256,8 @@ impl<'j, 't> JsonNode<'j, 't> {
             (items_data items.entry)) }
         ensures err { IfErr result (λ error. ¬ IsMemory error → (trees : List F.Tree)
             → ¬ Each (F.is_json_of self.entry.unknown) trees (items_data items.entry)) }
+        ensures told { IfErr result (λ error. ¬ IsMemory error
+            → IsToldOfItem (F.is_json_of self.entry.unknown) (items_data items.entry) error) }
     {
         let mut values = Vec::with_capacity(self.alloc, items.len())?;
         for index in 0..items.len() {
@@ -290,6 +349,8 @@ impl<'j, 't> JsonNode<'j, 't> {
         ensures err { IfErr result (λ error. ¬ IsMemory error → (trees : List F.Tree)
             → ¬ IsSomeAnd (as_array (node_data self.entry))
             (Each (F.is_json_of self.entry.unknown) trees)) }
+        ensures told { IfErr result (λ error. ¬ IsMemory error
+            → IsToldOfArray (F.is_json_of self.entry.unknown) self.entry error) }
     {
         match self.json.as_items() {
             Some(items) => self.trees::<F>(items),

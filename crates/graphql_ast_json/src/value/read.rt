@@ -11,6 +11,7 @@ ghost use Rattle.parsed_json.specs.AnyJson.{items_data};
 ghost use Rattle.graphql_ast_json.specs.code.Errors.{IsMemory};
 ghost use Rattle.graphql_ast_json.specs.code.JsonNodes.{node_data, IsFromNone, IsReadFrom};
 ghost use Rattle.graphql_ast_json.specs.code.NodeReading.{IsInFile, StandsAt};
+ghost use Rattle.graphql_ast_json.specs.code.ToldErrors.{IsToldOfBoolean, IsToldOfLeaf, IsToldOfText, IsToldOfValue, IsToldOfVariable};
 ghost use Rattle.graphql_ast_json.specs.kinds.ValueJson.{IsValue, AreValues, AreObjectFields, IsNamedValue};
 ghost use Rattle.graphql_ast_json.specs.nodes.Nodes.{IsLocated, member_of};
 
@@ -30,6 +31,7 @@ pub(crate) fn variable_name(node: JsonNode<'_, '_>) -> Result<Name, AstJsonError
     ensures ok { IfOk result (λ name. IsReadFrom IsValue node.entry (variable (name_tree name))) }
     ensures err { IfErr result (λ error. ¬ IsMemory error
         → (name : NameText) → ¬ IsReadFrom IsValue node.entry (variable name)) }
+    ensures told { IfErr result (λ error. ¬ IsMemory error → IsToldOfVariable node.entry error) }
 {
     node.check("Variable", &["name"])?;
     node.member::<Name>("name")
@@ -41,6 +43,8 @@ fn int(node: JsonNode<'_, '_>) -> Result<IntValue, AstJsonError>
     ensures ok { IfOk result (λ int. IsReadFrom IsValue node.entry (int_value (int_tree int))) }
     ensures err { IfErr result (λ error. ¬ IsMemory error
         → (int : IntText) → ¬ IsReadFrom IsValue node.entry (int_value int)) }
+    ensures told { IfErr result (λ error. ¬ IsMemory error
+        → IsToldOfText node.entry (codes "IntValue") (codes "an integer") error) }
 {
     let text = node.text_of_kind("IntValue")?;
     if IntValue::valid_syntax(text) {
@@ -57,6 +61,8 @@ fn float(node: JsonNode<'_, '_>) -> Result<FloatValue, AstJsonError>
         IsReadFrom IsValue node.entry (float_value (float_tree float))) }
     ensures err { IfErr result (λ error. ¬ IsMemory error
         → (float : FloatText) → ¬ IsReadFrom IsValue node.entry (float_value float)) }
+    ensures told { IfErr result (λ error. ¬ IsMemory error
+        → IsToldOfText node.entry (codes "FloatValue") (codes "a float") error) }
 {
     let text = node.text_of_kind("FloatValue")?;
     if FloatValue::valid_syntax(text) {
@@ -72,6 +78,8 @@ fn boolean(node: JsonNode<'_, '_>) -> Result<bool, AstJsonError>
     ensures ok { IfOk result (λ is_true. IsReadFrom IsValue node.entry (boolean_value is_true)) }
     ensures err { IfErr result (λ error. ¬ IsMemory error
         → (is_true : Bool) → ¬ IsReadFrom IsValue node.entry (boolean_value is_true)) }
+    ensures told { IfErr result (λ error. ¬ IsMemory error
+        → IsToldOfBoolean node.entry error) }
 {
     node.check("BooleanValue", &["value"])?;
     let value = node.required("value")?;
@@ -91,6 +99,8 @@ fn leaf(node: JsonNode<'_, '_>, kind: &str) -> Result<Value, AstJsonError>
     requires object { kind.now ≢ codes "ObjectValue" }
     ensures ok { IfOk result (λ value. IsReadFrom IsValue node.entry (value_tree value)) }
     ensures err { IfErr result (λ error. ¬ IsMemory error → IsFromNone IsValue node.entry) }
+    ensures told { IfErr result (λ error. ¬ IsMemory error
+        → IsToldOfLeaf node.entry kind.now error) }
 {
     match kind {
         "NullValue" => {
@@ -118,6 +128,7 @@ pub(crate) fn read_value(node: JsonNode<'_, '_>) -> Result<Value, AstJsonError>
     requires { IsLocated node.unknown (node_data node) }
     ensures ok { IfOk result (λ value. IsReadFrom IsValue node.entry (value_tree value)) }
     ensures err { IfErr result (λ error. ¬ IsMemory error → IsFromNone IsValue node.entry) }
+    ensures told { IfErr result (λ error. ¬ IsMemory error → IsToldOfValue node.entry error) }
 {
     let kind = node.text("kind")?;
     match kind {

@@ -1,10 +1,13 @@
 use Rattle.std.proofs.Common.{◌≡◌, ◌++◌}
 use Rattle.serde_json.specs.View.{members_view}
-use Rattle.graphql_ast_json.specs.nodes.Nodes.{names_among}
+use Rattle.graphql_ast_json.specs.code.JsonNodes.{member_names}
 use Rattle.graphql_ast_json.specs.code.NodeReading.{texts_of}
+use Rattle.graphql_ast_json.specs.code.ToldErrors.{first_unknown}
+use Rattle.graphql_ast_json.specs.nodes.Nodes.{names_among}
 use Rattle.graphql_ast_json.proofs.read.unknown_name.Given as goal
 
 abbrev pub invariant-loop-name : goal.invariant-loop-name
 invariant-loop-name l =
-    names_among (texts_of l.names ++ texts_of l.others) (members_view l.members.entries)
-    ≡ names_among (texts_of l.names ++ texts_of l.others) (members_view l.name-iterator)
+    let all = texts_of l.names ++ texts_of l.others in
+    (names_among all (members_view l.members.entries) ≡ names_among all (members_view l.name-iterator))
+    × (first_unknown all (member_names (members_view l.members.entries)) ≡ first_unknown all (member_names (members_view l.name-iterator)))

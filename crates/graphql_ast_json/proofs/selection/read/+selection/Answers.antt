@@ -29,7 +29,7 @@ pub selections-returns-in-Err-clause-err : goal.selections-returns-in-Err-clause
 selections-returns-in-Err-clause-err t c refused =
     let items = item_datas c.args.items in
     let within : c.loop-index.index < length items = omega (arith, c.len.ensures) in
-    none_at c.args.node.unknown items c.loop-index.index null within (λ tree is. c.in-Err.ensures.err (λ m. refused (c.in_item.ensures m)) tree
+    none_at c.args.node.unknown items c.loop-index.index null within (λ tree is. c.in-Err.ensures.err (λ m. refused (c.in_item.ensures.memory m)) tree
     (subst (λ (d : Data). IsSelection c.args.node.unknown tree d) (sym c.at-json.ensures) is))
 
 pub selections-loop-index-preserved : goal.selections-loop-index-preserved
@@ -74,13 +74,13 @@ read_inline_fragment-returns-in_err-required_set-clause-err t c =
 
 pub optional_set-returns-in-Err-clause-err : goal.optional_set-returns-in-Err-clause-err
 optional_set-returns-in-Err-clause-err t c refused set is =
-    c.in-Err.ensures.err (λ m. refused (c.within.ensures m)) set
+    c.in-Err.ensures.err (λ m. refused (c.within.ensures.memory m)) set
     (subst (λ (found : Option Data). MatchOption found (AreSelections c.args.node.unknown set no_items) (IsSelectionSet c.args.node.unknown set))
     (sym c.in-Some.ensures.value) is)
 
 pub required_set-returns-in-Err-clause-err : goal.required_set-returns-in-Err-clause-err
 required_set-returns-in-Err-clause-err t c refused set is =
-    c.in-Err.ensures.err (λ m. refused (c.within.ensures m)) set
+    c.in-Err.ensures.err (λ m. refused (c.within.ensures.memory m)) set
     (subst (λ (found : Option Data). IsSomeAnd found (IsSelectionSet c.args.node.unknown set)) c.in_ok-json.ensures.ok is)
 
 pub selections-returns-in_err-push-in-Ok-clause-err : goal.selections-returns-in_err-push-in-Ok-clause-err

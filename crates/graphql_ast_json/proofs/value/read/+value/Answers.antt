@@ -1,4 +1,4 @@
-use Rattle.std.proofs.Common.{◌≡◌, ℕ, ◌+◌, ◌<◌, ◌≤◌, List, [], ◌∷◌, ◌++◌, length, take, Some, codes, sym, ap, subst, ◌∙◌, arith}
+use Rattle.std.proofs.Common.{◌≡◌, ℕ, ◌+◌, ◌<◌, ◌≤◌, List, [], ◌∷◌, ◌++◌, length, take, Some, codes, refl, sym, ap, subst, ◌∙◌, arith}
 use Rattle.std.proofs.lemmas.Grind.{common_steps}
 use Rattle.std.proofs.lemmas.List.{take_all}
 use Rattle.graphql_base.specs.declared.name.Name.{Name}
@@ -15,9 +15,11 @@ use Rattle.graphql_ast_json.specs.nodes.Nodes.{member_of}
 use Rattle.graphql_ast_json.specs.kinds.ValueJson.{IsValue, AreValues, AreObjectFields, IsNamedValue}
 use Rattle.graphql_ast_json.proofs.nodes.JsonDepths.{item-depth}
 use Rattle.graphql_ast_json.proofs.nodes.NodeLists.{take_item}
-use Rattle.graphql_ast_json.proofs.general.PassedErrors.{passed}
+use Rattle.graphql_ast_json.proofs.general.PassedErrors.{passed, turned}
 use Rattle.graphql_ast_json.proofs.kinds.ValueJsonByKind.{only_list}
 use Rattle.graphql_ast_json.proofs.kinds.ValueJsonByKind.{only_object, more_are_values, more_are_fields, none_at, no_field_at}
+use Rattle.graphql_ast_json.proofs.kinds.ValueKinds.{no_other, not_none, told_at}
+use Rattle.graphql_ast_json.specs.code.ToldErrors.{IsToldOfLeaf, IsToldOfValue}
 use Rattle.graphql_ast_json.proofs.value.read.+value.Goals as goal
 
 pub read_value-returns-in_err-list_items-in-ListValue-clause-err : goal.read_value-returns-in_err-list_items-in-ListValue-clause-err
@@ -38,6 +40,46 @@ read_value-returns-in_err-object_fields-in-ObjectValue-clause-err t c =
     λ m. only_object c.args.node.unknown json kind (c.in_err-object_fields-in-ObjectValue.ensures.err m) in
     passed _ _ _ none c.from_residual-in_err-object_fields-in-ObjectValue.ensures.1
 
+pub read_value-returns-in_err-list_items-in-ListValue-clause-told : goal.read_value-returns-in_err-list_items-in-ListValue-clause-told
+read_value-returns-in_err-list_items-in-ListValue-clause-told t c =
+    let kind = c.in_ok-kind.kind.now in
+    let is = c.in-ListValue.is in
+    passed _ c.in_err-list_items-in-ListValue.field-0.0 (λ error. ¬ IsMemory error → IsToldOfValue c.args.node error)
+    (λ m. told_at c.args.node kind _ c.in_ok-kind.ensures.ok (
+      no_other kind (codes "ListValue") (codes "NullValue") is refl,
+      no_other kind (codes "ListValue") (codes "EnumValue") is refl,
+      no_other kind (codes "ListValue") (codes "Variable") is refl,
+      no_other kind (codes "ListValue") (codes "StringValue") is refl,
+      no_other kind (codes "ListValue") (codes "FloatValue") is refl,
+      no_other kind (codes "ListValue") (codes "IntValue") is refl,
+      no_other kind (codes "ListValue") (codes "BooleanValue") is refl,
+      not_none kind (codes "ListValue") is refl,
+    ))
+    c.from_residual-in_err-list_items-in-ListValue.ensures.1
+
+pub read_value-returns-in_err-object_fields-in-ObjectValue-clause-told : goal.read_value-returns-in_err-object_fields-in-ObjectValue-clause-told
+read_value-returns-in_err-object_fields-in-ObjectValue-clause-told t c =
+    let kind = c.in_ok-kind.kind.now in
+    let is = c.in-ObjectValue.is in
+    passed _ c.in_err-object_fields-in-ObjectValue.field-0.0 (λ error. ¬ IsMemory error → IsToldOfValue c.args.node error)
+    (λ m. told_at c.args.node kind _ c.in_ok-kind.ensures.ok (
+      no_other kind (codes "ObjectValue") (codes "NullValue") is refl,
+      no_other kind (codes "ObjectValue") (codes "EnumValue") is refl,
+      no_other kind (codes "ObjectValue") (codes "Variable") is refl,
+      no_other kind (codes "ObjectValue") (codes "StringValue") is refl,
+      no_other kind (codes "ObjectValue") (codes "FloatValue") is refl,
+      no_other kind (codes "ObjectValue") (codes "IntValue") is refl,
+      no_other kind (codes "ObjectValue") (codes "BooleanValue") is refl,
+      not_none kind (codes "ObjectValue") is refl,
+    ))
+    c.from_residual-in_err-object_fields-in-ObjectValue.ensures.1
+
+pub read_value-returns-in_default-clause-told : goal.read_value-returns-in_default-clause-told
+read_value-returns-in_default-clause-told t c =
+    turned c.leaf.result (λ error. ¬ IsMemory error → IsToldOfLeaf c.args.node c.in_ok-kind.kind.now error)
+    (λ error. ¬ IsMemory error → IsToldOfValue c.args.node error)
+    (λ error told m. told_at c.args.node c.in_ok-kind.kind.now error c.in_ok-kind.ensures.ok (told m)) c.leaf.ensures.told
+
 pub values-read_value_node-requires : goal.values-read_value_node-requires
 values-read_value_node-requires t c =
     let items = item_datas c.args.items in
@@ -50,7 +92,7 @@ pub values-returns-in-Err-clause-err : goal.values-returns-in-Err-clause-err
 values-returns-in-Err-clause-err t c refused =
     let items = item_datas c.args.items in
     let within : c.loop-index.index < length items = omega (arith, c.len.ensures) in
-    none_at c.args.node.unknown items c.loop-index.index null within (λ tree is. c.in-Err.ensures.err (λ m. refused (c.in_item.ensures m)) tree
+    none_at c.args.node.unknown items c.loop-index.index null within (λ tree is. c.in-Err.ensures.err (λ m. refused (c.in_item.ensures.memory m)) tree
     (subst (λ (d : Data). IsValue c.args.node.unknown tree d) (sym c.at-json.ensures) is))
 
 pub values-loop-index-preserved : goal.values-loop-index-preserved
@@ -84,7 +126,7 @@ fields-returns-in-Err-clause-err t c refused =
     let items = item_datas c.args.items in
     let within : c.loop-index.index < length items = omega (arith, c.len.ensures) in
     no_field_at c.args.node.unknown items c.loop-index.index null within (λ name tree is.
-    c.in-Err.ensures.err (λ m. refused (c.in_item.ensures m)) name tree
+    c.in-Err.ensures.err (λ m. refused (c.in_item.ensures.memory m)) name tree
     (subst (λ (d : Data). IsNamedValue c.args.node.unknown (codes "ObjectField") name (IsValue c.args.node.unknown tree) d) (sym c.at-json.ensures) is))
 
 pub fields-loop-index-preserved : goal.fields-loop-index-preserved

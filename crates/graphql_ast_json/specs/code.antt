@@ -16,3 +16,5 @@ pub mod NodeReading
 pub mod TypeReading
 -- which error is told of JSON, and where from the node it stands
 pub mod ToldErrors
+-- what is read of nodes in one another before the nodes that stand in them
+pub mod Nesting

@@ -1,5 +1,5 @@
 //! What can be read from AST JSON, and written as it.
-ghost use Rattle.std.specs.Prelude.{◌≡◌, Option, IfOk, IfErr, Some, None, ⊤};
+ghost use Rattle.std.specs.Prelude.{◌≡◌, Option, IfOk, IfErr, IfSome, Some, None, is_some, ⊤};
 ghost use Rattle.serde_json.specs.Data.{Data};
 ghost use Rattle.serde_json.specs.Read.{read};
 ghost use Rattle.serde_json.specs.View.{view};
@@ -264,13 +264,36 @@ pub fn from_ast_json_str<T: AstJson>(
         → (tree : T.Tree) → ¬ T.is_json_of Refuse tree json) }
 {
     if T::reads_parsed() {
-        // The scratch is dropped before the text is read otherwise, with another one.
-        let mut scratch = Scratch::new(alloc);
-        if let Some(value) = parse_json(alloc, text, &mut scratch)? {
-            return T::read_json(JsonNode::parsed(alloc, &value, source, Unknown::Refuse));
+        if let Some(value) = read_parsed(alloc, text, source)? {
+            return Ok(value);
         }
     }
     read_otherwise(alloc, text, source)
+}
+
+/// The same of a text that is parsed, and none where it is not.
+// The scratch lies in a frame of its own, so that the caller goes on without it, and a text is read otherwise with another.
+#[inline(never)]
+fn read_parsed<T: AstJson>(
+    alloc: Global,
+    text: &str,
+    source: FileId,
+) -> Result<Option<T>, AstJsonError>
+    ensures parsed { IfOk result (λ found. is_some found ≡ is_some (read text.now)) }
+    ensures ok { IfOk result (λ found. IfSome found (λ value.
+        (json : Data) × (read text.now ≡ Some json) × T.is_json_of Refuse (T.tree value) json)) }
+    ensures err { IfErr result (λ error. ¬ IsMemory error
+        → (json : Data) → read text.now ≡ Some json
+        → (tree : T.Tree) → ¬ T.is_json_of Refuse tree json) }
+{
+    let mut scratch = Scratch::new(alloc);
+    match parse_json(alloc, text, &mut scratch)? {
+        Some(value) => {
+            let node = JsonNode::parsed(alloc, &value, source, Unknown::Refuse);
+            Ok(Some(T::read_json(node)?))
+        }
+        None => Ok(None),
+    }
 }
 
 /// The same by a value of `serde_json`. A text that was not parsed is no JSON: it is read again, for the error.

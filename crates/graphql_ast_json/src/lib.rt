@@ -30,6 +30,7 @@ mod input_value_definition;
 mod interface_type;
 pub mod laws;
 mod name;
+mod nesting;
 mod object_type;
 mod offsets;
 mod operation_definition;

@@ -1,5 +1,5 @@
 //! Well-formed trees from AST JSON, and where in other JSON a side condition is broken.
-ghost use Rattle.std.specs.Prelude.{◌≡◌, ◌↔◌, IfOk, IfErr, IsTrue, Some};
+ghost use Rattle.std.specs.Prelude.{◌≡◌, ◌↔◌, IfOk, IfErr, IfSome, IsTrue, Some, is_some};
 ghost use Rattle.serde_json.specs.Data.{Data};
 ghost use Rattle.serde_json.specs.Read.{read};
 ghost use Rattle.graphql_text.specs.kinds.Flaws.{first_flaw};
@@ -192,14 +192,42 @@ pub fn from_well_formed_ast_json_str<T: AstJson + SyntaxTree + Drop>(
         × (first_flaw (T.kind.flaws (T.SyntaxTree.tree value)) ≡ Some flaw))) }
 {
     if T::reads_parsed() {
-        // The scratch is dropped before the text is read otherwise, with another one.
-        let mut scratch = Scratch::new(alloc);
-        if let Some(value) = parse_json(alloc, text, &mut scratch)? {
-            let node = JsonNode::parsed(alloc, &value, source, Unknown::Refuse);
-            return read_well_formed_json(node);
+        if let Some(value) = read_parsed(alloc, text, source)? {
+            return Ok(value);
         }
     }
     read_otherwise(alloc, text, source)
+}
+
+/// The same of a text that is parsed, and none where it is not.
+// The scratch lies in a frame of its own, so that the caller goes on without it, and a text is read otherwise with another.
+#[inline(never)]
+fn read_parsed<T: AstJson + SyntaxTree + Drop>(
+    alloc: Global,
+    text: &str,
+    source: FileId,
+) -> Result<Option<T>, WellFormedError>
+    ensures parsed { IfOk result (λ found. is_some found ≡ is_some (read text.now)) }
+    ensures ok { IfOk result (λ found. IfSome found (λ value. (json : Data)
+        × (read text.now ≡ Some json) × T.is_json_of Refuse (T.AstJson.tree value) json)) }
+    ensures well_formed { IfOk result (λ found. IfSome found (λ value.
+        IsTrue (T.kind.obeys (T.SyntaxTree.tree value)))) }
+    ensures err { IfErr result (λ error. IfNotRead error (λ refusal. ¬ IsMemory refusal
+        → (json : Data) → read text.now ≡ Some json
+        → (tree : T.Tree) → ¬ T.is_json_of Refuse tree json)) }
+    ensures ill_formed { IfErr result (λ error. IfIllFormed error (λ flaw.
+        (value : T) × (json : Data)
+        × (read text.now ≡ Some json) × T.is_json_of Refuse (T.AstJson.tree value) json
+        × (first_flaw (T.kind.flaws (T.SyntaxTree.tree value)) ≡ Some flaw))) }
+{
+    let mut scratch = Scratch::new(alloc);
+    match parse_json(alloc, text, &mut scratch)? {
+        Some(value) => {
+            let node = JsonNode::parsed(alloc, &value, source, Unknown::Refuse);
+            Ok(Some(read_well_formed_json(node)?))
+        }
+        None => Ok(None),
+    }
 }
 
 /// The same by a value of `serde_json`. A text that was not parsed is no JSON: it is read again, for the error.

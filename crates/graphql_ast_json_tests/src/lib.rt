@@ -4,6 +4,10 @@
 #[cfg(test)]
 mod errors;
 #[cfg(test)]
+mod flawed_trees;
+#[cfg(test)]
+mod flaws_found;
+#[cfg(test)]
 mod ill_formed_samples;
 #[cfg(test)]
 mod offsets;
@@ -15,6 +19,8 @@ mod parsed;
 mod refusals;
 #[cfg(test)]
 mod samples;
+#[cfg(test)]
+mod start_search;
 #[cfg(test)]
 mod trees;
 #[cfg(test)]

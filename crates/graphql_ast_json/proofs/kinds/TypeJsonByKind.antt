@@ -1,9 +1,10 @@
 -- Where JSON is of one kind of types, and of none of that kind, it is of no type.
-use Rattle.std.proofs.Common.{◌≡◌, ℕ, List, ◌∷◌, Some, codes, sym, ap, ◌∙◌, arith}
+use Rattle.std.proofs.Common.{◌≡◌, ℕ, List, ◌∷◌, Option, Some, None, IsSomeAnd, codes, sym, ap, ◌∙◌, arith}
 use Rattle.graphql_text.specs.lexical.Literals.{NameText}
 use Rattle.graphql_values.specs.kinds.TypeReferences.{TypeTree, named_type, non_null_named_type, list_type, non_null_list_type}
 use Rattle.serde_json.specs.Data.{Data, string}
 use Rattle.graphql_ast_json.specs.nodes.Nodes.{member_of}
+use Rattle.graphql_ast_json.specs.code.Nesting.{TellsKind}
 use Rattle.graphql_ast_json.specs.code.TypeReading.{IsWithoutNull}
 use Rattle.graphql_ast_json.specs.kinds.TypeJson.{IsNamedType, IsTypeAround, IsTypeReference}
 use Rattle.graphql_ast_json.proofs.nodes.KindTexts.{initial, text_of}
@@ -48,3 +49,23 @@ other_kind unknown json kind e p q r (named_type name) is = p (sym (clash unknow
 other_kind unknown json kind e p q r (non_null_named_type name) is = r (sym (clash unknown (non_null_named_type name) json kind e is))
 other_kind unknown json kind e p q r (list_type item) is = q (sym (clash unknown (list_type item) json kind e is))
 other_kind unknown json kind e p q r (non_null_list_type item) is = r (sym (clash unknown (non_null_list_type item) json kind e is))
+
+-- a type tells its kind
+pub type_tells : (unknown : Unknown) (tree : TypeTree) (json : Data) → IsTypeReference unknown tree json → TellsKind unknown json
+type_tells unknown tree json is = let node = (type_node unknown tree json is).is in (node.2, (type_kind tree, node.0))
+
+-- so does one within a non-null type
+pub without_null_tells : (unknown : Unknown) (tree : TypeTree) (json : Data) → IsWithoutNull unknown tree json → TellsKind unknown json
+without_null_tells unknown (named_type name) json is = absurd is
+without_null_tells unknown (non_null_named_type name) json is = (is.0.2, (codes "NamedType", is.0.0))
+without_null_tells unknown (list_type item) json is = absurd is
+without_null_tells unknown (non_null_list_type item) json is = (is.0.2, (codes "ListType", is.0.0))
+
+also : (found : Option Data) (Is Other : Data → Type 0) → ((inner : Data) → Is inner → Other inner) → IsSomeAnd found Is → IsSomeAnd found Other
+also None Is Other more is = is
+also (Some inner) Is Other more is = more inner is
+
+-- what stands around such a type stands around what each of these is
+pub around_also : (unknown : Unknown) (kind : List ℕ) (Is Other : Data → Type 0) (json : Data) → ((inner : Data) → Is inner → Other inner) →
+    IsTypeAround unknown kind Is json → IsTypeAround unknown kind Other json
+around_also unknown kind Is Other json more is = (is.0, also (member_of (codes "type") json) Is Other more is.1)

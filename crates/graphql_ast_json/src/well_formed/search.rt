@@ -12,7 +12,7 @@ use graphql_text::ill_formed::SideCondition::{
     IsNotOn, IsNotReserved,
 };
 use parsed_json::AnyJson;
-use std::alloc::AllocError;
+use std::alloc::{AllocError, Global};
 
 /// The words that no enum value may be.
 const RESERVED: [&str; 3] = ["true", "false", "null"];
@@ -42,9 +42,9 @@ impl Position {
     }
 
     /// The same position, told from the array that has it in this item.
-    fn in_item(self, array: JsonNode<'_, '_>, index: usize) -> Result<Position, AllocError> {
+    fn in_item(self, alloc: Global, index: usize) -> Result<Position, AllocError> {
         Ok(Position {
-            path: self.path.in_item(array.alloc, index)?,
+            path: self.path.in_item(alloc, index)?,
             place: self.place,
         })
     }
@@ -107,17 +107,34 @@ fn is_any_of(texts: &[&str], json: AnyJson<'_, '_>) -> bool
 /// What is looked for: the first node that breaks this condition.
 #[derive(Clone, Copy)]
 struct Search<'j, 't> {
-    node: JsonNode<'j, 't>,
+    /// The whole tree, whose parts are read by the same rules.
+    root: JsonNode<'j, 't>,
     condition: SideCondition,
-    /// Whether only constants may stand here.
-    is_constant: bool,
 }
 
+/// Whether only constants may stand in a node of this kind, which may stand where only they do.
+fn is_constant_in(kind: &str, is_constant: bool) -> bool {
+    match kind {
+        "OperationDefinition" | "FragmentDefinition" => false,
+        _ => is_constant || kind.ends_with("Definition") || kind.ends_with("Extension"),
+    }
+}
+
+// What is done in a node without its parts has frames of its own, so that those of nodes in one another are small.
 impl<'j, 't> Search<'j, 't> {
-    /// What breaks the condition in this node, if something does: its name within the node, and the innermost node that
-    /// it is or stands in.
-    fn broken_part(self, kind: &str) -> Option<(&'static str, AnyJson<'j, 't>)> {
-        let json = self.node.json;
+    /// A part of the tree.
+    fn node(&self, json: AnyJson<'j, 't>) -> JsonNode<'j, 't> {
+        JsonNode { json, ..self.root }
+    }
+
+    /// What breaks the condition in a node of this kind, if something does: its name within the node, and the innermost
+    /// node that it is or stands in.
+    fn broken_part(
+        &self,
+        json: AnyJson<'j, 't>,
+        kind: &str,
+        is_constant: bool,
+    ) -> Option<(&'static str, AnyJson<'j, 't>)> {
         let (is_broken, part) = match (self.condition, kind) {
             (HasDefinition, "Document") => (lacks(json, "definitions"), ("", json)),
             (HasSelection, "OperationDefinition" | "FragmentDefinition" | "InlineFragment") => {
@@ -133,7 +150,7 @@ impl<'j, 't> Search<'j, 't> {
                 (is_any_of(&RESERVED, name), ("name.value", name))
             }
             (IsNotReserved, "EnumValue") => (is_any_of(&RESERVED, json), ("value", json)),
-            (IsConstant, "Variable") => (self.is_constant, ("", json)),
+            (IsConstant, "Variable") => (is_constant, ("", json)),
             (HasLocation, "DirectiveDefinition") => (lacks(json, "locations"), ("", json)),
             (HasRootOperation, "SchemaDefinition") => (lacks(json, "operationTypes"), ("", json)),
             (AddsSomething, _) if kind.ends_with("Extension") => {
@@ -145,33 +162,53 @@ impl<'j, 't> Search<'j, 't> {
         if is_broken { Some(part) } else { None }
     }
 
-    /// Whether only constants may stand in this node.
-    fn is_constant_in(self, kind: &str) -> bool {
-        match kind {
-            "OperationDefinition" | "FragmentDefinition" => false,
-            _ => self.is_constant || kind.ends_with("Definition") || kind.ends_with("Extension"),
+    /// The position of what breaks the condition in a node of this kind, without its parts.
+    #[inline(never)]
+    fn at_node(
+        &self,
+        json: AnyJson<'j, 't>,
+        kind: &str,
+        is_constant: bool,
+    ) -> Result<Option<Position>, AllocError> {
+        match self.broken_part(json, kind, is_constant) {
+            Some((name, part)) => self.in_member(Position::of(self.node(part)), json, name),
+            None => Ok(None),
         }
+    }
+
+    /// The same position, told from the node that has it in this member.
+    #[inline(never)]
+    fn in_member(
+        &self,
+        position: Position,
+        json: AnyJson<'j, 't>,
+        name: &str,
+    ) -> Result<Option<Position>, AllocError> {
+        Ok(Some(position.in_member(self.node(json), name)?))
+    }
+
+    /// The same position, told from the array that has it in this item.
+    #[inline(never)]
+    fn in_item(&self, position: Position, index: usize) -> Result<Option<Position>, AllocError> {
+        Ok(Some(position.in_item(self.root.alloc, index)?))
     }
 
     /// The position in this node.
     #[cycle(search)]
-    fn in_node(self) -> Result<Option<Position>, AllocError> {
-        let kind = self.node.kind();
-        if let Some((name, json)) = self.broken_part(kind) {
-            let part = Position::of(JsonNode { json, ..self.node });
-            return Ok(Some(part.in_member(self.node, name)?));
+    fn in_node(
+        &self,
+        json: AnyJson<'j, 't>,
+        is_constant: bool,
+    ) -> Result<Option<Position>, AllocError> {
+        let kind = self.node(json).kind();
+        if let Some(position) = self.at_node(json, kind, is_constant)? {
+            return Ok(Some(position));
         }
-        let is_constant = self.is_constant_in(kind);
+        let is_constant = is_constant_in(kind, is_constant);
         for name in parts_of(kind) {
-            if let Some(json) = member(self.node.json, name) {
-                let node = JsonNode { json, ..self.node };
-                let part = Search {
-                    node,
-                    is_constant,
-                    ..self
-                };
-                if let Some(position) = part.find()? {
-                    return Ok(Some(position.in_member(self.node, name)?));
+            if let Some(part) = member(json, name) {
+                if let Some(position) = self.find(part, is_constant)? {
+                    return self.in_member(position, json, name);
                 }
             }
         }
@@ -180,16 +217,17 @@ impl<'j, 't> Search<'j, 't> {
 
     /// The position in this node, or in the nodes of this array.
     #[cycle(search)]
-    fn find(self) -> Result<Option<Position>, AllocError> {
-        let Some(items) = self.node.json.as_items() else {
-            return self.in_node();
+    fn find(
+        &self,
+        json: AnyJson<'j, 't>,
+        is_constant: bool,
+    ) -> Result<Option<Position>, AllocError> {
+        let Some(items) = json.as_items() else {
+            return self.in_node(json, is_constant);
         };
         for index in 0..items.len() {
-            let json = items.at(index);
-            let node = JsonNode { json, ..self.node };
-            let item = Search { node, ..self };
-            if let Some(position) = item.in_node()? {
-                return Ok(Some(position.in_item(self.node, index)?));
+            if let Some(position) = self.in_node(items.at(index), is_constant)? {
+                return self.in_item(position, index);
             }
         }
         Ok(None)
@@ -202,11 +240,10 @@ pub(crate) fn position_of(
     condition: SideCondition,
 ) -> Result<Position, AllocError> {
     let search = Search {
-        node,
+        root: node,
         condition,
-        is_constant: false,
     };
-    match search.find()? {
+    match search.find(node.json, false)? {
         Some(position) => Ok(position),
         None => Ok(Position::of(node)),
     }

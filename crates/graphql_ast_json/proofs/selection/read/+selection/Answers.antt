@@ -6,14 +6,13 @@ use Rattle.serde_json.specs.View.{items_of}
 use Rattle.parsed_json.specs.AnyJson.{any_data, item_datas}
 use Rattle.graphql_executable.specs.trees.ExecutableTrees.{selection_trees}
 use Rattle.graphql_executable.specs.kinds.InlineFragments.{InlineFragmentTree}
-use Rattle.graphql_executable.specs.kinds.Selections.{SelectionTree}
 use Rattle.graphql_ast_json.specs.code.JsonNodes.{node_data}
 use Rattle.graphql_ast_json.specs.code.Errors.{IsMemory}
 use Rattle.graphql_ast_json.specs.kinds.ExecutableJson.{AreSelections, IsInlineFragment, IsSelection, IsSelectionSet}
 use Rattle.graphql_ast_json.specs.lemmas.Leaves.{IsOfKind}
 use Rattle.graphql_ast_json.proofs.nodes.JsonDepths.{item-depth}
 use Rattle.graphql_ast_json.proofs.nodes.NodeLists.{take_item}
-use Rattle.graphql_ast_json.proofs.general.PassedErrors.{passed}
+use Rattle.graphql_ast_json.proofs.general.PassedErrors.{passed, told, turned}
 use Rattle.graphql_ast_json.proofs.kinds.SelectionJsonByKind.{none_at, only_field, only_inline_fragment, selections_more}
 use Rattle.graphql_ast_json.proofs.selection.read.+selection.Goals as goal
 
@@ -49,39 +48,40 @@ selections-returns-clause-ok t c =
     subst (λ (ds : List Data). AreSelections c.args.node.unknown (selection_trees c.loop-index.selections.items) (items_of ds))
     (take_all c.loop-index.index items (omega (arith, c.len.ensures))) c.loop-index.invariant
 
-pub read_selection-returns-in_err-field-in-Field-clause-err : goal.read_selection-returns-in_err-field-in-Field-clause-err
-read_selection-returns-in_err-field-in-Field-clause-err t c =
-    let json = node_data c.args.node in
-    let kind : IsOfKind (codes "Field") json = c.in_ok-kind.ensures.ok ∙ ap (λ (s : List ℕ). Some (string s)) c.in-Field.is in
-    let none : ¬ IsMemory c.in_err-field-in-Field.field-0.0 → (tree : SelectionTree) → ¬ IsSelection c.args.node.unknown tree json =
-    λ m. only_field c.args.node.unknown json kind (c.in_err-field-in-Field.ensures.err m) in
-    passed _ _ _ none c.from_residual-in_err-field-in-Field.ensures.1
-
-pub read_selection-returns-in_err-fragment-in-InlineFragment-clause-err : goal.read_selection-returns-in_err-fragment-in-InlineFragment-clause-err
-read_selection-returns-in_err-fragment-in-InlineFragment-clause-err t c =
-    let json = node_data c.args.node in
-    let kind : IsOfKind (codes "InlineFragment") json = c.in_ok-kind.ensures.ok ∙ ap (λ (s : List ℕ). Some (string s)) c.in-InlineFragment.is in
-    let none : ¬ IsMemory c.in_err-fragment-in-InlineFragment.field-0.0 → (tree : SelectionTree) → ¬ IsSelection c.args.node.unknown tree json =
-    λ m. only_inline_fragment c.args.node.unknown json kind (c.in_err-fragment-in-InlineFragment.ensures.err m) in
-    passed _ _ _ none c.from_residual-in_err-fragment-in-InlineFragment.ensures.1
-
-pub read_inline_fragment-returns-in_err-required_set-clause-err : goal.read_inline_fragment-returns-in_err-required_set-clause-err
-read_inline_fragment-returns-in_err-required_set-clause-err t c =
-    let json = node_data c.args.node in
-    let none : ¬ IsMemory c.in_err-required_set.field-0.0 → (fragment : InlineFragmentTree) → ¬ IsInlineFragment c.args.node.unknown fragment json =
-    λ m fragment is. c.in_err-required_set.ensures.err m fragment.selections is.2 in
-    passed _ _ _ none c.from_residual-in_err-required_set.ensures.1
-
-pub optional_set-returns-in-Err-clause-err : goal.optional_set-returns-in-Err-clause-err
-optional_set-returns-in-Err-clause-err t c refused set is =
-    c.in-Err.ensures.err (λ m. refused (c.within.ensures.memory m)) set
-    (subst (λ (found : Option Data). MatchOption found (AreSelections c.args.node.unknown set no_items) (IsSelectionSet c.args.node.unknown set))
-    (sym c.in-Some.ensures.value) is)
-
-pub required_set-returns-in-Err-clause-err : goal.required_set-returns-in-Err-clause-err
-required_set-returns-in-Err-clause-err t c refused set is =
-    c.in-Err.ensures.err (λ m. refused (c.within.ensures.memory m)) set
-    (subst (λ (found : Option Data). IsSomeAnd found (IsSelectionSet c.args.node.unknown set)) c.in_ok-json.ensures.ok is)
-
 pub selections-returns-in_err-push-in-Ok-clause-err : goal.selections-returns-in_err-push-in-Ok-clause-err
 selections-returns-in_err-push-in-Ok-clause-err t c = grind (arith, common_steps)
+
+pub read_selection-returns-in-Field-clause-err : goal.read_selection-returns-in-Field-clause-err
+read_selection-returns-in-Field-clause-err t c =
+    let json = node_data c.args.node in
+    let kind : IsOfKind (codes "Field") json = c.in_ok-location.ensures.kind ∙ ap (λ (s : List ℕ). Some (string s)) c.in-Field.is in
+    turned c.field.result _ _ (λ error none m. only_field c.args.node.unknown json kind (none m)) c.field.ensures.err
+
+pub read_selection-returns-in-InlineFragment-clause-err : goal.read_selection-returns-in-InlineFragment-clause-err
+read_selection-returns-in-InlineFragment-clause-err t c =
+    let json = node_data c.args.node in
+    let kind : IsOfKind (codes "InlineFragment") json = c.in_ok-location.ensures.kind ∙ ap (λ (s : List ℕ). Some (string s)) c.in-InlineFragment.is in
+    turned c.inline_fragment.result _ _ (λ error none m. only_inline_fragment c.args.node.unknown json kind (none m)) c.inline_fragment.ensures.err
+
+pub inline_fragment-returns-in_err-selection_set-clause-err : goal.inline_fragment-returns-in_err-selection_set-clause-err
+inline_fragment-returns-in_err-selection_set-clause-err t c =
+    let json = node_data c.args.node in
+    let none : ¬ IsMemory c.in_err-selection_set.field-0.0 → (fragment : InlineFragmentTree) → ¬ IsInlineFragment c.args.node.unknown fragment json =
+    λ m fragment is. c.in_err-selection_set.ensures.err m fragment.selections is.2 in
+    passed _ _ _ none c.from_residual-in_err-selection_set.ensures.1
+
+pub optional_set-returns-in-Some-clause-err : goal.optional_set-returns-in-Some-clause-err
+optional_set-returns-in-Some-clause-err t c =
+    let unknown = c.args.node.unknown in
+    told c.told_within.result c.read_selection_set.result IsMemory _ c.told_within.ensures.err
+    (turned c.read_selection_set.result _ _ (λ error none m set is. none m set
+    (subst (λ (found : Option Data). MatchOption found (AreSelections unknown set no_items) (IsSelectionSet unknown set)) (sym c.in-Some.ensures.value) is))
+    c.read_selection_set.ensures.err)
+
+pub required_set-returns-clause-err : goal.required_set-returns-clause-err
+required_set-returns-clause-err t c =
+    let unknown = c.args.node.unknown in
+    told c.told_within.result c.read_selection_set.result IsMemory _ c.told_within.ensures.err
+    (turned c.read_selection_set.result _ _ (λ error none m set is. none m set
+    (subst (λ (found : Option Data). IsSomeAnd found (IsSelectionSet unknown set)) c.in_ok-json.ensures.ok is))
+    c.read_selection_set.ensures.err)

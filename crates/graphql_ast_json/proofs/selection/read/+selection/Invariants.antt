@@ -10,11 +10,11 @@ use Rattle.graphql_ast_json.proofs.selection.read.+selection.Given as goal
 abbrev pub decreases-read_selection : goal.decreases-read_selection
 decreases-read_selection l = 5 * depth (node_data l.node) + 4
 
-abbrev pub decreases-read_field : goal.decreases-read_field
-decreases-read_field l = 5 * depth (node_data l.node) + 2
+abbrev pub decreases-field : goal.decreases-field
+decreases-field l = 5 * depth (node_data l.node) + 2
 
-abbrev pub decreases-read_inline_fragment : goal.decreases-read_inline_fragment
-decreases-read_inline_fragment l = 5 * depth (node_data l.node) + 2
+abbrev pub decreases-inline_fragment : goal.decreases-inline_fragment
+decreases-inline_fragment l = 5 * depth (node_data l.node) + 2
 
 abbrev pub decreases-optional_set : goal.decreases-optional_set
 decreases-optional_set l = 5 * depth (node_data l.node) + 1

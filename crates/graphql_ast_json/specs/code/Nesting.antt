@@ -1,0 +1,28 @@
+-- What is read of nodes in one another before the nodes that stand in them.
+use Rattle.std.specs.Prelude.{◌≡◌, ℕ, List, Some, codes}
+use Rattle.std.specs.Option.{option_map}
+use Rattle.graphql_text.specs.trees.Leaves.{name_tree}
+use Rattle.graphql_values.specs.trees.DirectiveTrees.{argument_trees, directive_trees}
+use Rattle.graphql_executable.specs.kinds.SelectionHeads.{FieldHeadTree, InlineFragmentHeadTree}
+use Rattle.serde_json.specs.Data.{Data, string}
+use Rattle.graphql_ast_json.specs.declared.read.Unknown.{Unknown}
+use Rattle.graphql_ast_json.specs.declared.selection.read.FieldHead.{FieldHead}
+use Rattle.graphql_ast_json.specs.declared.selection.read.InlineFragmentHead.{InlineFragmentHead}
+use Rattle.graphql_ast_json.specs.nodes.Nodes.{IsLocated, member_of}
+
+-- it tells a kind, and where it stands, if it tells that, is a location
+abbrev pub TellsKind : Unknown → Data → Type 0
+TellsKind unknown json = IsLocated unknown json × ((kind : List ℕ) × (member_of (codes "kind") json ≡ Some (string kind)))
+
+-- what stands before the set of a field
+abbrev pub field_head_tree : FieldHead → FieldHeadTree
+field_head_tree head = record {
+  alias = option_map name_tree head.alias;
+  name = name_tree head.name;
+  arguments = argument_trees head.arguments.items;
+  directives = directive_trees head.directives;
+}
+
+-- what stands before the set of an inline fragment
+abbrev pub inline_fragment_head_tree : InlineFragmentHead → InlineFragmentHeadTree
+inline_fragment_head_tree head = record { type_condition = option_map name_tree head.type_condition; directives = directive_trees head.directives }

@@ -1,0 +1,3 @@
+-- Lemmas of the search for a flaw as it was.
+
+pub mod JsonDepths

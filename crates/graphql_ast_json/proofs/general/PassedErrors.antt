@@ -1,6 +1,6 @@
 -- An error that is passed up by `?`, and a result that is passed on.
 use Rattle.std.proofs.Common.{◌≡◌, Result, Ok, Err, sym, subst}
-use Rattle.std.specs.Result.{IfErr, IfOk, IsErrAnd}
+use Rattle.std.specs.Result.{IfErr, IsErrAnd}
 
 pub passed : {T E : Type 0} (result : Result T E) (inner : E) (P : E → Type 0) → P inner → IsErrAnd result (λ e. e ≡ inner) → IfErr result P
 passed (Ok value) inner P p is = tt
@@ -10,11 +10,6 @@ passed (Err error) inner P p is = subst P (sym is) p
 pub turned : {T E : Type 0} (result : Result T E) (P Q : E → Type 0) → ((error : E) → P error → Q error) → IfErr result P → IfErr result Q
 turned (Ok value) P Q more is = tt
 turned (Err error) P Q more is = more error is
-
--- a value that is passed on as it was read
-pub kept : {T E : Type 0} (result read : Result T E) (P : T → Type 0) → IfOk result (λ value. read ≡ Ok value) → IfOk read P → IfOk result P
-kept {T = T} {E = E} (Ok value) read P same is = subst (λ (r : Result T E). IfOk r P) same is
-kept (Err error) read P same is = tt
 
 -- an error that is told from further out says what the inner one said
 pub told : {T E : Type 0} (result read : Result T E) (IsSilent : E → Type 0) (None : Type 0) →

@@ -1,36 +1,40 @@
-//! Prints what the readings of AST JSON tell of each text in its data.
+//! Prints what the readings of AST JSON tell of each text in the files that are named, and what the calls answer of it.
 //!
-//! The texts were made of documents: members left out, put in, twice, in another order and of another value, lists with more items
-//! and with none, and characters changed. The file `stdout` is what this program told when AST JSON was read from values of
-//! `serde_json` alone, so that a reader that tells something else of one of the texts is found.
+//! The texts were made of documents, values and types: members left out, put in, twice, in another order and of another value, lists
+//! with more items and with none, and characters and bytes changed. The file `stdout` is what this program told when AST JSON was
+//! read from values of `serde_json` alone, so that a reader that tells something else of one of the texts is found.
 #![tactic(auto)]
 
+mod calls;
 mod digest;
+mod escapes;
 
+use crate::calls::{of_all_calls, of_call};
 use crate::digest::digest;
+use crate::escapes::bytes_of;
 use anyhow::Result;
-use graphql_ast::ast::Document;
+use graphql_ast::ast::{DirectiveList, Document, Type, Value as Tree};
 use graphql_ast::span::FileId;
-use graphql_ast_calls::print_json;
 use graphql_ast_json::{
     AstJson, AstJsonError, NodeReader, Unknown, WellFormedError, from_ast_json_str,
     from_well_formed_ast_json_str, read_well_formed_ast_json,
 };
 use serde_json::Value;
 use std::alloc::Global;
-use std::fs;
+use std::env::Env;
+use std::{env, fs};
 
-/// The texts, one a line.
-const FILE: &str = "texts.jsonl";
+/// How most documents begin.
+const DOCUMENT: &str = r#"{"kind":"Document""#;
 
-/// More bytes than a print of one of them has.
+/// More bytes than a print of one of the texts has.
 const ROOM: usize = 20_000;
 
 /// What a reading tells: the digest of the tree's JSON, or the error.
-fn told(alloc: Global, read: Result<Document, AstJsonError>) -> Result<String> {
+fn told<T: AstJson + Drop>(alloc: Global, read: Result<T, AstJsonError>) -> Result<String> {
     Ok(match read {
-        Ok(document) => {
-            let json = document.to_ast_json(alloc)?.to_string(alloc)?;
+        Ok(tree) => {
+            let json = tree.to_ast_json(alloc)?.to_string(alloc)?;
             format!(in alloc; "read {}", digest(json.as_bytes()))?
         }
         Err(error) => format!(in alloc; "{error}")?,
@@ -38,9 +42,12 @@ fn told(alloc: Global, read: Result<Document, AstJsonError>) -> Result<String> {
 }
 
 /// The same of a reading of well-formed trees alone.
-fn told_well_formed(alloc: Global, read: Result<Document, WellFormedError>) -> Result<String> {
+fn told_well_formed<T: AstJson + Drop>(
+    alloc: Global,
+    read: Result<T, WellFormedError>,
+) -> Result<String> {
     match read {
-        Ok(document) => told(alloc, Ok(document)),
+        Ok(tree) => told(alloc, Ok(tree)),
         Err(error) => Ok(format!(in alloc; "{error}")?),
     }
 }
@@ -57,12 +64,30 @@ fn joined(alloc: Global, read: &str, well_formed: &str) -> Result<String> {
 /// What both readings tell of a text.
 fn of_text(alloc: Global, text: &str) -> Result<String> {
     let source = FileId::new(1);
-    let read = told(alloc, from_ast_json_str(alloc, text, source))?;
-    let well_formed = from_well_formed_ast_json_str(alloc, text, source);
+    let read = told::<Document>(alloc, from_ast_json_str(alloc, text, source))?;
+    let well_formed = from_well_formed_ast_json_str::<Document>(alloc, text, source);
     joined(alloc, &read, &told_well_formed(alloc, well_formed)?)
 }
 
-/// What they tell of a value of `serde_json`.
+/// The same of a text that is read as a value.
+fn of_value_text(alloc: Global, text: &str) -> Result<String> {
+    let source = FileId::new(1);
+    let read = told::<Tree>(alloc, from_ast_json_str(alloc, text, source))?;
+    let well_formed = from_well_formed_ast_json_str::<Tree>(alloc, text, source);
+    joined(alloc, &read, &told_well_formed(alloc, well_formed)?)
+}
+
+/// What is told of a text that is read as a type, each of which is well formed.
+fn of_type_text(alloc: Global, text: &str) -> Result<String> {
+    told::<Type>(alloc, from_ast_json_str(alloc, text, FileId::new(1)))
+}
+
+/// What is told of a text that is read as a list of directives.
+fn of_directives_text(alloc: Global, text: &str) -> Result<String> {
+    told::<DirectiveList>(alloc, from_ast_json_str(alloc, text, FileId::new(1)))
+}
+
+/// What both readings tell of a value of `serde_json`.
 fn of_value(alloc: Global, json: &Value, unknown: Unknown) -> Result<String> {
     let source = FileId::new(1);
     let reader = NodeReader {
@@ -72,30 +97,27 @@ fn of_value(alloc: Global, json: &Value, unknown: Unknown) -> Result<String> {
         unknown,
     };
     let read = told(alloc, Document::read_ast_json(reader))?;
-    let well_formed = told_well_formed(alloc, read_well_formed_ast_json(reader))?;
-    joined(alloc, &read, &well_formed)
+    let well_formed = read_well_formed_ast_json::<Document>(reader);
+    joined(alloc, &read, &told_well_formed(alloc, well_formed)?)
 }
 
-/// The status of a call, and the digest of what it wrote.
-fn of_call(alloc: Global, text: &str, pass_over: bool) -> Result<String> {
-    let json = text.as_bytes();
-    let mut out = vec![in alloc; 0u8; ROOM]?;
-    let mut needed = 0usize;
-    let status = print_json(
-        alloc,
-        json,
-        true,
-        b"  ",
-        0,
-        pass_over,
-        &mut out,
-        &mut needed,
-    );
-    let written = out.get(..needed).unwrap_or(b"more");
-    Ok(format!(in alloc; "{} {}", status.code(), digest(written))?)
+/// Prints what is told of a text that is read as a tree of other kinds, unless that is told of it as a document too.
+fn print_others(rt: &HostRuntime, text: &str, told: &str) -> Result<()> {
+    let alloc = rt.alloc();
+    for (name, other) in [
+        ("a value", of_value_text(alloc, text)?),
+        ("a type", of_type_text(alloc, text)?),
+        ("directives", of_directives_text(alloc, text)?),
+    ] {
+        if other.as_str() != told {
+            println!(rt; "  as {name}: {other}")?;
+        }
+    }
+    Ok(())
 }
 
-/// Prints what is told of a text. What is told of the value that it is of is printed only if that is something else.
+/// Prints what is told of a text. What is told of the value that it is of is printed only if that is something else, and what is told of
+/// it as another tree only if it doesn't begin as a document does.
 fn print_told(rt: &HostRuntime, text: &str) -> Result<()> {
     let alloc = rt.alloc();
     let told = of_text(alloc, text)?;
@@ -111,16 +133,35 @@ fn print_told(rt: &HostRuntime, text: &str) -> Result<()> {
             }
         }
     }
-    let refused = of_call(alloc, text, false)?;
-    let passed_over = of_call(alloc, text, true)?;
+    if !text.starts_with(DOCUMENT) {
+        print_others(rt, text, &told)?;
+    }
+    Ok(())
+}
+
+/// Prints what is told of a line, by the help of a buffer.
+fn print_line(rt: &HostRuntime, line: &str, room: &mut [u8]) -> Result<()> {
+    let alloc = rt.alloc();
+    let json = bytes_of(alloc, line)?;
+    match str::from_utf8(&json) {
+        Ok(text) => print_told(rt, text)?,
+        Err(_) => println!(rt; "no text")?,
+    }
+    let refused = of_call(alloc, &json, false, room)?;
+    let passed_over = of_call(alloc, &json, true, room)?;
     println!(rt; "  calls: {refused}, {passed_over}")?;
+    let all = of_all_calls(alloc, &json, room)?;
+    println!(rt; "  all calls: {all}")?;
     Ok(())
 }
 
 fn main(rt: HostRuntime) -> Result<()> {
-    let texts = fs::read_to_string(&rt, FILE)?;
-    for text in texts.as_str().lines() {
-        print_told(&rt, text)?;
+    let mut room = vec![in rt.alloc(); 0u8; ROOM]?;
+    for file in env::args(&rt)?.skip(1) {
+        let texts = fs::read_to_string(&rt, file)?;
+        for line in texts.as_str().lines() {
+            print_line(&rt, line, &mut room)?;
+        }
     }
     Ok(())
 }

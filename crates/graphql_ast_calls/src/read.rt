@@ -1,10 +1,11 @@
 //! The tree that some JSON is of.
-ghost use Rattle.std.specs.Prelude.{◌≡◌, ℕ, List, IfErr, IfOk, IfSome, IsTrue, Some};
+ghost use Rattle.std.specs.Prelude.{◌≡◌, ℕ, List, IfErr, IfOk, IfSome, IsTrue, IsUtf8, MatchOption, None, Some, option_map};
+ghost use Rattle.serde_json.specs.Errors.{IsMemory};
 ghost use Rattle.serde_json.specs.Read.{read};
 ghost use Rattle.serde_json.specs.View.{view};
 ghost use Rattle.graphql_ast_json.specs.code.JsonNodes.{node_data};
 ghost use Rattle.parsed_json.specs.ParsedJson.{parsed_data};
-ghost use Rattle.graphql_ast_calls.specs.Answers.{IsJsonOf, reading};
+ghost use Rattle.graphql_ast_calls.specs.Answers.{IsJsonOf, IsNoJson, reading};
 ghost use Rattle.graphql_ast_calls.specs.Refusals.{IsDataRefusal, IsIllFormedOrMemory, IsNoTreeOrMemory, IsNotJsonOrMemory, IsRefusal, IsTreeRefusal, TellsRefusal};
 
 use crate::message::{put_message, put_out_of_memory};
@@ -57,34 +58,53 @@ fn ill_formed(message: Result<String, AllocError>) -> Refusal
     }
 }
 
-/// The JSON that some bytes are.
-fn read_data(alloc: Global, json: &[u8]) -> Result<Json, Refusal>
+/// The value of `serde_json` that bytes are, which are this text if they are one.
+fn json_of(alloc: Global, json: &[u8], text: Option<&str>) -> Result<Json, serde_json::Error>
+    requires { IfSome text (λ found. found.now ≡ json.now) }
+    ensures ok { IfOk result (λ found. read json.now ≡ Some (view found)) }
+    ensures err { IfErr result (λ error. ¬ IsMemory error → IsNoJson json.now) }
+{
+    match text {
+        Some(text) => Json::from_str(alloc, text),
+        None => Json::from_slice(alloc, json),
+    }
+}
+
+/// The same, or that the bytes are no JSON.
+fn read_data(alloc: Global, json: &[u8], text: Option<&str>) -> Result<Json, Refusal>
+    requires { IfSome text (λ found. found.now ≡ json.now) }
     ensures ok { IfOk result (λ found. read json.now ≡ Some (view found)) }
     ensures err { IfErr result (IsDataRefusal json.now) }
 {
-    match Json::from_slice(alloc, json) {
+    match json_of(alloc, json, text) {
         Ok(json) => Ok(json),
         Err(error) if error.is_memory() => Err(Refusal::Memory),
         Err(error) => Err(not_json(format!(in alloc; "not JSON: {error}"))),
     }
 }
 
-/// The JSON that some bytes are, if they are a text that is parsed.
+/// The text that bytes are, if they are one.
+fn text_of(json: &[u8]) -> Option<&str>
+    ensures { MatchOption result (¬ IsUtf8 json.now) (λ text. text.now ≡ json.now) }
+{
+    match simdutf8::basic::from_utf8(json) {
+        Ok(text) => Some(text),
+        Err(_) => None,
+    }
+}
+
+/// The JSON that a text is, if it is parsed.
 fn parse<'t>(
     alloc: Global,
-    json: &'t [u8],
+    text: &'t str,
     scratch: &'t mut Scratch,
 ) -> Result<Option<Parsed<'t>>, Refusal>
-    ensures ok { IfOk result (λ found.
-        IfSome found (λ value. read json.now ≡ Some (parsed_data value))) }
-    ensures err { IfErr result (IsDataRefusal json.now) }
+    ensures ok { IfOk result (λ found. option_map parsed_data found ≡ read text.now) }
+    ensures err { IfErr result (λ refusal. refusal ≡ Refusal.Memory) }
 {
-    match str::from_utf8(json) {
-        Ok(text) => match parse_json(alloc, text, scratch) {
-            Ok(found) => Ok(found),
-            Err(_) => Err(Refusal::Memory),
-        },
-        Err(_) => Ok(None),
+    match parse_json(alloc, text, scratch) {
+        Ok(found) => Ok(found),
+        Err(_) => Err(Refusal::Memory),
     }
 }
 
@@ -119,6 +139,22 @@ fn tree_of<T: AstJson>(alloc: Global, node: JsonNode<'_, '_>) -> Result<T, Refus
     }
 }
 
+/// The tree that a text is of, if the text is parsed, or why there is none.
+// It has a frame of its own, so that its scratch stands in no other.
+#[inline(never)]
+fn parsed_tree<T: AstJson>(alloc: Global, text: &str, pass_over: bool) -> Result<Option<T>, Refusal>
+    ensures ok { IfOk result (λ found. MatchOption found (read text.now ≡ None) (λ tree.
+        IsJsonOf (T.is_json_of (reading pass_over)) text.now (T.tree tree))) }
+    ensures err { IfErr result (IsRefusal (T.is_json_of (reading pass_over)) text.now) }
+{
+    let mut scratch = Scratch::new(alloc);
+    let Some(value) = parse(alloc, text, &mut scratch)? else {
+        return Ok(None);
+    };
+    let node = JsonNode::parsed(alloc, &value, source(), unknown(pass_over));
+    Ok(Some(tree_of(alloc, node)?))
+}
+
 /// The tree that some JSON is of.
 pub(crate) fn read_tree<T: AstJson>(
     alloc: Global,
@@ -129,14 +165,13 @@ pub(crate) fn read_tree<T: AstJson>(
         IsJsonOf (T.is_json_of (reading pass_over)) json.now (T.tree tree)) }
     ensures err { IfErr result (IsRefusal (T.is_json_of (reading pass_over)) json.now) }
 {
-    let mut scratch = Scratch::new(alloc);
-    if let Some(value) = parse(alloc, json, &mut scratch)? {
-        let node = JsonNode::parsed(alloc, &value, source(), unknown(pass_over));
-        return tree_of(alloc, node);
+    let text = text_of(json);
+    if let Some(text) = text {
+        if let Some(tree) = parsed_tree(alloc, text, pass_over)? {
+            return Ok(tree);
+        }
     }
-    // The second reading has a scratch of its own, which takes the place of this one.
-    drop(scratch);
-    let value = read_data(alloc, json)?;
+    let value = read_data(alloc, json, text)?;
     let node = JsonNode::owned(alloc, &value, source(), unknown(pass_over));
     tree_of(alloc, node)
 }
@@ -167,6 +202,29 @@ fn well_formed_tree_of<T: AstJson + SyntaxTree + Drop>(
     }
 }
 
+/// The tree that a text is of, if the text is parsed and the tree is well formed, or why there is none.
+// It has a frame of its own, so that its scratch stands in no other.
+#[inline(never)]
+fn parsed_well_formed_tree<T: AstJson + SyntaxTree + Drop>(
+    alloc: Global,
+    text: &str,
+    pass_over: bool,
+) -> Result<Option<T>, Refusal>
+    ensures ok { IfOk result (λ found. MatchOption found (read text.now ≡ None) (λ tree.
+        IsJsonOf (T.is_json_of (reading pass_over)) text.now (T.AstJson.tree tree))) }
+    ensures well_formed { IfOk result (λ found. IfSome found (λ tree.
+        IsTrue (T.kind.obeys (T.SyntaxTree.tree tree)))) }
+    ensures err { IfErr result (IsTreeRefusal (T.is_json_of (reading pass_over)) T.AstJson.tree
+        (λ tree. T.kind.obeys (T.SyntaxTree.tree tree)) text.now) }
+{
+    let mut scratch = Scratch::new(alloc);
+    let Some(value) = parse(alloc, text, &mut scratch)? else {
+        return Ok(None);
+    };
+    let node = JsonNode::parsed(alloc, &value, source(), unknown(pass_over));
+    Ok(Some(well_formed_tree_of(alloc, node)?))
+}
+
 /// The tree that some JSON is of, if it is well formed.
 pub(crate) fn read_well_formed_tree<T: AstJson + SyntaxTree + Drop>(
     alloc: Global,
@@ -179,14 +237,13 @@ pub(crate) fn read_well_formed_tree<T: AstJson + SyntaxTree + Drop>(
     ensures err { IfErr result (IsTreeRefusal (T.is_json_of (reading pass_over)) T.AstJson.tree
         (λ tree. T.kind.obeys (T.SyntaxTree.tree tree)) json.now) }
 {
-    let mut scratch = Scratch::new(alloc);
-    if let Some(value) = parse(alloc, json, &mut scratch)? {
-        let node = JsonNode::parsed(alloc, &value, source(), unknown(pass_over));
-        return well_formed_tree_of(alloc, node);
+    let text = text_of(json);
+    if let Some(text) = text {
+        if let Some(tree) = parsed_well_formed_tree(alloc, text, pass_over)? {
+            return Ok(tree);
+        }
     }
-    // The second reading has a scratch of its own, which takes the place of this one.
-    drop(scratch);
-    let value = read_data(alloc, json)?;
+    let value = read_data(alloc, json, text)?;
     let node = JsonNode::owned(alloc, &value, source(), unknown(pass_over));
     well_formed_tree_of(alloc, node)
 }

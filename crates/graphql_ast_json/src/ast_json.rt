@@ -79,7 +79,8 @@ pub trait AstJson: Sized {
     }
 
     /// Whether `read_json` reads parsed JSON as it stands. If not, a text is made a value of `serde_json` at once, for
-    /// `read_ast_json`. The answer changes only the time: a kind with a `read_json` of its own has one of this too.
+    /// `read_ast_json`. The answer changes only what a reading of a text costs, in time and memory: a kind with a
+    /// `read_json` of its own has one of this too.
     fn reads_parsed() -> bool {
         false
     }

@@ -44,7 +44,8 @@ pub struct NodeReader<'j> {
 }
 
 /// JSON that is read, as a rule a node of a syntax tree, in either form: a value of `serde_json`, or one that `parse_json`
-/// made of a text, which is read in a fraction of the time.
+/// made of a text, which is read in a fraction of the time. The scratch of `parse_json` is `Scratch` of the kit's crate
+/// `json`: a program that calls it lists `json` in its line of crates.txt.
 ///
 /// ```
 /// let mut scratch = Scratch::new(alloc);

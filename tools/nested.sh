@@ -4,8 +4,9 @@
 set -eu
 program=$1
 
+# Whether so many levels of a form are read. The shell's word of a program that ended badly is left out.
 reads() {
-    (ulimit -s 8192; ulimit -c 0; exec "$program" "$2" "$1") >/dev/null 2>&1
+    { (ulimit -s 8192; ulimit -c 0; exec "$program" "$2" "$1") >/dev/null; } 2>/dev/null
 }
 
 for form in fields inline_fragments list_types non_null_list_types lists objects flaw; do

@@ -1,6 +1,7 @@
 -- Of OpenJson: what comes of the arrays and objects that are open.
 use Rattle.std.proofs.Common.{◌≡◌, ℕ, zero, suc, ◌-◌, ◌<◌, ◌≤◌, Bool, true, false, ◌&&◌, IsTrue, List, [], ◌∷◌, ◌++◌, length, slice_set, slice_index_or}
-use Rattle.std.proofs.Common.{not, ◌≢◌, Option, Some, None, Result, Ok, Err, IfOk, option_map, option_and_then, if◌then◌else◌, is_some, refl, sym, ap, ◌∙◌, subst, true≢false, arith, append_assoc, append-nil, flat_map}
+use Rattle.std.proofs.Common.{not, ◌≢◌, Option, Some, None, Result, Ok, Err, IfOk, option_map, option_and_then, if◌then◌else◌, is_some}
+use Rattle.std.proofs.Common.{refl, sym, ap, ◌∙◌, subst, true≢false, arith, append_assoc, append-nil, flat_map}
 use Rattle.std.specs.Bool.{MatchBool}
 use Rattle.std.specs.Borrow.{Bor}
 use Rattle.std.specs.declared.alloc.AllocError.{AllocError}
@@ -21,7 +22,8 @@ use Rattle.json.specs.declared.token.Token.TheVariants as tokens
 use Rattle.json.proofs.Printed.Trees.{value-json_tokens}
 use Rattle.serde_json.specs.Data.{Data}
 use Rattle.serde_json.specs.Read.{max_depth, number_of, of_json, read}
-use Rattle.parsed_json.specs.OpenJson.{AreWithin, IsProgress, IsWithin, ended_array, ended_object, HasPlaceFor, innermost_takes_value, member_tokens, name_tokens, open_tokens, read_tokens, so_far, takes_name, takes_value, value_tokens}
+use Rattle.parsed_json.specs.OpenJson.{AreWithin, IsProgress, IsWithin, ended_array, ended_object, HasPlaceFor, innermost_takes_value}
+use Rattle.parsed_json.specs.OpenJson.{member_tokens, name_tokens, open_tokens, read_tokens, so_far, takes_name, takes_value, value_tokens}
 use Rattle.parsed_json.specs.ParsedJson.{NoneWith, leaf_of, parsed_data, has_numbers, items_have_numbers, members_have_numbers}
 use Rattle.parsed_json.specs.declared.parse.Open.{Open}
 use Rattle.parsed_json.specs.declared.parse.Open.TheVariants as opened

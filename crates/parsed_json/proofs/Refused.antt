@@ -5,8 +5,8 @@ use Rattle.std.specs.Borrow.{Bor}
 use Rattle.std.specs.declared.alloc.Global.{Global}
 use Rattle.json.proofs.Grammar.{value-begin_array, value-begin_object}
 use Rattle.json.proofs.Printed.Trees.{value-json_tokens}
-use Rattle.json.specs.Json.{Json, null, boolean, number, string, Items, Members, Parse, array, object, item, member, items, members, value, parse_map, after_end_array}
-use Rattle.json.specs.Json.{if_last, items_step}
+use Rattle.json.specs.Json.{Json, null, boolean, number, string, Items, Members, Parse, array, object, item, member, items, members, value, parse_map}
+use Rattle.json.specs.Json.{after_end_array, if_last, items_step}
 use Rattle.json.specs.Token as spec
 use Rattle.json.specs.Tree.{json_tokens, items_depth, members_depth}
 use Rattle.json.specs.Value.{items_view, members_view, value_view}

@@ -16,6 +16,13 @@ use std::alloc::{AllocError, Global};
 /// How deep arrays and objects of a text may stand in one another, for its JSON to be read.
 const MAX_DEPTH: usize = 127;
 
+/// For a text of so many bytes the scratch takes spare room.
+const LONG: usize = 1 << 17;
+
+/// The spare room. The C library gives the end of its heap back to the system where that is above twice the largest block that was
+/// freed: the scratch and one long text of the tree would be, at each call, and each page of theirs be mapped anew.
+const SPARE: usize = 1 << 18;
+
 /// An array or object that the text has begun and not ended yet.
 #[derive(Drop)]
 enum Open<'t> {
@@ -267,7 +274,7 @@ fn read_token<'t>(
 /// one another more than 127 deep, or a number may be too large. `serde_json`, which reads none of these, tells which.
 ///
 /// Its texts lie in the text, or in the scratch where they have escapes. The scratch takes as much memory as the text has
-/// bytes. `AllocError` where memory is refused.
+/// bytes, and 256 KiB more for a text of 128 KiB and more. `AllocError` where memory is refused.
 #[inline(never)]
 pub fn parse_json<'t>(
     alloc: Global,
@@ -276,6 +283,9 @@ pub fn parse_json<'t>(
 ) -> Result<Option<Parsed<'t>>, AllocError>
     ensures { IfOk result (λ found. option_map parsed_data found ≡ read text.now) }
 {
+    if text.len() >= LONG {
+        scratch.reserve(text.len() + SPARE)?;
+    }
     let mut reader = Reader::new(text, scratch)?;
     let mut opened = Vec::new(alloc);
     while let Some(token) = reader.next() {

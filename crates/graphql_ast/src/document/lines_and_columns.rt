@@ -103,7 +103,13 @@ fn next_position(position: LineColumn, is_behind_return: bool, character: char) 
         else if character == 0xA then position
         else record { line = position.line; column = position.column + 1 }) }
 {
-    if character == '\r' || character == '\n' && !is_behind_return {
+    if character > '\r' {
+        // Most characters are none of those below, and are told by one comparison.
+        LineColumn {
+            line: position.line,
+            column: position.column + 1,
+        }
+    } else if character == '\r' || character == '\n' && !is_behind_return {
         LineColumn {
             line: position.line + 1,
             column: 1,

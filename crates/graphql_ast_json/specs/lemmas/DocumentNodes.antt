@@ -13,9 +13,10 @@ use Rattle.graphql_ast_json.specs.nodes.Nodes.{Each, member_of}
 use Rattle.graphql_ast_json.specs.nodes.OneTree.{IsOfOneTree, JsonLaws, NodeLaws}
 use Rattle.graphql_ast_json.specs.lemmas.DefinitionNodes.{directive_definition_laws}
 use Rattle.graphql_ast_json.specs.lemmas.ExecutableNodes.{fragment_definition_laws, operation_definition_laws}
-use Rattle.graphql_ast_json.specs.lemmas.TypeSystemNodes.{schema_definition_laws, scalar_type_definition_laws, object_type_definition_laws, interface_type_definition_laws}
-use Rattle.graphql_ast_json.specs.lemmas.TypeSystemNodes.{union_type_definition_laws, enum_type_definition_laws, input_object_type_definition_laws, schema_extension_laws}
-use Rattle.graphql_ast_json.specs.lemmas.TypeSystemNodes.{scalar_type_extension_laws, object_type_extension_laws, interface_type_extension_laws, union_type_extension_laws}
+use Rattle.graphql_ast_json.specs.lemmas.TypeSystemNodes.{schema_definition_laws, scalar_type_definition_laws, object_type_definition_laws}
+use Rattle.graphql_ast_json.specs.lemmas.TypeSystemNodes.{interface_type_definition_laws, union_type_definition_laws, enum_type_definition_laws}
+use Rattle.graphql_ast_json.specs.lemmas.TypeSystemNodes.{input_object_type_definition_laws, schema_extension_laws, scalar_type_extension_laws}
+use Rattle.graphql_ast_json.specs.lemmas.TypeSystemNodes.{object_type_extension_laws, interface_type_extension_laws, union_type_extension_laws}
 use Rattle.graphql_ast_json.specs.lemmas.TypeSystemNodes.{enum_type_extension_laws, input_object_type_extension_laws}
 use Rattle.graphql_ast_json.specs.lemmas.Leaves.{IsOfKind, both_some, no_null, same_each, same_string}
 use Rattle.graphql_ast_json.specs.declared.read.Unknown.{Unknown}

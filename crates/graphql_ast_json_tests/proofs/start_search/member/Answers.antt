@@ -7,4 +7,6 @@ use Rattle.graphql_ast_json_tests.proofs.start_search.member.Goals as goal
 pub returns-else-is_null : goal.returns-else-is_null
 returns-else-is_null c =
     let json = view c.args.json.now in
-    record { inside = subst (λ (found : Option Data). IfSome found (λ inner. depth inner < depth json)) (sym c.in-Some.ensures) (get-depth c.args.name.now json) }
+    record {
+      inside = subst (λ (found : Option Data). IfSome found (λ inner. depth inner < depth json)) (sym c.in-Some.ensures)
+        (get-depth c.args.name.now json) }

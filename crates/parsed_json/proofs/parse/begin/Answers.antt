@@ -4,7 +4,8 @@ use Rattle.parsed_json.specs.OpenJson.{AreWithin, innermost_takes_value, open_to
 use Rattle.parsed_json.specs.declared.parse.Open.{Open}
 use Rattle.parsed_json.proofs.OpenJson.{begun, no_open_place, too_deep}
 use Rattle.parsed_json.proofs.parse.begin.Goals as goal
-use Rattle.parsed_json.proofs.parse.begin.Goals.{then-not-innermost_takes_value-via-then-not-innermost_takes_value, then-not-innermost_takes_value-via-else-not-innermost_takes_value+then-len-eq-MAX_DEPTH}
+use Rattle.parsed_json.proofs.parse.begin.Goals.{then-not-innermost_takes_value-via-then-not-innermost_takes_value}
+use Rattle.parsed_json.proofs.parse.begin.Goals.{then-not-innermost_takes_value-via-else-not-innermost_takes_value+then-len-eq-MAX_DEPTH}
 
 pub returns-then-not-innermost_takes_value : goal.returns-then-not-innermost_takes_value
 returns-then-not-innermost_takes_value c =

@@ -24,4 +24,5 @@ returns-in-Some-ended_array c =
     (array_ends _ _ c.in-Some.innermost c.in-Some-ended_array.array c.in-Some.ensures.items c.in-Some-ended_array.ensures) c.add.ensures
 
 pub returns-in-None : goal.returns-in-None
-returns-in-None c = no_array_ends c.args.opened.now.items c.pop.new.self.items c.in-Some.innermost c.in-Some.ensures.items c.requires.open_within c.in-None.ensures
+returns-in-None c =
+    no_array_ends c.args.opened.now.items c.pop.new.self.items c.in-Some.innermost c.in-Some.ensures.items c.requires.open_within c.in-None.ensures

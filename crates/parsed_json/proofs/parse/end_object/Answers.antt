@@ -24,4 +24,5 @@ returns-in-Some-ended_object c =
     (object_ends _ _ c.in-Some.innermost c.in-Some-ended_object.object c.in-Some.ensures.items c.in-Some-ended_object.ensures) c.add.ensures
 
 pub returns-in-None : goal.returns-in-None
-returns-in-None c = no_object_ends c.args.opened.now.items c.pop.new.self.items c.in-Some.innermost c.in-Some.ensures.items c.requires.open_within c.in-None.ensures
+returns-in-None c =
+    no_object_ends c.args.opened.now.items c.pop.new.self.items c.in-Some.innermost c.in-Some.ensures.items c.requires.open_within c.in-None.ensures

@@ -1,7 +1,8 @@
 use Rattle.std.proofs.Common.{◌+◌, false, length, length-append, sym, ap, rules, ◌∙◌, arith}
 use Rattle.std.proofs.lemmas.List.{nil_from_length}
 use Rattle.std.specs.Slice.Iter.{rchunks_rest}
-use Rattle.graphql_ast.proofs.LineEnds.{begins_character, last_bytes, last_bytes_anew, last_bytes_append, last_bytes_behind, last_bytes_on, last_line_bytes, terminators_behind}
+use Rattle.graphql_ast.proofs.LineEnds.{begins_character, last_bytes, last_bytes_anew, last_bytes_append, last_bytes_behind, last_bytes_on}
+use Rattle.graphql_ast.proofs.LineEnds.{last_line_bytes, terminators_behind}
 use Rattle.std.proofs.lemmas.List.Sums.{count_by-le-length}
 use Rattle.graphql_ast.proofs.document.lines_and_columns.last_line_len.Goals as goal
 
@@ -27,7 +28,8 @@ loop-bytes-preserved c =
     let begun = c.characters_begun.ensures in
     let most = count_by-le-length begins_character bytes in
     let sizes = ap length steps.1.0 ∙ length-append rest bytes in
-    (search rules, tt, steps.0 ∙ c.loop-bytes.invariant.2, omega (arith, split, on, begun, c.loop-bytes.invariant.3), omega (arith, sizes, begun, most, c.loop-bytes.invariant.4))
+    (search rules, tt, steps.0 ∙ c.loop-bytes.invariant.2, omega (arith, split, on, begun, c.loop-bytes.invariant.3),
+      omega (arith, sizes, begun, most, c.loop-bytes.invariant.4))
 
 pub returns-clause-count : goal.returns-clause-count
 returns-clause-count c =

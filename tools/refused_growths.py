@@ -5,10 +5,10 @@ answered it, and left what it promises to leave.
     tools/refused_growths.py [--jobs JOBS] [--count] [CRATE..]
 
 A growth is a request for memory. The tests are those whose name has `refused_memory`, or `refusals::` before it; without a name it goes over
-all crates that have some. First it counts the growths of each, by one run of a copy of the crate in which each of these tests goes on with
-growths that have to be granted: `rt try --test --fail-alloc 4000` refuses one of those, and the test tells which. Then `rt try --test
---fail-alloc N` refuses the Nth growth of each test, for each N up to the highest count, which is 172. Each run builds the tests anew, which
-takes half a minute, and JOBS of them go at once. With --count it only counts.
+all crates that have some, JOBS at once. `rt try --test --fail-alloc N` builds the tests of a crate, which takes a minute, and refuses the Nth
+growth of each. So it is run twice, over copies of the crate. In the first each of these tests goes on with growths that have to be granted, a late
+one of which is refused: the test tells which, so its own are counted. In the second there is a test for each growth of each test, which begins with
+growths that are granted, as many as leave that one to be refused. With --count it only counts.
 
 It also compares how often calls ask for memory, by the tests below `growths`, each of which fails where one of its own growths is refused:
 what the test NAME_then_CALL_takes_COUNT asks for has to be COUNT more than what NAME_built asks for.
@@ -28,11 +28,6 @@ from pathlib import Path
 CRATES = Path(__file__).resolve().parent.parent / "crates"
 LATE = 4000
 TEST = re.compile(r"#\[test\]\nfn (\w+)\(rt: HostRuntime\) \{(.*?)\n\}", re.S)
-GOES_ON = """
-    for index in 0..%d {
-        let late = std::string::String::from_str(rt.alloc(), "a text of its own");
-        assert!(rt; late.is_ok(), "late {index}");
-    }""" % (2 * LATE)
 failures = []
 
 
@@ -66,36 +61,51 @@ def tried(folder, refused):
     return found
 
 
-def going_on(text, is_wanted):
-    """The text of a file in which tests go on with growths that have to be granted, wherever they end."""
-    def changed(test):
-        name, body = test[1], test[2].replace("&rt", "rt").replace("rt.alloc()", "alloc")
-        if not is_wanted(name):
-            return test[0]
-        inner = f"fn {name}_itself(rt: &impl std::process::Abort, alloc: std::alloc::Global) {{{body}\n}}\n"
-        return f"{inner}\n#[test]\nfn {name}(rt: HostRuntime) {{\n    {name}_itself(&rt, rt.alloc());{GOES_ON}\n}}"
-    return TEST.sub(changed, text)
-
-
-def growths(crate):
-    """How many growths each test of refused memory has, and each below `growths`."""
+def tried_copy(crate, tests_of, refused):
+    """The same of a copy of the crate, in whose files each test of refused memory, and each below `growths`, is a function, with these tests of it."""
     with tempfile.TemporaryDirectory() as top:
         copy = Path(top) / "crates"
         shutil.copytree(CRATES, copy, ignore=shutil.ignore_patterns("out", "data", "proofs", "must-fail", "planted", "stdout"))
         for name in ["crates.txt", "HANDLES"]:
             shutil.copy(CRATES.parent / name, top)
-        for file in (copy / crate / "src").rglob("*.rt"):
+        source = copy / crate / "src"
+        for file in source.rglob("*.rt"):
             is_whole = {"refusals", "growths"} & {file.stem, *file.parent.parts}
-            text = file.read_text(encoding="utf-8")
-            file.write_text(going_on(text, lambda name, is_whole=is_whole: is_whole or "refused_memory" in name), encoding="utf-8")
-        found = {}
-        for name, (_, said) in tried(copy / crate, LATE).items():
-            late = re.search(r"late ([0-9]+)", said)
-            if late:
-                found[name] = LATE - 1 - int(late[1])
-            elif is_of_refusals(name) or is_of_growths(name):
-                fail(f"{crate}, {name}: its growths aren't counted: {said}")
-        return found
+            room = "::".join(file.relative_to(source).with_suffix("").parts)
+
+            def changed(test, is_whole=is_whole, room=room):
+                name, body = test[1], test[2].replace("&rt", "rt").replace("rt.alloc()", "alloc")
+                if not (is_whole or "refused_memory" in name):
+                    return test[0]
+                inner = f"fn {name}_itself(rt: &impl std::process::Abort, alloc: std::alloc::Global) {{{body}\n}}\n"
+                return inner + "".join(tests_of(f"{room}::{name}", name))
+
+            file.write_text(TEST.sub(changed, file.read_text(encoding="utf-8")), encoding="utf-8")
+        return tried(copy / crate, refused)
+
+
+def growths(crate):
+    """How many growths each test of refused memory has, and each below `growths`."""
+    def goes_on(_, name):
+        yield f"\n#[test]\nfn {name}(rt: HostRuntime) {{\n    {name}_itself(&rt, rt.alloc());{granted(2 * LATE)}\n}}\n"
+
+    found = {}
+    for name, (_, said) in tried_copy(crate, goes_on, LATE).items():
+        last = re.search(r"granted ([0-9]+)", said)
+        if last:
+            found[name] = LATE - 1 - int(last[1])
+        elif is_of_refusals(name) or is_of_growths(name):
+            fail(f"{crate}, {name}: its growths aren't counted: {said}")
+    return found
+
+
+def granted(count):
+    """Statements that ask for memory so many times, and say which request was refused."""
+    return f"""
+    for index in 0..{count} {{
+        let text = std::string::String::from_str(rt.alloc(), "a text of its own");
+        assert!(rt; text.is_ok(), "granted {{index}}");
+    }}"""
 
 
 def check_counts(crate, counts):
@@ -110,13 +120,20 @@ def check_counts(crate, counts):
             fail(f"{crate}, {name}: asks for memory, or doesn't")
 
 
-def check_refused(crate, refused, counts):
-    """Whether each test of refused memory passes with this growth refused, and those below `growths` where they have fewer."""
-    found = tried(CRATES / crate, refused)
+def check_refused(crate, counts):
+    """Whether each test of refused memory passes with each of its growths refused, and fails where it is one below `growths`."""
+    refused = max(counts.values())
+
+    def one_by_one(path, name):
+        for growth in range(1, counts.get(path, 0) + 1):
+            yield f"\n#[test]\nfn {name}_without_{growth}(rt: HostRuntime) {{{granted(refused - growth)}\n    {name}_itself(&rt, rt.alloc());\n}}\n"
+
+    found = tried_copy(crate, one_by_one, refused)
     for name, count in counts.items():
-        passes, said = found.get(name, (False, "not run"))
-        if passes != (is_of_refusals(name) or count < refused):
-            fail(f"{crate}, {name}, growth {refused}: {said or 'passes'}")
+        for growth in range(1, count + 1):
+            passes, said = found.get(f"{name}_without_{growth}", (None, "not run"))
+            if passes is not is_of_refusals(name) or "granted" in said:
+                fail(f"{crate}, {name}, growth {growth}: {said or 'passes'}")
 
 
 def crates_with_some():
@@ -126,25 +143,27 @@ def crates_with_some():
             yield folder.name
 
 
+def check_crate(crate, is_counted):
+    """Checks a crate, and gives the counts of its tests of refused memory."""
+    counts = growths(crate)
+    check_counts(crate, counts)
+    own = [count for name, count in counts.items() if is_of_refusals(name)]
+    if not own:
+        fail(f"{crate}: no test of refused memory")
+    elif not is_counted:
+        check_refused(crate, counts)
+    return own
+
+
 def main():
     arguments = argparse.ArgumentParser(description=__doc__, formatter_class=argparse.RawDescriptionHelpFormatter)
     arguments.add_argument("--jobs", type=int, default=1)
     arguments.add_argument("--count", action="store_true")
     arguments.add_argument("crates", nargs="*")
     given = arguments.parse_args()
-    tests, refused = 0, 0
     with ThreadPoolExecutor(given.jobs) as pool:
-        for crate in given.crates or crates_with_some():
-            counts = growths(crate)
-            check_counts(crate, counts)
-            own = [count for name, count in counts.items() if is_of_refusals(name)]
-            if not own:
-                fail(f"{crate}: no test of refused memory")
-            elif not given.count:
-                list(pool.map(lambda growth, crate=crate, counts=counts: check_refused(crate, growth, counts), range(1, max(own) + 1)))
-            tests += len(own)
-            refused += sum(own)
-    print(f"tests of refused memory: {tests}, growths {'counted' if given.count else 'refused'}: {refused}")
+        counts = [count for own in pool.map(lambda crate: check_crate(crate, given.count), given.crates or crates_with_some()) for count in own]
+    print(f"tests of refused memory: {len(counts)}, growths {'counted' if given.count else 'refused'}: {sum(counts)}")
     sys.exit(1 if failures else 0)
 
 

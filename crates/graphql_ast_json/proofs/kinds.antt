@@ -10,3 +10,5 @@ pub mod SelectionJsonByKind
 pub mod ValueListsWritten
 -- of ToldErrors: the kind of a value is one alone
 pub mod ValueKinds
+-- of ToldValues: the same, and values and fields one by one
+pub mod ToldValueKinds

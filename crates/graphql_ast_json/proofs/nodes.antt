@@ -22,3 +22,5 @@ pub mod JsonDepths
 pub mod NamePlaces
 -- of ToldErrors: what is told where a member is no text
 pub mod ToldTexts
+-- of ToldErrors: what is told of a member, and of the first item that is of no tree
+pub mod ToldMembers

@@ -16,5 +16,7 @@ pub mod NodeReading
 pub mod TypeReading
 -- which error is told of JSON, and where from the node it stands
 pub mod ToldErrors
+-- the same of values, which stand in one another
+pub mod ToldValues
 -- what is read of nodes in one another before the nodes that stand in them
 pub mod Nesting

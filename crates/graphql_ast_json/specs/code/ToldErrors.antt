@@ -20,7 +20,7 @@ use Rattle.graphql_ast_json.specs.declared.error.JsonType.{JsonType}
 use Rattle.graphql_ast_json.specs.declared.error.JsonType.TheVariants.{Array, Boolean, Object, Text}
 use Rattle.graphql_ast_json.specs.declared.error.NodePlace.{NodePlace}
 use Rattle.graphql_ast_json.specs.declared.read.JsonNode.{JsonNode}
-use Rattle.graphql_ast_json.specs.nodes.Nodes.{Each, IsNode, member_of}
+use Rattle.graphql_ast_json.specs.nodes.Nodes.{Each, IsName, IsNode, items_or_none, member_of}
 
 -- the first 60 characters of a text, and whether it has more
 abbrev pub IsExcerptOf : List ℕ → Excerpt → Type 0
@@ -89,6 +89,36 @@ IsToldOfMember node name type error =
 abbrev pub IsToldOfOptional : JsonNode → List ℕ → JsonType → AstJsonError → Type 0
 IsToldOfOptional node name type error = IsSomeAnd (member_of name (node_data node)) (λ json. IsTold node name (IsWrongType json type) error)
 
+-- an error of which this is so, told from the node that has its JSON in the member of this name
+abbrev pub IsToldWithin : JsonNode → List ℕ → (AstJsonError → Type 0) → AstJsonError → Type 0
+IsToldWithin node name Is error = (inner : AstJsonError) × Is inner × IsToldFrom name (IsPlaceOr node) inner error
+
+-- what is told of the member of this name that a node must have, if this is told of its JSON
+abbrev pub IsToldOfMemberBy : (Data → AstJsonError → Type 0) → JsonNode → List ℕ → AstJsonError → Type 0
+IsToldOfMemberBy Told node name error =
+    MatchOption (member_of name (node_data node)) (IsTold node [] (IsWithout name (told_kind (node_data node)) (node_data node)) error)
+    (λ json. IsToldWithin node name (Told json) error)
+
+-- the same of one that may be left out
+abbrev pub IsToldOfOptionalBy : (Data → AstJsonError → Type 0) → JsonNode → List ℕ → AstJsonError → Type 0
+IsToldOfOptionalBy Told node name error = IsSomeAnd (member_of name (node_data node)) (λ json. IsToldWithin node name (Told json) error)
+
+-- what is told of the array that a node must have in the member of this name, if this is told of its items
+abbrev pub IsToldOfListBy : (Items → AstJsonError → Type 0) → JsonNode → List ℕ → AstJsonError → Type 0
+IsToldOfListBy Told node name error =
+    MatchOption (option_and_then as_array (member_of name (node_data node))) (IsToldOfMember node name Array error)
+    (λ items. IsToldWithin node name (Told items) error)
+
+-- the same of one that may be left out
+abbrev pub IsToldOfOptionalListBy : (Items → AstJsonError → Type 0) → JsonNode → List ℕ → AstJsonError → Type 0
+IsToldOfOptionalListBy Told node name error =
+    MatchOption (items_or_none (member_of name (node_data node))) (IsToldOfOptional node name Array error)
+    (λ items. IsToldWithin node name (Told items) error)
+
+-- the JSON is of no tree, whatever is told of it
+abbrev pub IsOfNoTree : {Tree : Type 0} → (Tree → Data → Type 0) → Data → AstJsonError → Type 0
+IsOfNoTree {Tree = Tree} Is json error = (tree : Tree) → ¬ Is tree json
+
 -- the first name that is none of those that are known
 abbrev pub first_unknown : List (List ℕ) → List (List ℕ) → Option (List ℕ)
 first_unknown known [] = None
@@ -132,10 +162,10 @@ abbrev pub IsToldOfBoolean : JsonNode → AstJsonError → Type 0
 IsToldOfBoolean node error =
     IsToldOfNodeOr node (codes "BooleanValue") (codes "value" ∷ []) (IsToldOfMember node (codes "value") Boolean error) error
 
--- what is told of JSON that is no node of a variable, whose name is read by itself
+-- what is told of JSON that is no node of a variable
 abbrev pub IsToldOfVariable : JsonNode → AstJsonError → Type 0
 IsToldOfVariable node error =
-    ¬ IsNode node.unknown (codes "Variable") (codes "name" ∷ []) (node_data node) → IsToldOfNode node (codes "Variable") (codes "name" ∷ []) error
+    IsToldOfNodeOr node (codes "Variable") (codes "name" ∷ []) (IsToldOfMemberBy (IsOfNoTree (IsName node.unknown)) node (codes "name") error) error
 
 -- the kinds of values
 abbrev pub value_kinds : List (List ℕ)
@@ -175,3 +205,7 @@ pub record IsToldOfItem {Tree : Type 0} (Is : Tree → Data → Type 0) (items :
 abbrev pub IsToldOfArray : {Tree : Type 0} → (Tree → Data → Type 0) → JsonNode → AstJsonError → Type 0
 IsToldOfArray Is node error =
     MatchOption (as_array (node_data node)) (IsTold node [] (IsWrongType (node_data node) Array) error) (λ items. IsToldOfItem Is items error)
+
+-- the same, and this is told of that item
+abbrev pub IsToldOfItemBy : {Tree : Type 0} → (Tree → Data → Type 0) → (Data → AstJsonError → Type 0) → Items → AstJsonError → Type 0
+IsToldOfItemBy Is Told items error = (told : IsToldOfItem Is items error) × Told told.json told.inner

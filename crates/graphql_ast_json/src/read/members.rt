@@ -8,7 +8,7 @@ ghost use Rattle.parsed_json.specs.AnyJson.{any_data, items_data};
 ghost use Rattle.graphql_ast_json.specs.code.Errors.{IsMemory};
 ghost use Rattle.graphql_ast_json.specs.code.JsonNodes.{node_data, told_kind};
 ghost use Rattle.graphql_ast_json.specs.code.NodeReading.{IsInFile, IsTextNode, StandsAt, stretch_of};
-ghost use Rattle.graphql_ast_json.specs.code.ToldErrors.{IsPlaceOr, IsTold, IsToldFrom, IsToldOfArray, IsToldOfItem, IsToldOfMember, IsToldOfNodeOr, IsToldOfOptional, IsUnknownKind, IsUnknownMember, IsWithout, IsWrongText, IsWrongType};
+ghost use Rattle.graphql_ast_json.specs.code.ToldErrors.{IsOfNoTree, IsPlaceOr, IsTold, IsToldFrom, IsToldOfArray, IsToldOfItem, IsToldOfListBy, IsToldOfMember, IsToldOfMemberBy, IsToldOfNodeOr, IsToldOfOptional, IsToldOfOptionalBy, IsToldOfOptionalListBy, IsUnknownKind, IsUnknownMember, IsWithout, IsWrongText, IsWrongType};
 ghost use Rattle.graphql_ast_json.specs.declared.error.JsonType.TheVariants.{Array, Boolean, Text};
 ghost use Rattle.graphql_ast_json.specs.kinds.DirectiveJson.{HasDirectives};
 ghost use Rattle.graphql_ast_json.specs.nodes.Nodes.{Each, IsFlag, IsLocated, IsOptional, ListMember, Member, OptionalListMember, items_or_none, member_of, offset_of, stretch_in};
@@ -277,6 +277,9 @@ impl<'j, 't> JsonNode<'j, 't> {
             (F.is_json_of self.entry.unknown (F.tree value))) }
         ensures err { IfErr result (λ error. ¬ IsMemory error → (tree : F.Tree)
             → ¬ Member name.now (node_data self.entry) (F.is_json_of self.entry.unknown tree)) }
+        ensures told { IfErr result (λ error. ¬ IsMemory error
+            → IsToldOfMemberBy (IsOfNoTree (F.is_json_of self.entry.unknown))
+            self.entry name.now error) }
     {
         let json = self.required(name)?;
         match F::read(JsonNode { json, ..self }) {
@@ -292,6 +295,9 @@ impl<'j, 't> JsonNode<'j, 't> {
         ensures err { IfErr result (λ error. ¬ IsMemory error → (tree : Option F.Tree)
             → ¬ IsOptional (F.is_json_of self.entry.unknown) tree
             (member_of name.now (node_data self.entry))) }
+        ensures told { IfErr result (λ error. ¬ IsMemory error
+            → IsToldOfOptionalBy (IsOfNoTree (F.is_json_of self.entry.unknown))
+            self.entry name.now error) }
     {
         match member(self.json, name) {
             None => Ok(None),
@@ -309,6 +315,9 @@ impl<'j, 't> JsonNode<'j, 't> {
         ensures err { IfErr result (λ error. ¬ IsMemory error → (trees : List F.Tree)
             → ¬ ListMember name.now (node_data self.entry)
             (Each (F.is_json_of self.entry.unknown) trees)) }
+        ensures told { IfErr result (λ error. ¬ IsMemory error
+            → IsToldOfListBy (IsToldOfItem (F.is_json_of self.entry.unknown))
+            self.entry name.now error) }
     {
         let items = self.items(name)?;
         match self.trees::<F>(items) {
@@ -324,6 +333,9 @@ impl<'j, 't> JsonNode<'j, 't> {
         ensures err { IfErr result (λ error. ¬ IsMemory error → (trees : List F.Tree)
             → ¬ OptionalListMember name.now (node_data self.entry)
             (Each (F.is_json_of self.entry.unknown) trees)) }
+        ensures told { IfErr result (λ error. ¬ IsMemory error
+            → IsToldOfOptionalListBy (IsToldOfItem (F.is_json_of self.entry.unknown))
+            self.entry name.now error) }
     {
         let items = self.optional_items(name)?;
         match self.trees::<F>(items) {

@@ -11,7 +11,8 @@ ghost use Rattle.parsed_json.specs.AnyJson.{items_data};
 ghost use Rattle.graphql_ast_json.specs.code.Errors.{IsMemory};
 ghost use Rattle.graphql_ast_json.specs.code.JsonNodes.{node_data, IsFromNone, IsReadFrom};
 ghost use Rattle.graphql_ast_json.specs.code.NodeReading.{IsInFile, StandsAt};
-ghost use Rattle.graphql_ast_json.specs.code.ToldErrors.{IsToldOfBoolean, IsToldOfLeaf, IsToldOfText, IsToldOfValue, IsToldOfVariable};
+ghost use Rattle.graphql_ast_json.specs.code.ToldErrors.{IsToldOfBoolean, IsToldOfItemBy, IsToldOfLeaf, IsToldOfText, IsToldOfValue, IsToldOfVariable};
+ghost use Rattle.graphql_ast_json.specs.code.ToldValues.{IsField, IsToldInside, IsToldOfListValue, IsToldOfLocated, IsToldOfNamed, IsToldOfObjectValue, OfValues};
 ghost use Rattle.graphql_ast_json.specs.kinds.ValueJson.{IsValue, AreValues, AreObjectFields, IsNamedValue};
 ghost use Rattle.graphql_ast_json.specs.nodes.Nodes.{IsLocated, member_of};
 
@@ -129,6 +130,8 @@ pub(crate) fn read_value(node: JsonNode<'_, '_>) -> Result<Value, AstJsonError>
     ensures ok { IfOk result (λ value. IsReadFrom IsValue node.entry (value_tree value)) }
     ensures err { IfErr result (λ error. ¬ IsMemory error → IsFromNone IsValue node.entry) }
     ensures told { IfErr result (λ error. ¬ IsMemory error → IsToldOfValue node.entry error) }
+    ensures nested { IfErr result (λ error. ¬ IsMemory error
+        → OfValues (λ Told. Told node.entry error)) }
 {
     let kind = node.text("kind")?;
     match kind {
@@ -146,6 +149,8 @@ fn read_value_node(node: JsonNode<'_, '_>) -> Result<Node<Value>, AstJsonError>
     ensures stands { IfOk result (λ value. StandsAt (node_location value) (node_data node.entry)) }
     ensures file { IfOk result (λ value. IsInFile node.entry.source (node_location value)) }
     ensures err { IfErr result (λ error. ¬ IsMemory error → IsFromNone IsValue node.entry) }
+    ensures told { IfErr result (λ error. ¬ IsMemory error
+        → OfValues (λ Told. IsToldOfLocated Told node.entry error)) }
 {
     let location = node.location()?;
     let value = read_value(node)?;
@@ -160,6 +165,8 @@ fn list_items(node: JsonNode<'_, '_>) -> Result<Vec<Node<Value>>, AstJsonError>
         IsReadFrom IsValue node.entry (list_value (value_trees items.items))) }
     ensures err { IfErr result (λ error. ¬ IsMemory error
         → (items : ValueTrees) → ¬ IsReadFrom IsValue node.entry (list_value items)) }
+    ensures told { IfErr result (λ error. ¬ IsMemory error
+        → OfValues (λ Told. IsToldOfListValue Told node.entry error)) }
 {
     node.check("ListValue", &["values"])?;
     let items = node.items("values")?;
@@ -175,6 +182,9 @@ fn values(node: JsonNode<'_, '_>, items: AnyItems<'_, '_>) -> Result<Vec<Node<Va
         AreValues node.entry.unknown (value_trees values.items) (items_data items.entry)) }
     ensures err { IfErr result (λ error. ¬ IsMemory error
         → (trees : ValueTrees) → ¬ AreValues node.entry.unknown trees (items_data items.entry)) }
+    ensures told { IfErr result (λ error. ¬ IsMemory error
+        → OfValues (λ Told. IsToldOfItemBy (IsValue node.entry.unknown)
+        (IsToldInside Told node.entry) (items_data items.entry) error)) }
 {
     let mut values = Vec::with_capacity(node.alloc, items.len())?;
     for index in 0..items.len() {
@@ -196,6 +206,8 @@ fn object_fields(node: JsonNode<'_, '_>) -> Result<Vec<(Name, Node<Value>)>, Ast
     ensures err { IfErr result (λ error. ¬ IsMemory error
         → (fields : ObjectFieldTrees)
         → ¬ IsReadFrom IsValue node.entry (object_value fields)) }
+    ensures told { IfErr result (λ error. ¬ IsMemory error
+        → OfValues (λ Told. IsToldOfObjectValue Told node.entry error)) }
 {
     node.check("ObjectValue", &["fields"])?;
     let items = node.items("fields")?;
@@ -216,6 +228,10 @@ fn fields(
     ensures err { IfErr result (λ error. ¬ IsMemory error
         → (trees : ObjectFieldTrees) → ¬ AreObjectFields node.entry.unknown trees
         (items_data items.entry)) }
+    ensures told { IfErr result (λ error. ¬ IsMemory error
+        → OfValues (λ Told. IsToldOfItemBy (IsField node.entry.unknown)
+        (IsToldInside (IsToldOfNamed (codes "ObjectField") Told) node.entry)
+        (items_data items.entry) error)) }
 {
     let mut fields = Vec::with_capacity(node.alloc, items.len())?;
     for index in 0..items.len() {
@@ -237,6 +253,9 @@ fn object_field(node: JsonNode<'_, '_>) -> Result<(Name, Node<Value>), AstJsonEr
     ensures err { IfErr result (λ error. ¬ IsMemory error
         → (name : NameText) → (value : ValueTree) → ¬ IsNamedValue node.entry.unknown
         (codes "ObjectField") name (IsValue node.entry.unknown value) (node_data node.entry)) }
+    ensures told { IfErr result (λ error. ¬ IsMemory error
+        → OfValues (λ Told.
+        IsToldOfLocated (IsToldOfNamed (codes "ObjectField") Told) node.entry error)) }
 {
     node.location()?;
     named_value(node, "ObjectField")
@@ -255,6 +274,8 @@ pub(crate) fn named_value(
     ensures err { IfErr result (λ error. ¬ IsMemory error
         → (name : NameText) → (value : ValueTree) → ¬ IsNamedValue node.entry.unknown
         kind.now name (IsValue node.entry.unknown value) (node_data node.entry)) }
+    ensures told { IfErr result (λ error. ¬ IsMemory error
+        → OfValues (λ Told. IsToldOfNamed kind.now Told node.entry error)) }
 {
     node.check(kind, &["name", "value"])?;
     let name = node.member::<Name>("name")?;

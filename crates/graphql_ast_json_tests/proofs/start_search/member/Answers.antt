@@ -9,4 +9,5 @@ returns-else-is_null c =
     let json = view c.args.json.now in
     record {
       inside = subst (λ (found : Option Data). IfSome found (λ inner. depth inner < depth json)) (sym c.in-Some.ensures)
-        (get-depth c.args.name.now json) }
+          (get-depth c.args.name.now json);
+    }

@@ -27,9 +27,13 @@ loop-bytes-preserved c =
     let on = last_bytes_on (last_bytes 0 rest) bytes (omega (arith, counted, c.line_ends.ensures, c.if-line_ends-gt0.false)) in
     let begun = c.characters_begun.ensures in
     let most = count_by-le-length begins_character bytes in
-    let sizes = ap length steps.1.0 ∙ length-append rest bytes in
-    (search rules, tt, steps.0 ∙ c.loop-bytes.invariant.2, omega (arith, split, on, begun, c.loop-bytes.invariant.3),
-      omega (arith, sizes, begun, most, c.loop-bytes.invariant.4))
+    let sizes = ap length steps.1.0 ∙ length-append rest bytes in (
+      search rules,
+      tt,
+      steps.0 ∙ c.loop-bytes.invariant.2,
+      omega (arith, split, on, begun, c.loop-bytes.invariant.3),
+      omega (arith, sizes, begun, most, c.loop-bytes.invariant.4),
+    )
 
 pub returns-clause-count : goal.returns-clause-count
 returns-clause-count c =

@@ -31,5 +31,5 @@ returns-in-Object-value-clause-told c =
     ∙ ap data_of (sym (parsed-Object c.in-Object-value.members)) ∙ ap (λ (v : Value Global). parsed_data v) (sym c.in-Object-value.is)
     ∙ ap any_data (sym c.in-Parsed.is) in
     subst (λ (json : Data). IfErr c.check_parsed_names.result (λ error. (IsMemory error → ⊥)
-      → IsTold c.args.self [] (HasUnknown all c.args.of.now json) error)) is
+    → IsTold c.args.self [] (HasUnknown all c.args.of.now json) error)) is
     c.check_parsed_names.ensures.told

@@ -24,3 +24,5 @@ pub mod NamePlaces
 pub mod ToldTexts
 -- of ToldErrors: what is told of a member, and of the first item that is of no tree
 pub mod ToldMembers
+-- of Nodes: a location whose members are `end` and `start` alone
+pub mod TwoOffsets

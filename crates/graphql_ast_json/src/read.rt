@@ -134,6 +134,25 @@ fn names_alone(
     Ok(names)
 }
 
+/// The offsets, start first, of a location of `serde_json` that has these two members alone: `end` comes first in the order
+/// of names.
+#[tactic(auto, using(crate::proofs::nodes::TwoOffsets::are_offsets))]
+fn owned_offsets(members: &Map<String, Json>) -> Option<(u64, u64)>
+    ensures { IfSome result (λ n. object (members_view members.now.entries)
+        ≡ two_numbers (codes "start") n.0 (codes "end") n.1) }
+{
+    if members.len() != 2 {
+        return None;
+    }
+    let (first, end) = members.first_key_value()?;
+    let (last, start) = members.last_key_value()?;
+    if first.as_str() == "end" && last.as_str() == "start" {
+        Some((start.as_u64()?, end.as_u64()?))
+    } else {
+        None
+    }
+}
+
 /// The type of JSON, for an error.
 #[tactic(auto, using(crate::proofs::nodes::JsonTypes::type_by))]
 pub(crate) fn type_of(json: AnyJson<'_, '_>) -> JsonType
@@ -352,11 +371,17 @@ impl<'j, 't> JsonNode<'j, 't> {
         ensures { IfSome result (λ n. node_data self.entry
             ≡ two_numbers (codes "start") n.0 (codes "end") n.1) }
     {
-        match self.json.two_numbers("start", "end") {
-            Some(offsets) => Some(offsets),
-            None => match self.json.two_numbers("end", "start") {
-                Some((end, start)) => Some((start, end)),
-                None => None,
+        match self.json {
+            AnyJson::Owned(json) => match json {
+                Json::Object(members) => owned_offsets(members),
+                _ => None,
+            },
+            AnyJson::Parsed(_) => match self.json.two_numbers("start", "end") {
+                Some(offsets) => Some(offsets),
+                None => match self.json.two_numbers("end", "start") {
+                    Some((end, start)) => Some((start, end)),
+                    None => None,
+                },
             },
         }
     }

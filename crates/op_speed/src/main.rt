@@ -10,15 +10,19 @@
 //! - `clone`: the document is cloned, and the clone dropped;
 //! - `well_formed`: whether the tree is well formed is found;
 //! - `look_up`: each argument of each directive of a definition is looked up by its name;
-//! - `print`: the tree is printed to a text, in the default layout.
+//! - `print`: the tree is printed to a text, in the default layout;
+//! - `walk`: each node of the tree is visited, and counted.
 //!
 //! It prints a number that a round came to.
 #![tactic(auto)]
+
+ghost use Rattle.std.specs.Prelude.{⊤};
 
 use anyhow::{Context, Result, bail};
 use graphql_ast::ast::{Definition, Document};
 use graphql_ast::span::FileId;
 use graphql_ast_json::{AstJson, from_ast_json_str};
+use graphql_visit::{NodeRef, Reader, read_document};
 use std::alloc::Global;
 use std::env::Env;
 use std::io::{BufReader, Read};
@@ -33,9 +37,10 @@ enum Operation {
     WellFormed,
     LookUp,
     Print,
+    Walk,
 }
 
-const OPERATIONS: [(&str, Operation); 7] = [
+const OPERATIONS: [(&str, Operation); 8] = [
     ("read", Operation::Read),
     ("write", Operation::Write),
     ("equal", Operation::Equal),
@@ -43,6 +48,7 @@ const OPERATIONS: [(&str, Operation); 7] = [
     ("well_formed", Operation::WellFormed),
     ("look_up", Operation::LookUp),
     ("print", Operation::Print),
+    ("walk", Operation::Walk),
 ];
 
 /// The word at an index of the command line, in a buffer.
@@ -98,6 +104,29 @@ fn look_up_all(document: &Document) -> usize {
     found
 }
 
+/// How many nodes came.
+#[derive(Clone, Copy)]
+struct Count {
+    nodes: usize,
+}
+
+impl Reader for Count {
+    type Error = ();
+
+    ghost reads = { λ node old result new. ⊤ };
+
+    fn read(&mut self, _node: NodeRef<'_>) -> Result<(), ()> {
+        self.nodes = self.nodes.wrapping_add(1);
+        Ok(())
+    }
+}
+
+fn nodes(document: &Document) -> usize {
+    let mut count = Count { nodes: 0 };
+    let _ = read_document(document, &mut count);
+    count.nodes
+}
+
 /// One round, and a number that it comes to.
 fn round(
     alloc: Global,
@@ -114,6 +143,7 @@ fn round(
         Operation::WellFormed => Ok(document.is_well_formed() as usize),
         Operation::LookUp => Ok(look_up_all(document)),
         Operation::Print => Ok(document.serialize().to_text(alloc)?.len()),
+        Operation::Walk => Ok(nodes(document)),
     }
 }
 
@@ -131,7 +161,7 @@ fn main(rt: HostRuntime) -> Result<()> {
     let alloc = rt.alloc();
     let (Some(operation), Some(rounds)) = (read_operation(&rt), rounds(&rt)) else {
         bail!(
-            "usage: op_speed read|write|equal|clone|well_formed|look_up|print ROUNDS < DOCUMENT.json"
+            "usage: op_speed read|write|equal|clone|well_formed|look_up|print|walk ROUNDS < DOCUMENT.json"
         );
     };
     let mut text = String::new(alloc);

@@ -11,7 +11,8 @@
 //! - `well_formed`: whether the tree is well formed is found;
 //! - `look_up`: each argument of each directive of a definition is looked up by its name;
 //! - `print`: the tree is printed to a text, in the default layout;
-//! - `walk`: each node of the tree is visited, and counted.
+//! - `walk`: each node of the tree is visited, and counted;
+//! - `rebuild`: the document is rebuilt by a rewriter that changes nothing, since no field has the name that it looks for.
 //!
 //! It prints a number that a round came to.
 #![tactic(auto)]
@@ -20,8 +21,10 @@ ghost use Rattle.std.specs.Prelude.{⊤};
 
 use anyhow::{Context, Result, bail};
 use graphql_ast::ast::{Definition, Document};
+use graphql_ast::name;
 use graphql_ast::span::FileId;
 use graphql_ast_json::{AstJson, from_ast_json_str};
+use graphql_rewrite::rename_fields;
 use graphql_visit::{NodeRef, Reader, read_document};
 use std::alloc::Global;
 use std::env::Env;
@@ -38,9 +41,10 @@ enum Operation {
     LookUp,
     Print,
     Walk,
+    Rebuild,
 }
 
-const OPERATIONS: [(&str, Operation); 8] = [
+const OPERATIONS: [(&str, Operation); 9] = [
     ("read", Operation::Read),
     ("write", Operation::Write),
     ("equal", Operation::Equal),
@@ -49,6 +53,7 @@ const OPERATIONS: [(&str, Operation); 8] = [
     ("look_up", Operation::LookUp),
     ("print", Operation::Print),
     ("walk", Operation::Walk),
+    ("rebuild", Operation::Rebuild),
 ];
 
 /// The word at an index of the command line, in a buffer.
@@ -144,6 +149,9 @@ fn round(
         Operation::LookUp => Ok(look_up_all(document)),
         Operation::Print => Ok(document.serialize().to_text(alloc)?.len()),
         Operation::Walk => Ok(nodes(document)),
+        Operation::Rebuild => Ok(
+            rename_fields(alloc, document, "no_such_field", &name!(a))?.is_some() as usize,
+        ),
     }
 }
 

@@ -1,0 +1,16 @@
+-- Lemmas on trees that are rewritten.
+
+-- of Outcomes: lists that are made item by item
+pub mod Lists
+-- of kinds.Values: what is made of values of the code
+pub mod ValuesMade
+-- of kinds.Executable: what is made of selections of the code
+pub mod SelectionsMade
+-- of kinds.Documents: what is made of a definition of the code
+pub mod DefinitionsMade
+-- of FieldRewritings: sets of the code that get a field
+pub mod FieldsMade
+-- of DirectiveRewritings: directives of the code that are left
+pub mod DirectivesLeft
+-- of VariableRewritings: variables of the code that values take the place of
+pub mod VariablesReplaced

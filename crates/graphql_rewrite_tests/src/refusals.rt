@@ -1,0 +1,48 @@
+//! What is made, or refused: the old document is as it was either way.
+use crate::made::replaced;
+use crate::samples::document;
+use graphql_ast::ast::Document;
+use graphql_ast::name;
+use graphql_rewrite::{
+    Rebuilt, RenameFields, add_field_everywhere, remove_directive, rename_fields, rewrite,
+};
+use std::process::Abort;
+
+/// What was made isn't the old document, and where memory is refused nothing is told of it.
+fn check(rt: &impl Abort, made: Rebuilt<Document>, document: &Document, copy: &Document) {
+    if let Ok(made) = made {
+        assert!(rt; made.expect(rt, "another document") != *copy);
+    }
+    assert!(rt; document == copy);
+}
+
+#[test]
+fn another_document_is_made_or_memory_is_refused(rt: HostRuntime) {
+    let alloc = rt.alloc();
+    if let Ok(document) = document(alloc) {
+        if let Ok(copy) = document.clone() {
+            let renamed = rename_fields(alloc, &document, "a", &name!(c));
+            check(&rt, renamed, &document, &copy);
+            let added = add_field_everywhere(alloc, &document, &name!(id));
+            check(&rt, added, &document, &copy);
+            let removed = remove_directive(alloc, &document, "d");
+            check(&rt, removed, &document, &copy);
+            check(&rt, replaced(alloc, &document), &document, &copy);
+        }
+    }
+}
+
+#[test]
+fn a_document_is_rewritten_or_stays(rt: HostRuntime) {
+    let alloc = rt.alloc();
+    if let Ok(mut document) = document(alloc) {
+        if let Ok(copy) = document.clone() {
+            let rename = RenameFields {
+                from: "a",
+                to: &name!(c),
+            };
+            let answer = rewrite(alloc, &rename, &mut document);
+            assert_eq!(rt; document == copy, answer.is_err());
+        }
+    }
+}

@@ -1,0 +1,24 @@
+//! Cases as they stand on the lines of a file, in JSON.
+use serde::Deserialize;
+use serde_json::Value as Json;
+use std::alloc::Global;
+
+/// A document, and what the rewriters make of it, each in AST JSON.
+#[derive(Drop, Deserialize)]
+#[serde(deny_unknown_fields)]
+pub struct Case {
+    pub document: Json,
+    /// Each field `a` has the name `z`.
+    pub renamed: Json,
+    /// Each selection set has `__typename`.
+    pub added: Json,
+    /// No directive `@a` is left.
+    pub removed: Json,
+    /// 1 stands in the place of `$a`, and `[$a]` in that of `$b`.
+    pub replaced: Json,
+}
+
+/// The case on a line.
+pub fn read_case(alloc: Global, line: &str) -> Result<Case, serde_json::Error> {
+    serde_json::from_str(alloc, line)
+}

@@ -1,0 +1,100 @@
+//! Rewrites the document of each case in the files that the arguments name, and compares what comes with what the case
+//! wants. The same rewriters over `visit` of graphql-js made that (`tools/rewrites.js`).
+#![tactic(auto)]
+
+mod case;
+
+use crate::case::{Case, read_case};
+use anyhow::{Context, Result};
+use graphql_ast::ast::Document;
+use graphql_ast::span::FileId;
+use graphql_ast::{name, value};
+use graphql_ast_json::AstJson;
+use graphql_rewrite::{
+    Rebuilt, add_field_everywhere, remove_directive, rename_fields, replace_variables,
+};
+use serde_json::Value as Json;
+use std::alloc::Global;
+use std::process::ExitCode;
+use std::{env, fs};
+
+fn replaced(alloc: Global, document: &Document) -> Rebuilt<Document> {
+    let values = [
+        (name!(a), value!(in alloc; 1)?),
+        (name!(b), value!(in alloc; [$a])?),
+    ];
+    replace_variables(alloc, document, &values)
+}
+
+/// Whether what was made is what is wanted: nothing where the document is wanted as it is, and else another document.
+fn is_wanted(
+    alloc: Global,
+    document: &Document,
+    made: Option<Document>,
+    wanted: &Json,
+) -> Result<bool> {
+    let wanted = Document::from_ast_json(alloc, wanted, FileId::new(1))?;
+    Ok(match made {
+        Some(made) => made == wanted && made != *document,
+        None => *document == wanted,
+    })
+}
+
+/// The rewriter that made something else than the case wants, if one did.
+fn difference(alloc: Global, case: &Case) -> Result<Option<&'static str>> {
+    let document = Document::from_ast_json(alloc, &case.document, FileId::new(1))?;
+    let made = [
+        (
+            "renamed",
+            &case.renamed,
+            rename_fields(alloc, &document, "a", &name!(z))?,
+        ),
+        (
+            "added",
+            &case.added,
+            add_field_everywhere(alloc, &document, &name!("__typename"))?,
+        ),
+        (
+            "removed",
+            &case.removed,
+            remove_directive(alloc, &document, "a")?,
+        ),
+        ("replaced", &case.replaced, replaced(alloc, &document)?),
+    ];
+    for (what, wanted, made) in made {
+        if !is_wanted(alloc, &document, made, wanted)? {
+            return Ok(Some(what));
+        }
+    }
+    Ok(None)
+}
+
+/// Compares the cases in a file, prints what differs, and counts.
+fn differing(rt: &HostRuntime, file: &str) -> Result<u64> {
+    let alloc = rt.alloc();
+    let text = fs::read_to_string(rt, file).context(format_args!("{file}"))?;
+    let (mut cases, mut different) = (0u64, 0u64);
+    for line in text.as_str().lines() {
+        cases = cases.saturating_add(1);
+        let case = read_case(alloc, line)?;
+        let found = difference(alloc, &case).context(format_args!("{file}, line {cases}"))?;
+        if let Some(what) = found {
+            different = different.saturating_add(1);
+            println!(rt; "{file}, line {cases}: {what}")?;
+        }
+    }
+    println!(rt; "{file}: {cases} documents, {different} differ")?;
+    Ok(different)
+}
+
+fn main(rt: HostRuntime) -> Result<ExitCode> {
+    let mut different = 0u64;
+    for file in env::args(&rt)?.skip(1) {
+        different = different.saturating_add(differing(&rt, file.as_str())?);
+    }
+    Ok(if different == 0 {
+        ExitCode::SUCCESS
+    } else {
+        ExitCode::FAILURE
+    })
+}

@@ -1,0 +1,65 @@
+#!/usr/bin/env node
+// Makes cases of the program rewrites: what the same rewriting over `visit` of graphql-js makes of documents.
+//
+//   tools/rewrites.js              of each line of standard input, a document in AST JSON
+//   tools/rewrites.js SEED COUNT   of so many documents that are made at random
+//
+// It needs graphql-js 16: `npm install graphql`, or Debian's package node-graphql with NODE_PATH=/usr/share/nodejs.
+const { visit } = require("graphql");
+const { documents } = require("./random_documents.js");
+
+const named = (value) => ({ kind: "Name", value });
+
+// each field `a` gets the name `z`
+const renamed = (document) =>
+  visit(document, {
+    Field: { leave: (field) => (field.name.value === "a" ? { ...field, name: named("z") } : undefined) },
+  });
+
+// `__typename` at the end of each set that has a selection, unless the response speaks of one of its fields by that name
+function added(document) {
+  const isThere = (selection) => selection.kind === "Field" && (selection.alias ?? selection.name).value === "__typename";
+  return visit(document, {
+    SelectionSet: {
+      leave: ({ selections }) =>
+        selections.length && !selections.some(isThere)
+          ? { kind: "SelectionSet", selections: [...selections, { kind: "Field", name: named("__typename"), arguments: [], directives: [] }] }
+          : undefined,
+    },
+  });
+}
+
+// no directive `@a`
+const removed = (document) => visit(document, { Directive: { leave: (directive) => (directive.name.value === "a" ? null : undefined) } });
+
+// 1 in the place of `$a`, and `[$a]` in that of `$b`
+function replaced(document) {
+  const values = {
+    a: { kind: "IntValue", value: "1" },
+    b: { kind: "ListValue", values: [{ kind: "Variable", name: named("a") }] },
+  };
+  return visit(document, {
+    Variable: { leave: (variable, key) => (key === "variable" ? undefined : values[variable.name.value]) },
+  });
+}
+
+const wanted = (document) => ({
+  document,
+  renamed: renamed(document),
+  added: added(document),
+  removed: removed(document),
+  replaced: replaced(document),
+});
+
+function main() {
+  const [seed, count] = process.argv.slice(2);
+  if (seed !== undefined) {
+    for (const document of documents(seed, count)) console.log(JSON.stringify(wanted(document)));
+    return;
+  }
+  for (const line of require("fs").readFileSync(0, "utf8").split("\n")) {
+    if (line) console.log(JSON.stringify(wanted(JSON.parse(line))));
+  }
+}
+
+main();

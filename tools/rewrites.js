@@ -5,7 +5,7 @@
 //   tools/rewrites.js SEED COUNT   of so many documents that are made at random
 //
 // It needs graphql-js 16: `npm install graphql`, or Debian's package node-graphql with NODE_PATH=/usr/share/nodejs.
-const { visit } = require("graphql");
+const { concatAST, visit } = require("graphql");
 const { documents } = require("./random_documents.js");
 
 const named = (value) => ({ kind: "Name", value });
@@ -43,12 +43,26 @@ function replaced(document) {
   });
 }
 
+// by kind, and within a kind by name
+const KINDS = ["OperationDefinition", "FragmentDefinition", "SchemaDefinition", "ScalarTypeDefinition", "ObjectTypeDefinition", "InterfaceTypeDefinition",
+  "UnionTypeDefinition", "EnumTypeDefinition", "InputObjectTypeDefinition", "DirectiveDefinition", "SchemaExtension", "ScalarTypeExtension", "ObjectTypeExtension",
+  "InterfaceTypeExtension", "UnionTypeExtension", "EnumTypeExtension", "InputObjectTypeExtension"];
+
+function sorted(document) {
+  const place = ({ kind }) => KINDS.indexOf(kind);
+  const name = (definition) => definition.name?.value ?? "";
+  const compare = (a, b) => place(a) - place(b) || (name(a) < name(b) ? -1 : Number(name(a) > name(b)));
+  return { kind: "Document", definitions: [...document.definitions].sort(compare) };
+}
+
 const wanted = (document) => ({
   document,
   renamed: renamed(document),
   added: added(document),
   removed: removed(document),
   replaced: replaced(document),
+  sorted: sorted(document),
+  joined: concatAST([document, sorted(document)]),
 });
 
 function main() {

@@ -8,6 +8,10 @@ pub mod ValuesMade
 pub mod SelectionsMade
 -- of kinds.Documents: what is made of a definition of the code
 pub mod DefinitionsMade
+-- of Concatenations: definitions one behind another
+pub mod Concatenated
+-- of DefinitionOrder: what is sorted by it
+pub mod DefinitionsSorted
 -- of FieldRewritings: sets of the code that get a field
 pub mod FieldsMade
 -- of DirectiveRewritings: directives of the code that are left

@@ -6,6 +6,10 @@ pub mod Outcomes
 pub mod Rewritings
 -- the tree that is made of a tree, kind by kind
 pub mod kinds
+-- the sources of documents one behind another
+pub mod Concatenations
+-- the order of definitions
+pub mod DefinitionOrder
 -- fields that get another name, and sets that get one field more
 pub mod FieldRewritings
 -- directives that are left out

@@ -6,8 +6,10 @@
 //! - `Rebuild`: what may be rebuilt, each type of nodes; `rebuild_node`, `rebuild_nodes`.
 //! - Ready: `add_field_everywhere`, `rename_fields`, `remove_directive`, `replace_variables`, and their rewriters `AddField`,
 //!   `RenameFields`, `RemoveDirective`, `ReplaceVariables`.
+//! - Of whole documents: `concat`, `sort_definitions`.
 #![tactic(auto)]
 
+mod concatenation;
 mod directives;
 mod documents;
 mod executable;
@@ -16,13 +18,16 @@ mod parts;
 mod rebuild;
 mod rewriter;
 mod shared_lists;
+mod sorting;
 mod type_system;
 mod values;
 mod variables;
 
+pub use crate::concatenation::concat;
 pub use crate::directives::{RemoveDirective, remove_directive};
 pub use crate::documents::rebuild_document;
 pub use crate::fields::{AddField, RenameFields, add_field_everywhere, rename_fields};
 pub use crate::rebuild::{Rebuild, rebuild_node, rebuild_nodes, rewrite};
 pub use crate::rewriter::{Rebuilt, Rewriter};
+pub use crate::sorting::sort_definitions;
 pub use crate::variables::{ReplaceVariables, replace_variables};

@@ -14,3 +14,5 @@ mod made;
 mod refusals;
 #[cfg(test)]
 mod samples;
+#[cfg(test)]
+mod whole;

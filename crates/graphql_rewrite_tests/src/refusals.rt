@@ -1,10 +1,12 @@
 //! What is made, or refused: the old document is as it was either way.
 use crate::made::replaced;
 use crate::samples::document;
+use crate::whole::types;
 use graphql_ast::ast::Document;
 use graphql_ast::name;
 use graphql_rewrite::{
-    Rebuilt, RenameFields, add_field_everywhere, remove_directive, rename_fields, rewrite,
+    Rebuilt, RenameFields, add_field_everywhere, concat, remove_directive, rename_fields, rewrite,
+    sort_definitions,
 };
 use std::process::Abort;
 
@@ -28,6 +30,19 @@ fn another_document_is_made_or_memory_is_refused(rt: HostRuntime) {
             let removed = remove_directive(alloc, &document, "d");
             check(&rt, removed, &document, &copy);
             check(&rt, replaced(alloc, &document), &document, &copy);
+        }
+    }
+}
+
+#[test]
+fn documents_are_joined_and_sorted_or_memory_is_refused(rt: HostRuntime) {
+    let alloc = rt.alloc();
+    if let Ok(first) = types(alloc) {
+        if let Ok(documents) = vec![in alloc; first] {
+            if let Ok(mut all) = concat(alloc, documents) {
+                assert_eq!(rt; all.definitions.len(), 4);
+                assert!(rt; sort_definitions(&mut all).is_ok());
+            }
         }
     }
 }

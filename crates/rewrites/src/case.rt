@@ -3,7 +3,7 @@ use serde::Deserialize;
 use serde_json::Value as Json;
 use std::alloc::Global;
 
-/// A document, and what the rewriters make of it, each in AST JSON.
+/// A document, and what is made of it, each in AST JSON.
 #[derive(Drop, Deserialize)]
 #[serde(deny_unknown_fields)]
 pub struct Case {
@@ -16,6 +16,10 @@ pub struct Case {
     pub removed: Json,
     /// 1 stands in the place of `$a`, and `[$a]` in that of `$b`.
     pub replaced: Json,
+    /// The definitions stand in order of kind and name.
+    pub sorted: Json,
+    /// The document, and behind it the same in order.
+    pub joined: Json,
 }
 
 /// The case on a line.

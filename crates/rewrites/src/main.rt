@@ -11,7 +11,8 @@ use graphql_ast::span::FileId;
 use graphql_ast::{name, value};
 use graphql_ast_json::AstJson;
 use graphql_rewrite::{
-    Rebuilt, add_field_everywhere, remove_directive, rename_fields, replace_variables,
+    Rebuilt, add_field_everywhere, concat, remove_directive, rename_fields, replace_variables,
+    sort_definitions,
 };
 use serde_json::Value as Json;
 use std::alloc::Global;
@@ -40,6 +41,19 @@ fn is_wanted(
     })
 }
 
+/// The document with its definitions in order.
+fn sorted(document: &Document) -> Result<Document> {
+    let mut sorted = document.clone()?;
+    sort_definitions(&mut sorted)?;
+    Ok(sorted)
+}
+
+/// The document, and behind it the same in order.
+fn joined(alloc: Global, document: &Document) -> Result<Document> {
+    let documents = vec![in alloc; document.clone()?, sorted(document)?]?;
+    Ok(concat(alloc, documents)?)
+}
+
 /// The rewriter that made something else than the case wants, if one did.
 fn difference(alloc: Global, case: &Case) -> Result<Option<&'static str>> {
     let document = Document::from_ast_json(alloc, &case.document, FileId::new(1))?;
@@ -63,6 +77,15 @@ fn difference(alloc: Global, case: &Case) -> Result<Option<&'static str>> {
     ];
     for (what, wanted, made) in made {
         if !is_wanted(alloc, &document, made, wanted)? {
+            return Ok(Some(what));
+        }
+    }
+    let whole = [
+        ("sorted", &case.sorted, sorted(&document)?),
+        ("joined", &case.joined, joined(alloc, &document)?),
+    ];
+    for (what, wanted, made) in whole {
+        if made != Document::from_ast_json(alloc, wanted, FileId::new(1))? {
             return Ok(Some(what));
         }
     }

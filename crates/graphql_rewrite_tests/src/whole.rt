@@ -1,0 +1,68 @@
+//! What is made of whole documents.
+use crate::made::check_text;
+use graphql_ast::ast::{Document, ObjectTypeDefinition, ScalarTypeDefinition, SourceFile};
+use graphql_ast::name;
+use graphql_ast::span::FileId;
+use graphql_rewrite::{concat, sort_definitions};
+use std::alloc::{AllocError, Global};
+use std::process::Abort;
+
+/// `type B scalar B type A scalar A`
+pub(crate) fn types(alloc: Global) -> Result<Document, AllocError> {
+    let mut document = Document::new(alloc);
+    document.push(alloc, ObjectTypeDefinition::new(alloc, name!(B)))?;
+    document.push(alloc, ScalarTypeDefinition::new(alloc, name!(B)))?;
+    document.push(alloc, ObjectTypeDefinition::new(alloc, name!(A)))?;
+    document.push(alloc, ScalarTypeDefinition::new(alloc, name!(A)))?;
+    Ok(document)
+}
+
+#[test]
+fn definitions_are_sorted_by_kind_and_name(rt: HostRuntime) {
+    let alloc = rt.alloc();
+    let mut document = types(alloc).expect(&rt, "memory");
+    assert!(rt; sort_definitions(&mut document).is_ok());
+    check_text(&rt, alloc, &document, "scalar A scalar B type A type B");
+    let mut empty = Document::new(alloc);
+    assert!(rt; sort_definitions(&mut empty).is_ok());
+    assert!(rt; empty.definitions.is_empty());
+}
+
+/// A document without definitions, of a file of this text.
+fn of_file(alloc: Global, id: u64, text: &str) -> Result<Document, AllocError> {
+    let file = SourceFile {
+        path: String::from_str(alloc, "path")?,
+        text: String::from_str(alloc, text)?,
+    };
+    let mut document = Document::new(alloc);
+    document.sources.insert(FileId::new(id), file)?;
+    Ok(document)
+}
+
+fn check_file(rt: &impl Abort, document: &Document, id: u64, wanted: &str) {
+    let file = document.sources.get(&FileId::new(id)).expect(rt, "a file");
+    assert_eq!(rt; file.text.as_str(), wanted);
+}
+
+fn joined(alloc: Global) -> Result<Document, AllocError> {
+    let documents = vec![in alloc;
+        types(alloc)?,
+        of_file(alloc, 3, "old")?,
+        of_file(alloc, 4, "other")?,
+        of_file(alloc, 3, "new")?,
+        types(alloc)?,
+    ]?;
+    concat(alloc, documents)
+}
+
+#[test]
+fn documents_are_joined_with_their_sources(rt: HostRuntime) {
+    let alloc = rt.alloc();
+    let all = joined(alloc).expect(&rt, "memory");
+    let twice = "type B scalar B type A scalar A type B scalar B type A scalar A";
+    check_text(&rt, alloc, &all, twice);
+    check_file(&rt, &all, 3, "new");
+    check_file(&rt, &all, 4, "other");
+    let none = concat(alloc, Vec::new(alloc)).expect(&rt, "memory");
+    assert!(rt; none.definitions.is_empty());
+}

@@ -5,7 +5,7 @@
 //   tools/rewrites.js SEED COUNT   of so many documents that are made at random
 //
 // It needs graphql-js 16: `npm install graphql`, or Debian's package node-graphql with NODE_PATH=/usr/share/nodejs.
-const { concatAST, visit } = require("graphql");
+const { concatAST, separateOperations, visit } = require("graphql");
 const { documents } = require("./random_documents.js");
 
 const named = (value) => ({ kind: "Name", value });
@@ -55,7 +55,33 @@ function sorted(document) {
   return { kind: "Document", definitions: [...document.definitions].sort(compare) };
 }
 
-const wanted = (document) => ({
+// The executable definitions of the last documents, of fragments with one name the first.
+const last = [];
+function executable(document) {
+  last.push(document);
+  if (last.length > 8) last.shift();
+  const names = new Set();
+  const isNew = ({ name }) => !names.has(name.value) && names.add(name.value);
+  const definitions = last.flatMap((one) => one.definitions);
+  return {
+    kind: "Document",
+    definitions: definitions.filter((one) => one.kind === "OperationDefinition" || (one.kind === "FragmentDefinition" && isNew(one))),
+  };
+}
+
+// a document for each operation: one after another, since graphql-js keeps the last of those with one name
+function separated(document) {
+  const isOperation = ({ kind }) => kind === "OperationDefinition";
+  const alone = (operation) => ({ kind: "Document", definitions: document.definitions.filter((one) => !isOperation(one) || one === operation) });
+  return document.definitions.filter(isOperation).flatMap((operation) => Object.values(separateOperations(alone(operation))));
+}
+
+function wanted(document) {
+  const together = executable(document);
+  return { ...rewritten(document), executable: together, separated: separated(together) };
+}
+
+const rewritten = (document) => ({
   document,
   renamed: renamed(document),
   added: added(document),

@@ -1,6 +1,8 @@
 //! A rewriter of one's own: in one pass each field `user` becomes `account`, each selection set asks for `__typename`, and
-//! each `@client` goes. Its contract says that nothing else changes.
+//! each `@client` goes. Its contract says that nothing else changes. Then aliases go, by a recursion of one's own.
 #![tactic(auto)]
+
+mod recursion;
 
 ghost use Rattle.std.specs.Prelude.{codes};
 ghost use Rattle.graphql_ast.specs.Leaves.{name_tree};
@@ -8,6 +10,7 @@ ghost use Rattle.graphql_rewrite.specs.DirectiveRewritings.{without_directive};
 ghost use Rattle.graphql_rewrite.specs.FieldRewritings.{renamed_field, with_field_once};
 ghost use Rattle.graphql_rewrite.specs.Rewritings.{unchanged};
 
+use crate::recursion::{clear_document, without_aliases};
 use anyhow::Result;
 use graphql_ast::ast::{
     Argument, Directive, Document, Field, OperationDefinition, OperationType, Selection, Value,
@@ -61,10 +64,13 @@ impl Rewriter for Tidy {
     }
 }
 
-/// `user(id: $id) @client { name }`
+/// `me: user(id: $id) @client { name }`
 fn user(alloc: Global) -> Result<Selection, AllocError> {
     let id = Node::new(alloc, value!(in alloc; $id)?)?;
-    let mut user = Field::new(alloc, name!(user));
+    let mut user = Field {
+        alias: Some(name!(me)),
+        ..Field::new(alloc, name!(user))
+    };
     user.arguments
         .push(Argument::new_node(alloc, name!(id), id)?)?;
     let client = Node::new(alloc, Directive::new(alloc, name!(client)))?;
@@ -74,7 +80,7 @@ fn user(alloc: Global) -> Result<Selection, AllocError> {
     Selection::field(alloc, user)
 }
 
-/// `query ($id: ID!) { user(id: $id) @client { name } }`
+/// `query($id: ID!) { me: user(id: $id) @client { name } }`
 fn query(alloc: Global) -> Result<Document, AllocError> {
     let id = VariableDefinition::new(alloc, name!(id), Node::new(alloc, ty!(ID!))?);
     let query = OperationDefinition {
@@ -97,7 +103,15 @@ fn main(rt: HostRuntime) -> Result<()> {
     print!(rt; "{document}")?;
     match rebuild_document(alloc, &tidy, &document)? {
         Some(made) => print!(rt; "{made}")?,
-        None => print!(rt; "nothing to change")?,
+        None => println!(rt; "nothing to change")?,
+    }
+    let mut second = document.clone()?;
+    clear_document(&mut second)?;
+    print!(rt; "{second}")?;
+    let user = user(alloc)?;
+    let made = without_aliases(alloc, vec![in alloc; user]?.as_slice())?;
+    if let Some(Selection::Field(field)) = made.first() {
+        println!(rt; "{field}")?;
     }
     Ok(())
 }

@@ -20,6 +20,10 @@ pub struct Case {
     pub sorted: Json,
     /// The document, and behind it the same in order.
     pub joined: Json,
+    /// Another document, of operations and fragments.
+    pub executable: Json,
+    /// Each operation of it with the fragments that it reaches.
+    pub separated: Vec<Json>,
 }
 
 /// The case on a line.

@@ -10,6 +10,7 @@ use graphql_ast::ast::Document;
 use graphql_ast::span::FileId;
 use graphql_ast::{name, value};
 use graphql_ast_json::AstJson;
+use graphql_operations::{fragments_reached, separate_operations};
 use graphql_rewrite::{
     Rebuilt, add_field_everywhere, concat, remove_directive, rename_fields, replace_variables,
     sort_definitions,
@@ -54,6 +55,33 @@ fn joined(alloc: Global, document: &Document) -> Result<Document> {
     Ok(concat(alloc, documents)?)
 }
 
+/// Whether the fragments that an operation reaches are those that stand beside it in its own document.
+fn is_reached(alloc: Global, document: &Document, alone: &Document) -> Result<bool> {
+    for definition in &alone.definitions {
+        if definition.as_operation_definition().is_some() {
+            let found = fragments_reached(alloc, document, definition)?;
+            return Ok(found.len().saturating_add(1) == alone.definitions.len());
+        }
+    }
+    Ok(false)
+}
+
+/// Whether the operations are separated as the case wants.
+fn are_separated(alloc: Global, case: &Case) -> Result<bool> {
+    let document = Document::from_ast_json(alloc, &case.executable, FileId::new(1))?;
+    let documents = separate_operations(alloc, &document)?;
+    if documents.len() != case.separated.len() {
+        return Ok(false);
+    }
+    for (alone, wanted) in documents.iter().zip(case.separated.iter()) {
+        let wanted = Document::from_ast_json(alloc, wanted, FileId::new(1))?;
+        if *alone != wanted || !is_reached(alloc, &document, alone)? {
+            return Ok(false);
+        }
+    }
+    Ok(true)
+}
+
 /// The rewriter that made something else than the case wants, if one did.
 fn difference(alloc: Global, case: &Case) -> Result<Option<&'static str>> {
     let document = Document::from_ast_json(alloc, &case.document, FileId::new(1))?;
@@ -89,7 +117,11 @@ fn difference(alloc: Global, case: &Case) -> Result<Option<&'static str>> {
             return Ok(Some(what));
         }
     }
-    Ok(None)
+    Ok(if are_separated(alloc, case)? {
+        None
+    } else {
+        Some("separated")
+    })
 }
 
 /// Compares the cases in a file, prints what differs, and counts.

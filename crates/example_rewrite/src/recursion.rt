@@ -77,10 +77,14 @@ fn clear_definition(definition: &mut Definition) -> Result<(), AllocError> {
     }
 }
 
-/// Takes the aliases of operations away.
-pub fn clear_document(document: &mut Document) -> Result<(), AllocError> {
-    for index in 0..document.definitions.len() {
-        clear_definition(&mut document.definitions[index])?;
+fn clear_definitions(definitions: &mut [Definition]) -> Result<(), AllocError> {
+    for index in 0..definitions.len() {
+        clear_definition(&mut definitions[index])?;
     }
     Ok(())
+}
+
+/// Takes the aliases of operations away.
+pub fn clear_document(document: &mut Document) -> Result<(), AllocError> {
+    clear_definitions(&mut document.definitions)
 }

@@ -1,5 +1,6 @@
 -- Of Names and Fragments: which names are in lists, and what is reached from lists of the same names.
-use Rattle.std.proofs.Common.{◌≡◌, ℕ, zero, suc, ◌+◌, ◌-◌, ◌<◌, ◌≤◌, Bool, true, false, List, [], ◌∷◌, ◌++◌, length, get_or, take, Option, Some, None, Result, Ok, Err, IfOk, refl, ap, ap₂, sym, ◌∙◌, subst, append-nil, arith}
+use Rattle.std.proofs.Common.{◌≡◌, ℕ, zero, suc, ◌+◌, ◌-◌, ◌<◌, ◌≤◌, Bool, true, false, List, [], ◌∷◌, ◌++◌, length, get_or, take, Option, Some, None, Result}
+use Rattle.std.proofs.Common.{Ok, Err, IfOk, refl, ap, ap₂, sym, ◌∙◌, subst, append-nil, arith}
 use Rattle.std.specs.Prelude.{◌||◌, cond, filter, nat_eq}
 use Rattle.std.specs.Cmp.Lexicographic.{pointwise, same_text}
 use Rattle.std.specs.List.{flat_map, list_any}
@@ -178,7 +179,8 @@ module _ (names : List NameText) (definitions : List Definition) where
       ∙ same_behind (name_trees all) (names ++ front) (last names) so_far name
       ∙ ap (λ l. is_one_of l name) (append_assoc names front (last names) ∙ ap (λ l. names ++ l) (sym (found_more i x below is)))
 
-  pub all_found : (i : ℕ) (all : List Name) → length definitions ≤ i → IsFoundUpTo i all → AreSame (name_trees all) (further (definition_trees definitions) names)
+  pub all_found : (i : ℕ) (all : List Name) → length definitions ≤ i → IsFoundUpTo i all →
+      AreSame (name_trees all) (further (definition_trees definitions) names)
   all_found i all past so_far name = so_far name ∙ ap (λ l. is_one_of (names ++ found names (definition_trees l)) name) (take_all i definitions past)
 
   pub found_none : (all : List Name) → names ≡ name_trees all → IsFoundUpTo 0 all

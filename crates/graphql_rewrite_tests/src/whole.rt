@@ -1,9 +1,10 @@
 //! What is made of whole documents.
 use crate::made::check_text;
+use crate::samples::document;
 use graphql_ast::ast::{Document, ObjectTypeDefinition, ScalarTypeDefinition, SourceFile};
 use graphql_ast::name;
 use graphql_ast::span::FileId;
-use graphql_rewrite::{concat, sort_definitions};
+use graphql_rewrite::{concat, rename_fields, sort_definitions};
 use std::alloc::{AllocError, Global};
 use std::process::Abort;
 
@@ -28,15 +29,25 @@ fn definitions_are_sorted_by_kind_and_name(rt: HostRuntime) {
     assert!(rt; empty.definitions.is_empty());
 }
 
-/// A document without definitions, of a file of this text.
-fn of_file(alloc: Global, id: u64, text: &str) -> Result<Document, AllocError> {
+/// A document that has a file of this text too.
+fn with_file(
+    alloc: Global,
+    document: Document,
+    id: u64,
+    text: &str,
+) -> Result<Document, AllocError> {
     let file = SourceFile {
         path: String::from_str(alloc, "path")?,
         text: String::from_str(alloc, text)?,
     };
-    let mut document = Document::new(alloc);
+    let mut document = document;
     document.sources.insert(FileId::new(id), file)?;
     Ok(document)
+}
+
+/// A document without definitions, of a file of this text.
+fn of_file(alloc: Global, id: u64, text: &str) -> Result<Document, AllocError> {
+    with_file(alloc, Document::new(alloc), id, text)
 }
 
 fn check_file(rt: &impl Abort, document: &Document, id: u64, wanted: &str) {
@@ -65,4 +76,16 @@ fn documents_are_joined_with_their_sources(rt: HostRuntime) {
     check_file(&rt, &all, 4, "other");
     let none = concat(alloc, Vec::new(alloc)).expect(&rt, "memory");
     assert!(rt; none.definitions.is_empty());
+}
+
+/// A document that is rewritten, of a file.
+fn rewritten(alloc: Global) -> Result<Option<Document>, AllocError> {
+    let old = with_file(alloc, document(alloc)?, 3, "text")?;
+    rename_fields(alloc, &old, "a", &name!(c))
+}
+
+#[test]
+fn what_is_made_has_the_sources(rt: HostRuntime) {
+    let made = rewritten(rt.alloc()).expect(&rt, "memory");
+    check_file(&rt, &made.expect(&rt, "another document"), 3, "text");
 }

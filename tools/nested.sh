@@ -1,15 +1,15 @@
 #!/usr/bin/env bash
-# How many nodes in one another are read with a stack of 8 MiB. For each form, the greatest number of levels with which the
+# How many nodes in one another are read, and rewritten, with a stack of 8 MiB. For each form, the greatest number of levels with which the
 # program that the first argument names, crates/nested_json/out/nested_json of some checkout, ends well.
 set -eu
 program=$1
 
-# Whether so many levels of a form are read. The shell's word of a program that ended badly is left out.
+# Whether so many levels of a form are read or rewritten. The shell's word of a program that ended badly is left out.
 reads() {
     { (ulimit -s 8192; ulimit -c 0; exec "$program" "$2" "$1") >/dev/null; } 2>/dev/null
 }
 
-for form in fields inline_fragments list_types non_null_list_types lists objects flaw; do
+for form in fields inline_fragments list_types non_null_list_types lists objects flaw renamed_fields replaced_variables; do
     read=1
     refused=2
     while reads "$form" "$refused"; do

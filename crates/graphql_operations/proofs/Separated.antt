@@ -1,17 +1,19 @@
 -- Of Operations: each operation between the fragments that it reaches.
-use Rattle.std.proofs.Common.{◌≡◌, ℕ, suc, ◌+◌, ◌<◌, ◌≤◌, List, [], ◌∷◌, ◌++◌, length, get_or, take, drop, map, refl, ap, ap₂, sym, ◌∙◌, add-one, append-nil}
-use Rattle.std.proofs.Common.{drop-cons}
+use Rattle.std.proofs.Common.{◌≡◌, ℕ, ◌+◌, ◌<◌, ◌≤◌, List, [], ◌∷◌, ◌++◌, length, get_or, take, drop, map, refl, ap, ap₂, sym, ◌∙◌, append-nil}
 use Rattle.std.proofs.Math.ListN.{drop_of_length-le}
 use Rattle.std.specs.Prelude.{cond, filter}
 use Rattle.std.proofs.lemmas.List.{append_assoc, map-append, take_more}
 use Rattle.graphql_text.specs.lexical.Literals.{NameText}
 use Rattle.graphql_ast.specs.AstTrees.{definition_tree, definition_trees, document_tree}
 use Rattle.graphql_ast.specs.Definitions.{DefinitionTree}
+use Rattle.graphql_ast.specs.Sources.{document_sources}
+use Rattle.graphql_base.specs.declared.span.FileId.{FileId}
 use Rattle.graphql_ast.specs.declared.definition.Definition.{Definition}
 use Rattle.graphql_ast.specs.declared.document.Document.{Document}
+use Rattle.graphql_visit.proofs.Steps.{drop_at}
 use Rattle.graphql_operations.specs.Fragments.{is_fragment_of, reached_from, spreads_within}
 use Rattle.graphql_operations.specs.Names.{AreSame}
-use Rattle.graphql_operations.specs.Operations.{between, is_operation, separated, separated_behind}
+use Rattle.graphql_operations.specs.Operations.{HaveSources, between, is_operation, separated, separated_behind}
 use Rattle.graphql_operations.proofs.Reached.{fragments_same}
 
 pub between_is : (definitions first more before all : List Definition) (operation : Definition) (names : List NameText) →
@@ -51,7 +53,7 @@ module _ (definitions : List Definition) where
       ∙ map-append definition_tree (take i definitions) (x ∷ []))
       ∙ append_assoc (map document_tree made) one (separated_behind all (first ++ definition_tree x ∷ []) rest)
       ∙ ap (λ l. map document_tree made ++ separated_behind all first (definition_trees l))
-      (sym (drop-cons definitions i x below ∙ ap (λ y. y ∷ drop (suc i) definitions) (sym is) ∙ ap (λ k. x ∷ drop k definitions) (sym (add-one i))))
+      (sym (drop_at definitions i x below is))
       ∙ so_far
 
   pub all_separated : (i : ℕ) (made : List Document) → length definitions ≤ i → IsSeparatedUpTo i made →
@@ -64,5 +66,14 @@ module _ (definitions : List Definition) where
 
   pub none_separated : IsSeparatedUpTo 0 []
   none_separated = refl
+
+module _ (sources : List (FileId × (List ℕ × List ℕ))) where
+  pub sources_more : (documents : List Document) (made : Document) → document_sources made ≡ sources → HaveSources sources documents →
+      HaveSources sources (documents ++ made ∷ [])
+  sources_more documents made is so =
+      map-append document_sources documents (made ∷ []) ∙ ap₂ (λ l x. l ++ x ∷ []) so is ∙ sym (map-append (λ _. sources) documents (made ∷ []))
+
+  pub no_sources : HaveSources sources []
+  no_sources = refl
 
 pub ruleset separated_steps = (separated_on, all_separated, none_separated)

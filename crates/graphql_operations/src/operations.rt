@@ -1,11 +1,13 @@
 //! Operations, each with the fragments that it reaches.
 ghost use Rattle.std.specs.Prelude.{◌≡◌, ◌+◌, ◌<◌, ◌++◌, ◌∷◌, [], IfOk, cond, drop, length, map, take};
 ghost use Rattle.graphql_ast.specs.AstTrees.{definition_tree, definition_trees, document_tree};
-ghost use Rattle.graphql_operations.specs.Operations.{between, is_operation, separated};
+ghost use Rattle.graphql_ast.specs.Sources.{document_sources};
+ghost use Rattle.graphql_operations.specs.Operations.{HaveSources, between, is_operation, separated};
 
 use crate::fragments::{reached_from, with_definition, with_fragments};
 use crate::spreads::fragment_spreads;
 use graphql_ast::ast::{Definition, Document};
+use graphql_rewrite::with_definitions;
 use std::alloc::{AllocError, Global};
 
 /// The definitions behind one.
@@ -44,6 +46,7 @@ fn is_operation(definition: &Definition) -> bool
 }
 
 /// Adds the document of a definition, if it is an operation.
+#[tactic(auto, using(crate::proofs::Separated::sources_more))]
 fn with_operation(
     alloc: Global,
     documents: Vec<Document>,
@@ -52,21 +55,21 @@ fn with_operation(
     definition: &Definition,
 ) -> Result<Vec<Document>, AllocError>
     requires { index < length document.now.definitions.items }
-    ensures { IfOk result (λ more. map document_tree more.items
+    ensures trees { IfOk result (λ more. map document_tree more.items
         ≡ map document_tree documents.items
         ++ cond (is_operation (definition_tree definition.now).name)
         (between (document_tree document.now)
         (definition_trees (take index document.now.definitions.items))
         (definition_tree definition.now)
         (definition_trees (drop (index + 1) document.now.definitions.items)) ∷ []) []) }
+    ensures sources { IfOk result (λ more.
+        HaveSources (document_sources document.now) documents.items →
+        HaveSources (document_sources document.now) more.items) }
 {
     let mut documents = documents;
     if is_operation(definition) {
         let definitions = between(alloc, &document.definitions, index, definition)?;
-        documents.push(Document {
-            sources: document.sources.clone()?,
-            definitions,
-        })?;
+        documents.push(with_definitions(document, definitions)?)?;
     }
     Ok(documents)
 }
@@ -77,10 +80,12 @@ fn with_operation(
 /// ```
 /// for document in separate_operations(alloc, &document)? { .. }
 /// ```
-#[tactic(auto, using(crate::proofs::Separated::separated_steps))]
+#[tactic(auto, using(crate::proofs::Separated::separated_steps, crate::proofs::Separated::no_sources))]
 pub fn separate_operations(alloc: Global, document: &Document) -> Result<Vec<Document>, AllocError>
-    ensures { IfOk result (λ documents. map document_tree documents.items
+    ensures trees { IfOk result (λ documents. map document_tree documents.items
         ≡ separated (document_tree document.now)) }
+    ensures sources { IfOk result (λ documents.
+        HaveSources (document_sources document.now) documents.items) }
 {
     let mut documents = Vec::new(alloc);
     for (index, definition) in document.definitions.iter().enumerate() {

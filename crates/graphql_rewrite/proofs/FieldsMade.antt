@@ -1,6 +1,6 @@
 -- Of FieldRewritings: what a set of the code has, and the set that gets a field.
-use Rattle.std.proofs.Common.{◌≡◌, ℕ, suc, ◌+◌, ◌<◌, ◌≤◌, true, false, List, [], ◌∷◌, ◌++◌, length, get_or, drop, Option, Some, None, refl, ap, sym}
-use Rattle.std.proofs.Common.{◌∙◌, add-one, drop-cons}
+use Rattle.std.proofs.Common.{◌≡◌, ℕ, ◌+◌, ◌<◌, ◌≤◌, true, false, List, [], ◌∷◌, ◌++◌, length, get_or, drop, Option, Some, None, refl, ap, sym}
+use Rattle.std.proofs.Common.{◌∙◌}
 use Rattle.std.proofs.Math.ListN.{drop_of_length-le}
 use Rattle.std.specs.Prelude.{◌||◌, if◌then◌else◌, nat_eq, unwrap_or}
 use Rattle.std.specs.Option.{option_map}
@@ -22,6 +22,7 @@ use Rattle.graphql_executable.specs.kinds.Selections.{field_selection, no_select
 use Rattle.graphql_values.specs.trees.DirectiveTrees.{argument_trees, directive_node_trees}
 use Rattle.graphql_executable.specs.trees.ExecutableTrees.{field_tree, selection_tree, selection_trees}
 use Rattle.graphql_executable.proofs.layout.SelectionShapes.{field_is, selection_is_field, selection_is_inline, selection_is_spread}
+use Rattle.graphql_visit.proofs.Steps.{drop_at}
 use Rattle.graphql_rewrite.specs.FieldRewritings.{has_response, is_text, plain_head, responds_as, with_field, with_field_once}
 
 -- A FIELD OF WHICH THE RESPONSE SPEAKS BY THAT NAME
@@ -57,8 +58,7 @@ module _ (text : List ℕ) (selections : List Selection) where
       has_response text (selection_trees (drop i selections))
       ≡ (responds_as text (selection_tree x) || has_response text (selection_trees (drop (i + 1) selections)))
   at i x below is =
-      ap (λ l. has_response text (selection_trees l))
-      (drop-cons selections i x below ∙ ap (λ y. y ∷ drop (suc i) selections) (sym is) ∙ ap (λ k. x ∷ drop k selections) (sym (add-one i)))
+      ap (λ l. has_response text (selection_trees l)) (drop_at selections i x below is)
 
   pub goes_on : (i : ℕ) (x : Selection) → i < length selections → x ≡ get_or selections i x → responds_as text (selection_tree x) ≡ false →
       IsLeft i → IsLeft (i + 1)

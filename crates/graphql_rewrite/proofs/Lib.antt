@@ -8,6 +8,8 @@ pub mod ValuesMade
 pub mod SelectionsMade
 -- of kinds.Documents: what is made of a definition of the code
 pub mod DefinitionsMade
+-- of Sources: clones of sources
+pub mod SourcesCloned
 -- of Concatenations: definitions one behind another
 pub mod Concatenated
 -- of DefinitionOrder: what is sorted by it
@@ -18,3 +20,7 @@ pub mod FieldsMade
 pub mod DirectivesLeft
 -- of VariableRewritings: variables of the code that values take the place of
 pub mod VariablesReplaced
+-- of SideConditions: what is made of each kind
+pub mod SideConditionsKept
+-- of SideConditions: what the ready rewritings keep
+pub mod ReadyKept

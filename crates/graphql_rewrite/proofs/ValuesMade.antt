@@ -36,6 +36,10 @@ fields_are : (fields : List (Name × Node Value)) → object_field_trees fields 
 fields_are [] = refl
 fields_are (field ∷ fields) = ap (more_fields (object_field_tree field).0 (object_field_tree field).1) (fields_are fields)
 
+-- a function that keeps the tree which a value of the code comes to
+pub stays_at : (f : ValueTree → ValueTree) (v : Value) (tree : ValueTree) → value_tree v ≡ tree → f tree ≡ tree → f (value_tree v) ≡ value_tree v
+stays_at f v tree is same = ap f is ∙ same ∙ sym is
+
 module _ (f : Rewriting) where
   each_value : (trees : List ValueTree) → values_of (map (rewritten_value f) trees) ≡ rewritten_values f (values_of trees)
   each_value [] = refl
@@ -93,20 +97,13 @@ module _ (f : Rewriting) where
   leaf_at : (inside : Value-F Value) → ((items : Vec (Node Value) Global) → roll-Value inside ≡ value.List items → ⊥) →
       ((fields : Vec (Name × Node Value) Global) → roll-Value inside ≡ value.Object fields → ⊥) →
       rewritten_within f (value_tree (roll-Value inside)) ≡ value_tree (roll-Value inside)
-  leaf_at Value-F.Null list object =
-      ap (rewritten_within f) (fold-roll-Value ValueTree value_tree_step Value-F.Null) ∙ sym (fold-roll-Value ValueTree value_tree_step Value-F.Null)
-  leaf_at (Value-F.Enum name) list object =
-      let tree = fold-roll-Value ValueTree value_tree_step (Value-F.Enum name) in ap (rewritten_within f) tree ∙ sym tree
-  leaf_at (Value-F.Variable name) list object =
-      let tree = fold-roll-Value ValueTree value_tree_step (Value-F.Variable name) in ap (rewritten_within f) tree ∙ sym tree
-  leaf_at (Value-F.String string) list object =
-      let tree = fold-roll-Value ValueTree value_tree_step (Value-F.String string) in ap (rewritten_within f) tree ∙ sym tree
-  leaf_at (Value-F.Float float) list object =
-      let tree = fold-roll-Value ValueTree value_tree_step (Value-F.Float float) in ap (rewritten_within f) tree ∙ sym tree
-  leaf_at (Value-F.Int int) list object =
-      let tree = fold-roll-Value ValueTree value_tree_step (Value-F.Int int) in ap (rewritten_within f) tree ∙ sym tree
-  leaf_at (Value-F.Boolean boolean) list object =
-      let tree = fold-roll-Value ValueTree value_tree_step (Value-F.Boolean boolean) in ap (rewritten_within f) tree ∙ sym tree
+  leaf_at Value-F.Null list object = stays_at (rewritten_within f) _ _ (fold-roll-Value ValueTree value_tree_step Value-F.Null) refl
+  leaf_at (Value-F.Enum name) list object = stays_at (rewritten_within f) _ _ (fold-roll-Value ValueTree value_tree_step (Value-F.Enum name)) refl
+  leaf_at (Value-F.Variable name) list object = stays_at (rewritten_within f) _ _ (fold-roll-Value ValueTree value_tree_step (Value-F.Variable name)) refl
+  leaf_at (Value-F.String string) list object = stays_at (rewritten_within f) _ _ (fold-roll-Value ValueTree value_tree_step (Value-F.String string)) refl
+  leaf_at (Value-F.Float float) list object = stays_at (rewritten_within f) _ _ (fold-roll-Value ValueTree value_tree_step (Value-F.Float float)) refl
+  leaf_at (Value-F.Int int) list object = stays_at (rewritten_within f) _ _ (fold-roll-Value ValueTree value_tree_step (Value-F.Int int)) refl
+  leaf_at (Value-F.Boolean boolean) list object = stays_at (rewritten_within f) _ _ (fold-roll-Value ValueTree value_tree_step (Value-F.Boolean boolean)) refl
   leaf_at (Value-F.List items) list object = absurd (list items (rolls-List items))
   leaf_at (Value-F.Object fields) list object = absurd (object fields (rolls-Object fields))
 

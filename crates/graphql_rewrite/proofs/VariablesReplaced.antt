@@ -1,5 +1,5 @@
 -- Of VariableRewritings: variables of the code that values take the place of.
-use Rattle.std.proofs.Common.{◌≡◌, ℕ, suc, ◌+◌, ◌<◌, ◌≤◌, true, false, List, ◌∷◌, length, get_or, drop, map, Some, None, ap, sym, ◌∙◌, add-one, drop-cons}
+use Rattle.std.proofs.Common.{◌≡◌, ℕ, ◌+◌, ◌<◌, ◌≤◌, true, false, List, ◌∷◌, length, get_or, drop, map, Some, None, refl, ap, sym, ◌∙◌}
 use Rattle.std.proofs.Math.ListN.{drop_of_length-le}
 use Rattle.std.specs.Prelude.{if◌then◌else◌, nat_eq, unwrap_or}
 use Rattle.std.specs.Cmp.Lexicographic.{pointwise}
@@ -12,7 +12,9 @@ use Rattle.graphql_values.specs.declared.value.Value.TheVariants.{rolls-Variable
 use Rattle.graphql_values.specs.declared.value.Value as value
 use Rattle.graphql_values.specs.kinds.Values.{ValueTree, variable}
 use Rattle.graphql_values.specs.trees.ValueTrees.{value_tree, value_tree_step}
+use Rattle.graphql_visit.proofs.Steps.{drop_at}
 use Rattle.graphql_rewrite.specs.VariableRewritings.{replaced_variable, value_named}
+use Rattle.graphql_rewrite.proofs.ValuesMade.{stays_at}
 
 abbrev named_tree : Name × Value → NameText × ValueTree
 named_tree named = (name_tree named.0, value_tree named.1)
@@ -29,8 +31,7 @@ module _ (name : Name) (values : List (Name × Value)) where
       ≡ (if pointwise nat_eq (name_text x.0) (name_text name) then Some (value_tree x.1)
       else value_named (name_tree name) (map named_tree (drop (i + 1) values)))
   at i x below is =
-      ap (λ l. value_named (name_tree name) (map named_tree l))
-      (drop-cons values i x below ∙ ap (λ y. y ∷ drop (suc i) values) (sym is) ∙ ap (λ k. x ∷ drop k values) (sym (add-one i)))
+      ap (λ l. value_named (name_tree name) (map named_tree l)) (drop_at values i x below is)
 
   pub goes_on : (i : ℕ) (x : Name × Value) → i < length values → x ≡ get_or values i x →
       pointwise nat_eq (name_text x.0) (name_text name) ≡ false → IsLeft i → IsLeft (i + 1)
@@ -68,22 +69,15 @@ module _ (values : List (NameText × ValueTree)) where
 
   other_at : (inside : Value-F Value) → ((name : Name) → roll-Value inside ≡ value.Variable name → ⊥) →
       replaced_variable values (value_tree (roll-Value inside)) ≡ value_tree (roll-Value inside)
-  other_at Value-F.Null other = let tree = fold-roll-Value ValueTree value_tree_step Value-F.Null in ap (replaced_variable values) tree ∙ sym tree
-  other_at (Value-F.Enum name) other =
-      let tree = fold-roll-Value ValueTree value_tree_step (Value-F.Enum name) in ap (replaced_variable values) tree ∙ sym tree
+  other_at Value-F.Null other = stays_at (replaced_variable values) _ _ (fold-roll-Value ValueTree value_tree_step Value-F.Null) refl
+  other_at (Value-F.Enum name) other = stays_at (replaced_variable values) _ _ (fold-roll-Value ValueTree value_tree_step (Value-F.Enum name)) refl
   other_at (Value-F.Variable name) other = absurd (other name (rolls-Variable name))
-  other_at (Value-F.String string) other =
-      let tree = fold-roll-Value ValueTree value_tree_step (Value-F.String string) in ap (replaced_variable values) tree ∙ sym tree
-  other_at (Value-F.Float float) other =
-      let tree = fold-roll-Value ValueTree value_tree_step (Value-F.Float float) in ap (replaced_variable values) tree ∙ sym tree
-  other_at (Value-F.Int int) other =
-      let tree = fold-roll-Value ValueTree value_tree_step (Value-F.Int int) in ap (replaced_variable values) tree ∙ sym tree
-  other_at (Value-F.Boolean boolean) other =
-      let tree = fold-roll-Value ValueTree value_tree_step (Value-F.Boolean boolean) in ap (replaced_variable values) tree ∙ sym tree
-  other_at (Value-F.List items) other =
-      let tree = fold-roll-Value ValueTree value_tree_step (Value-F.List items) in ap (replaced_variable values) tree ∙ sym tree
-  other_at (Value-F.Object fields) other =
-      let tree = fold-roll-Value ValueTree value_tree_step (Value-F.Object fields) in ap (replaced_variable values) tree ∙ sym tree
+  other_at (Value-F.String string) other = stays_at (replaced_variable values) _ _ (fold-roll-Value ValueTree value_tree_step (Value-F.String string)) refl
+  other_at (Value-F.Float float) other = stays_at (replaced_variable values) _ _ (fold-roll-Value ValueTree value_tree_step (Value-F.Float float)) refl
+  other_at (Value-F.Int int) other = stays_at (replaced_variable values) _ _ (fold-roll-Value ValueTree value_tree_step (Value-F.Int int)) refl
+  other_at (Value-F.Boolean boolean) other = stays_at (replaced_variable values) _ _ (fold-roll-Value ValueTree value_tree_step (Value-F.Boolean boolean)) refl
+  other_at (Value-F.List items) other = stays_at (replaced_variable values) _ _ (fold-roll-Value ValueTree value_tree_step (Value-F.List items)) refl
+  other_at (Value-F.Object fields) other = stays_at (replaced_variable values) _ _ (fold-roll-Value ValueTree value_tree_step (Value-F.Object fields)) refl
 
   pub other_stays : (v : Value) → ((name : Name) → v ≡ value.Variable name → ⊥) → value_tree v ≡ replaced_variable values (value_tree v)
   other_stays v other =

@@ -2,6 +2,8 @@
 
 -- what a call comes to that makes another tree, or nothing
 pub mod Outcomes
+-- what no rewriting changes
+pub mod Kept
 -- what is made of each part of a tree
 pub mod Rewritings
 -- the tree that is made of a tree, kind by kind
@@ -16,3 +18,5 @@ pub mod FieldRewritings
 pub mod DirectiveRewritings
 -- variables that values take the place of
 pub mod VariableRewritings
+-- rewritings that keep the side conditions of each part
+pub mod SideConditions

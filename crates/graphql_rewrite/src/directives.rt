@@ -68,8 +68,9 @@ impl Rewriter for RemoveDirective<'_> {
 /// remove_directive(alloc, &document, "client")? // { user @client { id } } becomes { user { id } }
 /// ```
 pub fn remove_directive<T: Rebuild>(alloc: Global, item: &T, name: &str) -> Rebuilt<T>
-    ensures { IfOk result (λ made. outcome T.tree (T.tree item.now) made
+    ensures tree { IfOk result (λ made. outcome T.tree (T.tree item.now) made
         ≡ T.rewritten (removing_directive name.now) (T.tree item.now)) }
+    ensures kept { IfOk result (λ made. outcome T.kept (T.kept item.now) made ≡ T.kept item.now) }
 {
     item.rebuild(alloc, &RemoveDirective { name })
 }

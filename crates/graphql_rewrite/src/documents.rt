@@ -1,7 +1,10 @@
 //! Definitions and documents are rebuilt.
-ghost use Rattle.std.specs.Prelude.{◌≡◌, IfOk, List};
+ghost use Rattle.std.specs.Prelude.{◌≡◌, IfOk, List, map};
 ghost use Rattle.graphql_ast.specs.AstTrees.{definition_tree, definition_trees, document_tree};
+ghost use Rattle.graphql_ast.specs.DefinitionQueries.{definition_location};
 ghost use Rattle.graphql_ast.specs.Definitions.{DefinitionTree};
+ghost use Rattle.graphql_ast.specs.Sources.{document_sources};
+ghost use Rattle.graphql_rewrite.specs.Kept.{document_kept, located};
 ghost use Rattle.graphql_rewrite.specs.Outcomes.{outcome};
 ghost use Rattle.graphql_rewrite.specs.kinds.Documents.{rewritten_definition, rewritten_document};
 
@@ -9,7 +12,7 @@ use crate::rebuild::{Rebuild, rebuild_node};
 use crate::rewriter::{Rebuilt, Rewriter};
 use crate::shared_lists::keep;
 use graphql_ast::ast::{Definition, Document};
-use std::alloc::Global;
+use std::alloc::{AllocError, Global};
 
 impl Rebuild for Definition {
     ghost Tree = { DefinitionTree };
@@ -17,6 +20,8 @@ impl Rebuild for Definition {
     ghost tree = { definition_tree };
 
     ghost rewritten = { rewritten_definition };
+
+    ghost kept = { λ definition. located (definition_location definition) };
 
     fn rebuild<R: Rewriter>(&self, alloc: Global, rewriter: &R) -> Rebuilt<Definition> {
         match self {
@@ -98,15 +103,19 @@ impl Rebuild for Definition {
     }
 }
 
-#[tactic(auto, using(crate::proofs::Lists::made_steps))]
+#[tactic(auto, using(crate::proofs::Lists::made_steps, crate::proofs::Lists::stay_steps))]
 fn rebuild_definitions<R: Rewriter>(
     alloc: Global,
     rewriter: &R,
     definitions: &[Definition],
 ) -> Rebuilt<Vec<Definition>>
-    ensures { IfOk result (λ made.
+    ensures trees { IfOk result (λ made.
         outcome (λ made. definition_trees made.items) (definition_trees definitions.now) made
         ≡ rewritten_document (R.rewriting rewriter.now) (definition_trees definitions.now)) }
+    ensures locations { IfOk result (λ made.
+        outcome (λ made. map definition_location made.items)
+        (map definition_location definitions.now) made
+        ≡ map definition_location definitions.now) }
 {
     let mut made = None;
     for (index, definition) in definitions.iter().enumerate() {
@@ -116,6 +125,26 @@ fn rebuild_definitions<R: Rewriter>(
     Ok(made)
 }
 
+/// A document of these definitions, with the sources of another one. `AllocError` where memory is refused; the definitions
+/// are given up then.
+///
+/// ```
+/// with_definitions(&document, vec![in alloc; first]?)?
+/// ```
+pub fn with_definitions(
+    document: &Document,
+    definitions: Vec<Definition>,
+) -> Result<Document, AllocError>
+    ensures definitions { IfOk result (λ made. made.definitions.items ≡ definitions.items) }
+    ensures sources { IfOk result (λ made.
+        document_sources made ≡ document_sources document.now) }
+{
+    Ok(Document {
+        sources: document.sources.clone()?,
+        definitions,
+    })
+}
+
 impl Rebuild for Document {
     ghost Tree = { List DefinitionTree };
 
@@ -123,12 +152,11 @@ impl Rebuild for Document {
 
     ghost rewritten = { rewritten_document };
 
+    ghost kept = { document_kept };
+
     fn rebuild<R: Rewriter>(&self, alloc: Global, rewriter: &R) -> Rebuilt<Document> {
         match rebuild_definitions(alloc, rewriter, &self.definitions)? {
-            Some(definitions) => Ok(Some(Document {
-                sources: self.sources.clone()?,
-                definitions,
-            })),
+            Some(definitions) => Ok(Some(with_definitions(self, definitions)?)),
             None => Ok(None),
         }
     }
@@ -150,8 +178,10 @@ pub fn rebuild_document<R: Rewriter>(
     rewriter: &R,
     document: &Document,
 ) -> Rebuilt<Document>
-    ensures { IfOk result (λ made. outcome document_tree (document_tree document.now) made
+    ensures tree { IfOk result (λ made. outcome document_tree (document_tree document.now) made
         ≡ rewritten_document (R.rewriting rewriter.now) (document_tree document.now)) }
+    ensures kept { IfOk result (λ made.
+        outcome document_kept (document_kept document.now) made ≡ document_kept document.now) }
 {
     document.rebuild(alloc, rewriter)
 }

@@ -9,6 +9,7 @@ ghost use Rattle.graphql_executable.specs.kinds.OperationDefinitions.{operation_
 ghost use Rattle.graphql_executable.specs.kinds.Selections.{SelectionTree};
 ghost use Rattle.graphql_executable.specs.kinds.VariableDefinitions.{variable_definition_kind};
 ghost use Rattle.graphql_executable.specs.trees.ExecutableTrees.{field_tree, fragment_definition_tree, fragment_spread_tree, inline_fragment_tree, operation_definition_tree, selection_tree, selection_trees, variable_definition_tree};
+ghost use Rattle.graphql_rewrite.specs.Kept.{located};
 ghost use Rattle.graphql_rewrite.specs.Outcomes.{outcome};
 ghost use Rattle.graphql_rewrite.specs.kinds.Executable.{rewritten_field, rewritten_fragment_definition, rewritten_fragment_spread, rewritten_inline_fragment, rewritten_operation_definition, rewritten_selection, rewritten_selections, rewritten_set, rewritten_variable_definition, rewritten_within_field};
 
@@ -174,6 +175,8 @@ impl Rebuild for Selection {
     ghost tree = { selection_tree };
 
     ghost rewritten = { rewritten_selection };
+
+    ghost kept = { λ selection. located (selection_location selection) };
 
     fn rebuild<R: Rewriter>(&self, alloc: Global, rewriter: &R) -> Rebuilt<Selection> {
         rebuild_selection(alloc, rewriter, self)

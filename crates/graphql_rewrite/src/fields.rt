@@ -63,8 +63,9 @@ impl Rewriter for RenameFields<'_> {
 /// rename_fields(alloc, &document, "user", &name!(account))? // { user { id } } becomes { account { id } }
 /// ```
 pub fn rename_fields<T: Rebuild>(alloc: Global, item: &T, from: &str, to: &Name) -> Rebuilt<T>
-    ensures { IfOk result (λ made. outcome T.tree (T.tree item.now) made
+    ensures tree { IfOk result (λ made. outcome T.tree (T.tree item.now) made
         ≡ T.rewritten (renaming_fields from.now (name_tree to.now)) (T.tree item.now)) }
+    ensures kept { IfOk result (λ made. outcome T.kept (T.kept item.now) made ≡ T.kept item.now) }
 {
     item.rebuild(alloc, &RenameFields { from, to })
 }
@@ -144,8 +145,9 @@ impl Rewriter for AddField<'_> {
 ///                                                             // { user { id __typename } __typename }
 /// ```
 pub fn add_field_everywhere<T: Rebuild>(alloc: Global, item: &T, name: &Name) -> Rebuilt<T>
-    ensures { IfOk result (λ made. outcome T.tree (T.tree item.now) made
+    ensures tree { IfOk result (λ made. outcome T.tree (T.tree item.now) made
         ≡ T.rewritten (adding_field (name_tree name.now)) (T.tree item.now)) }
+    ensures kept { IfOk result (λ made. outcome T.kept (T.kept item.now) made ≡ T.kept item.now) }
 {
     item.rebuild(alloc, &AddField { name })
 }

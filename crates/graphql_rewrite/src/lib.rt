@@ -6,7 +6,8 @@
 //! - `Rebuild`: what may be rebuilt, each type of nodes; `rebuild_node`, `rebuild_nodes`.
 //! - Ready: `add_field_everywhere`, `rename_fields`, `remove_directive`, `replace_variables`, and their rewriters `AddField`,
 //!   `RenameFields`, `RemoveDirective`, `ReplaceVariables`.
-//! - Of whole documents: `concat`, `sort_definitions`.
+//! - Of whole documents: `concat`, `sort_definitions`, `with_definitions`.
+//! - `laws`: which rewritings keep the side conditions of documents.
 #![tactic(auto)]
 
 mod concatenation;
@@ -14,6 +15,7 @@ mod directives;
 mod documents;
 mod executable;
 mod fields;
+pub mod laws;
 mod parts;
 mod rebuild;
 mod rewriter;
@@ -25,7 +27,7 @@ mod variables;
 
 pub use crate::concatenation::concat;
 pub use crate::directives::{RemoveDirective, remove_directive};
-pub use crate::documents::rebuild_document;
+pub use crate::documents::{rebuild_document, with_definitions};
 pub use crate::fields::{AddField, RenameFields, add_field_everywhere, rename_fields};
 pub use crate::rebuild::{Rebuild, rebuild_node, rebuild_nodes, rewrite};
 pub use crate::rewriter::{Rebuilt, Rewriter};

@@ -2,6 +2,7 @@
 ghost use Rattle.std.specs.Prelude.{◌≡◌, IfOk, OnErr, OnOk, map};
 ghost use Rattle.graphql_base.specs.Node.{node_location, node_value};
 ghost use Rattle.graphql_text.specs.trees.Leaves.{node_trees};
+ghost use Rattle.graphql_rewrite.specs.Kept.{Kept, nothing};
 ghost use Rattle.graphql_rewrite.specs.Outcomes.{outcome};
 ghost use Rattle.graphql_rewrite.specs.Rewritings.{Rewriting};
 
@@ -20,11 +21,17 @@ pub trait Rebuild: Sized {
     /// What a rewriting makes of the tree.
     ghost rewritten: { Rewriting → Tree → Tree };
 
+    /// What no rewriting changes: the location of a selection or a definition, and of a document those of its
+    /// definitions, and its sources.
+    ghost kept: { Self → Kept } = { λ _. nothing };
+
     /// Makes another one in which each part is rewritten, and `None` where nothing changes. What doesn't change is shared
     /// with this one, and nodes keep their locations. `AllocError` where memory is refused.
     fn rebuild<R: Rewriter>(&self, alloc: Global, rewriter: &R) -> Rebuilt<Self>
-        ensures { IfOk result (λ made. outcome tree (tree self.now) made
-            ≡ rewritten (R.rewriting rewriter.now) (tree self.now)) };
+        ensures tree { IfOk result (λ made. outcome tree (tree self.now) made
+            ≡ rewritten (R.rewriting rewriter.now) (tree self.now)) }
+        ensures kept { IfOk result (λ made.
+            outcome kept (kept self.now) made ≡ kept self.now) };
 }
 
 /// Rewrites in place: what `rebuild` makes takes the place of the old one, and other owners of nodes of the old one keep
@@ -40,6 +47,7 @@ pub fn rewrite<T: Rebuild + Drop, R: Rewriter>(
 ) -> Result<(), AllocError>
     ensures ok { OnOk result
         (T.tree item.new ≡ T.rewritten (R.rewriting rewriter.now) (T.tree item.old)) }
+    ensures kept { OnOk result (T.kept item.new ≡ T.kept item.old) }
     ensures err { OnErr result (item.new ≡ item.old) }
 {
     if let Some(made) = item.rebuild(alloc, rewriter)? {

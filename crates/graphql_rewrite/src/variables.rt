@@ -85,10 +85,11 @@ pub fn replace_variables<T: Rebuild>(
     item: &T,
     values: &[(Name, Value)],
 ) -> Rebuilt<T>
-    ensures { IfOk result (λ made. outcome T.tree (T.tree item.now) made
+    ensures tree { IfOk result (λ made. outcome T.tree (T.tree item.now) made
         ≡ T.rewritten (replacing_variables
         (map (λ value. (name_tree value.0, value_tree value.1)) values.now))
         (T.tree item.now)) }
+    ensures kept { IfOk result (λ made. outcome T.kept (T.kept item.now) made ≡ T.kept item.now) }
 {
     item.rebuild(alloc, &ReplaceVariables { values })
 }

@@ -4,7 +4,7 @@ use crate::samples::document;
 use graphql_ast::ast::{Document, ObjectTypeDefinition, ScalarTypeDefinition, SourceFile};
 use graphql_ast::name;
 use graphql_ast::span::FileId;
-use graphql_rewrite::{concat, rename_fields, sort_definitions};
+use graphql_rewrite::{concat, rename_fields, sort_definitions, with_definitions};
 use std::alloc::{AllocError, Global};
 use std::process::Abort;
 
@@ -86,6 +86,11 @@ fn rewritten(alloc: Global) -> Result<Option<Document>, AllocError> {
 
 #[test]
 fn what_is_made_has_the_sources(rt: HostRuntime) {
-    let made = rewritten(rt.alloc()).expect(&rt, "memory");
-    check_file(&rt, &made.expect(&rt, "another document"), 3, "text");
+    let alloc = rt.alloc();
+    let made = rewritten(alloc).expect(&rt, "memory");
+    let made = made.expect(&rt, "another document");
+    check_file(&rt, &made, 3, "text");
+    let none = with_definitions(&made, Vec::new(alloc)).expect(&rt, "memory");
+    check_file(&rt, &none, 3, "text");
+    assert!(rt; none.definitions.is_empty());
 }

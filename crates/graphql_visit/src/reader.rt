@@ -65,6 +65,7 @@ pub fn read<T: Walked, R: Reader>(item: &T, reader: &mut R) -> Result<(), R::Err
     match walk(item, reader) {
         Ok(()) => Ok(()),
         Err(Ended::Failed(error)) => Err(error),
+        // never comes: a reader doesn't stop a walk
         Err(Ended::Stopped) => Ok(()),
     }
 }

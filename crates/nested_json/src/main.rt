@@ -10,14 +10,18 @@
 //! - `non_null_list_types`: non-null list types;
 //! - `lists`: lists of values;
 //! - `objects`: objects of values;
-//! - `flaw`: lists of values, around a reserved enum value that is looked for.
+//! - `flaw`: lists of values, around a reserved enum value that is looked for;
+//! - `renamed_fields`: fields of a tree, which get another name, and no JSON;
+//! - `replaced_variables`: lists around a variable that a value takes the place of, and no JSON.
 //!
-//! Without a form each is read.
+//! Without a form each is read or rewritten.
 #![tactic(auto)]
 
 mod forms;
+mod rewriting;
 
 use crate::forms::Form;
+use crate::rewriting::Rewritten;
 use anyhow::{Result, bail};
 use graphql_ast::ast::{Selection, Type, Value};
 use graphql_ast::span::FileId;
@@ -35,6 +39,11 @@ const FORMS: [(&str, Form); 7] = [
     ("lists", Form::Lists),
     ("objects", Form::Objects),
     ("flaw", Form::Flaw),
+];
+
+const REWRITTEN: [(&str, Rewritten); 2] = [
+    ("renamed_fields", Rewritten::Fields),
+    ("replaced_variables", Rewritten::Lists),
 ];
 
 /// Reads a tree of this kind, and keeps it.
@@ -89,6 +98,15 @@ fn main(rt: HostRuntime) -> Result<()> {
         match &wanted {
             Some(word) if word.as_str() != name => {}
             _ => tell(&rt, name, form, levels)?,
+        }
+    }
+    for (name, rewritten) in REWRITTEN {
+        match &wanted {
+            Some(word) if word.as_str() != name => {}
+            _ => {
+                rewritten.rewrite(rt.alloc(), levels)?;
+                println!(rt; "{name}: {levels} levels")?;
+            }
         }
     }
     Ok(())

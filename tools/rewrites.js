@@ -76,6 +76,15 @@ function separated(document) {
   return document.definitions.filter(isOperation).flatMap((operation) => Object.values(separateOperations(alone(operation))));
 }
 
+// each node at a location, of the length of its text where it has one
+function located(part) {
+  if (Array.isArray(part)) return part.map(located);
+  if (part === null || typeof part !== "object") return part;
+  const inner = Object.fromEntries(Object.entries(part).map(([key, value]) => [key, located(value)]));
+  const length = typeof part.value === "string" ? part.value.length : 3;
+  return { ...inner, loc: { start: 7, end: 7 + length } };
+}
+
 function wanted(document) {
   const together = executable(document);
   return { ...rewritten(document), executable: together, separated: separated(together) };
@@ -89,6 +98,7 @@ const rewritten = (document) => ({
   replaced: replaced(document),
   sorted: sorted(document),
   joined: concatAST([document, sorted(document)]),
+  located: located(document),
 });
 
 function main() {

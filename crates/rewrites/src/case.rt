@@ -20,6 +20,8 @@ pub struct Case {
     pub sorted: Json,
     /// The document, and behind it the same in order.
     pub joined: Json,
+    /// The document, with a location at each node.
+    pub located: Json,
     /// Another document, of operations and fragments.
     pub executable: Json,
     /// Each operation of it with the fragments that it reaches.

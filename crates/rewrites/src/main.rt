@@ -10,6 +10,7 @@ use graphql_ast::ast::Document;
 use graphql_ast::span::FileId;
 use graphql_ast::{name, value};
 use graphql_ast_json::AstJson;
+use graphql_locations::strip_locations;
 use graphql_operations::{fragments_reached, separate_operations};
 use graphql_rewrite::{
     Rebuilt, add_field_everywhere, concat, remove_directive, rename_fields, replace_variables,
@@ -82,6 +83,17 @@ fn are_separated(alloc: Global, case: &Case) -> Result<bool> {
     Ok(true)
 }
 
+/// Whether the document with a location at each node is written as the document, once they are taken out, and not before.
+fn is_stripped(alloc: Global, document: &Document, located: &Json) -> Result<bool> {
+    let located = Document::from_ast_json(alloc, located, FileId::new(1))?;
+    let made = strip_locations(alloc, &located)?;
+    let wanted = document.to_ast_json(alloc)?.to_string(alloc)?;
+    let placed = located.to_ast_json(alloc)?.to_string(alloc)?;
+    let plain = made.to_ast_json(alloc)?.to_string(alloc)?;
+    let is_placed = placed != wanted || document.definitions.is_empty();
+    Ok(made == *document && plain == wanted && is_placed)
+}
+
 /// The rewriter that made something else than the case wants, if one did.
 fn difference(alloc: Global, case: &Case) -> Result<Option<&'static str>> {
     let document = Document::from_ast_json(alloc, &case.document, FileId::new(1))?;
@@ -116,6 +128,9 @@ fn difference(alloc: Global, case: &Case) -> Result<Option<&'static str>> {
         if made != Document::from_ast_json(alloc, wanted, FileId::new(1))? {
             return Ok(Some(what));
         }
+    }
+    if !is_stripped(alloc, &document, &case.located)? {
+        return Ok(Some("located"));
     }
     Ok(if are_separated(alloc, case)? {
         None

@@ -1,0 +1,11 @@
+//! Source locations that are taken out, through public calls alone.
+#![tactic(auto)]
+
+#[cfg(test)]
+mod nested;
+#[cfg(test)]
+mod plain;
+#[cfg(test)]
+mod refusals;
+#[cfg(test)]
+mod samples;

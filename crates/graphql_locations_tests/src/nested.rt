@@ -1,0 +1,65 @@
+//! Nodes that stand at several places, and nodes in one another.
+use crate::samples::query;
+use graphql_ast::ast::{Field, Selection, Value};
+use graphql_ast::span::{FileId, SourceSpan};
+use graphql_ast::{Node, name};
+use graphql_locations::Located;
+use std::alloc::{AllocError, Global};
+use std::process::Abort;
+
+const LEVELS: usize = 1000;
+
+fn check_plain(rt: &impl Abort, selection: Option<&mut Selection>) {
+    match selection.expect(rt, "a selection") {
+        Selection::Field(node) => {
+            assert!(rt; node.location().is_none() && node.name.location().is_none());
+            assert!(rt; node.get_mut().is_some());
+        }
+        _ => assert!(rt; false, "another selection"),
+    }
+}
+
+/// The node that stands at two places is made twice, and shared with none.
+#[test]
+fn a_shared_node_is_made_at_each_place(rt: HostRuntime) {
+    let alloc = rt.alloc();
+    let query = query(alloc).expect(&rt, "memory");
+    let mut made = query.without_locations(alloc).expect(&rt, "memory");
+    assert!(rt; made == query);
+    check_plain(&rt, made.selection_set.first_mut());
+    check_plain(&rt, made.selection_set.last_mut());
+}
+
+/// So many fields in one another.
+fn fields(alloc: Global, levels: usize, span: SourceSpan) -> Result<Selection, AllocError> {
+    let field = Field::new(alloc, name!(a));
+    let mut selection = Selection::Field(Node::new_parsed(alloc, field, span)?);
+    for _ in 1..levels {
+        let mut field = Field::new(alloc, name!(a));
+        field.selection_set.push(selection)?;
+        selection = Selection::Field(Node::new_parsed(alloc, field, span)?);
+    }
+    Ok(selection)
+}
+
+/// So many lists in one another.
+fn lists(alloc: Global, levels: usize, span: SourceSpan) -> Result<Value, AllocError> {
+    let mut value = Value::Null;
+    for _ in 0..levels {
+        let node = Node::new_parsed(alloc, value, span)?;
+        value = Value::List(vec![in alloc; node]?);
+    }
+    Ok(value)
+}
+
+#[test]
+fn deep_trees_lose_their_locations(rt: HostRuntime) {
+    let alloc = rt.alloc();
+    let span = SourceSpan::new(FileId::new(5), 0, 3).expect(&rt, "a span");
+    let fields = fields(alloc, LEVELS, span).expect(&rt, "memory");
+    let made = fields.without_locations(alloc).expect(&rt, "memory");
+    assert!(rt; made == fields && made.location().is_none());
+    let lists = lists(alloc, LEVELS, span).expect(&rt, "memory");
+    let made = lists.without_locations(alloc).expect(&rt, "memory");
+    assert!(rt; made == lists);
+}

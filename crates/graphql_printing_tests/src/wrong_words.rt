@@ -1,0 +1,103 @@
+//! Words that ask for nothing.
+use crate::fakes::{Page, Source, run_on};
+use crate::samples::QUERY;
+use std::alloc::Global;
+use std::process::Abort;
+use std::test::Fail;
+
+/// Words, and how what is said of them begins.
+type Row = (&'static [&'static str], &'static str);
+
+const WRONG: [Row; 14] = [
+    (
+        &["--no-such"],
+        "error: unexpected argument '--no-such' found\n",
+    ),
+    (&["-x"], "error: unexpected argument '-x' found\n"),
+    (&["a", "b"], "error: unexpected argument 'b' found\n"),
+    (
+        &["--indent"],
+        "error: a value is required for '--indent <N>' but none was supplied\n",
+    ),
+    (
+        &["--indent", "17"],
+        "error: invalid value '17' for '--indent <N>': 17 is not in 0..=16\n",
+    ),
+    (
+        &["--indent", "two"],
+        "error: invalid value 'two' for '--indent <N>': invalid digit found in string\n",
+    ),
+    (
+        &["--indent=-1"],
+        "error: invalid value '-1' for '--indent <N>': -1 is not in 0..=16\n",
+    ),
+    (
+        &["--level", "65536"],
+        "error: invalid value '65536' for '--level <N>': 65536 is not in 0..=65535\n",
+    ),
+    (
+        &["--indent", "2", "--indent", "4"],
+        "error: the argument '--indent <N>' cannot be used multiple times\n",
+    ),
+    (
+        &["--tabs", "--indent", "4"],
+        "error: the argument '--tabs' cannot be used with '--indent <N>'\n",
+    ),
+    (
+        &["--one-line", "--tabs"],
+        "error: the argument '--one-line' cannot be used with '--tabs'\n",
+    ),
+    (
+        &["--json", "--check"],
+        "error: the argument '--json' cannot be used with '--check'\n",
+    ),
+    (
+        &["--json", "--level", "1"],
+        "error: the argument '--json' cannot be used with '--level <N>'\n",
+    ),
+    (
+        &["--json", "--indent", "4"],
+        "error: AST JSON is indented by 2 spaces, or stands on one line\n",
+    ),
+];
+
+#[test]
+fn wrong_words_are_told(rt: HostRuntime) -> Result<(), Fail> {
+    for (words, said) in WRONG {
+        let (out, err) = (Page::new(), Page::new());
+        let (status, out, err) = run_on(rt.alloc(), words, Source::new(QUERY), None, out, err)?;
+        assert!(rt; err.begins_with(said));
+        assert!(rt; out.holds(""));
+        assert_eq!(rt; status, 2);
+    }
+    Ok(())
+}
+
+/// Asserts that a text is shown on standard output, or that the status says that it could not be.
+fn check_shown(
+    rt: &impl Abort,
+    alloc: Global,
+    words: &'static [&'static str],
+    said: &str,
+) -> Result<(), Fail> {
+    let input = Source::new("");
+    let (status, out, err) = run_on(alloc, words, input, None, Page::new(), Page::new())?;
+    assert!(rt; out.begins_with(said));
+    assert!(rt; err.holds(""));
+    assert_eq!(rt; status, 0);
+    let (input, out) = (Source::new(""), Page::failing_at(3));
+    let (status, out, err) = run_on(alloc, words, input, None, out, Page::new())?;
+    assert!(rt; out.holds(said.get(..3).unwrap_or("")));
+    assert!(rt; err.holds(""));
+    assert_eq!(rt; status, 4);
+    Ok(())
+}
+
+#[test]
+fn help_and_version_are_shown(rt: HostRuntime) -> Result<(), Fail> {
+    let alloc = rt.alloc();
+    check_shown(&rt, alloc, &["--version"], "graphql_print 0.1.0\n")?;
+    check_shown(&rt, alloc, &["-V"], "graphql_print 0.1.0\n")?;
+    check_shown(&rt, alloc, &["-h"], "Prints a document in AST JSON")?;
+    check_shown(&rt, alloc, &["--help"], "Prints a document in AST JSON")
+}

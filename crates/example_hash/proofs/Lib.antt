@@ -1,0 +1,2 @@
+-- Lines that tell documents apart.
+pub mod LinesApart

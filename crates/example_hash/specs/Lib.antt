@@ -1,0 +1,2 @@
+-- What the hash of a document is of.
+pub mod Lines

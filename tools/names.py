@@ -23,8 +23,8 @@ from pathlib import Path
 
 ROOT = Path(__file__).resolve().parent.parent
 CRATES = ROOT / "crates"
-# names of Rust, of apollo-compiler and of tools outside
-FOREIGN = {"malloc_usable_size", "to_string", "impl", "Vec", "Rc", "fmt", "usize"}
+# names of Rust, of its standard library here, of apollo-compiler and of tools outside
+FOREIGN = {"malloc_usable_size", "to_string", "impl", "Vec", "Rc", "fmt", "usize", "map_over_more"}
 TRIALS = re.compile(r"alias_type|AliasType|value_alias")
 ENDINGS = ("rt", "antt")
 SOURCES = {path.relative_to(CRATES): path.read_text(encoding="utf-8") for ending in ENDINGS for path in CRATES.glob(f"*/*/**/*.{ending}") if "/out/" not in str(path)}

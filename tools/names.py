@@ -14,7 +14,8 @@ top, docs/, crates/ or a crate's src/, specs/ or proofs/. A name is looked for w
   ends in `..`. What stands behind a function and a colon is a clause of that function; behind a type, what the type's file declares.
 
 There it is to be declared, and not only used. Another name stands in the sources anywhere, or is the name of an edit or a crate. The beginning of a
-case's name of golden is there too. It prints what is missing, and fails if something is. What belongs to other programs is listed in FOREIGN; in
+case's name of golden is there too. It prints what is missing, and fails if something is, also the version at the top of CHANGELOG.md in what
+`graphql_print` tells. What belongs to other programs is listed in FOREIGN; in
 docs/DIFFERENCES.md only links are looked at, since it names what isn't here, and of docs/CONTRIBUTING.md not what its two trials made.
 """
 import re
@@ -208,6 +209,9 @@ def main():
             missing += [f"{short}: {name} isn't in {file}" for name, file in named_of_files(text) if not file_declares(file, name)]
             missing += [f"{short}: no {path} in {crate}" for crate, path in paths_of_crates(text) if not (CRATES / crate / path).exists()]
     missing += [f"docs/PROVED.md: {it}" for it in claims(ROOT / "docs" / "PROVED.md")]
+    version = re.search(r"^## ([\d.]+)", (ROOT / "CHANGELOG.md").read_text(encoding="utf-8"), re.M)[1]
+    if f'.version("{version}")' not in SOURCES[Path("graphql_printing/src/command.rt")]:
+        missing.append(f"CHANGELOG.md: graphql_print doesn't tell the version {version}")
     for it in missing:
         print(it)
     print(f"{len(missing)} missing")

@@ -1,5 +1,6 @@
 -- Of Printing: prefixes, and how the layout of a document is read with its line's end.
-use Rattle.std.proofs.Common.{◌≡◌, ℕ, zero, suc, true, List, [], ◌∷◌, ◌++◌, Option, Some, None, Result, Ok, Err, OnOk, IsOk, IsTrue, refl, ap, subst, sym, ◌∙◌, append-nil}
+use Rattle.std.proofs.Common.{◌≡◌, ℕ, zero, suc, true, List, [], ◌∷◌, ◌++◌, Option, Some, None, Result, Ok}
+use Rattle.std.proofs.Common.{Err, OnOk, IsOk, IsTrue, refl, ap, subst, sym, ◌∙◌, append-nil}
 use Rattle.std.proofs.Common.{chars, codes, encode_utf8_all}
 use Rattle.std.proofs.lemmas.Str.{encodes-append}
 use Rattle.std.proofs.Math.Utf8.{encode, scalar}

@@ -7,7 +7,8 @@ use Rattle.graphql_ast_json.specs.kinds.DocumentJson.{IsDocument}
 use Rattle.graphql_ast_calls.specs.Answers.{IsJsonOfNone, IsNoJson}
 use Rattle.graphql_printing.specs.Outcomes.{EndsWith}
 use Rattle.graphql_printing.specs.Reading.{IsAllOf, IsDocumentOf}
-use Rattle.graphql_printing.specs.Refusals.{IsIllFormedOrMemory, IsNotJsonOrMemory, IsDataRefusal, IsNotReadOrMemory, IsNoTreeOrMemory, IsReadRefusal, IsRefusal, IsTreeRefusal, outcome_of}
+use Rattle.graphql_printing.specs.Refusals.{IsIllFormedOrMemory, IsNotJsonOrMemory, IsDataRefusal, IsNotReadOrMemory, IsNoTreeOrMemory}
+use Rattle.graphql_printing.specs.Refusals.{IsReadRefusal, IsRefusal, IsTreeRefusal, outcome_of}
 use Rattle.graphql_printing.specs.declared.options.Options.{Options}
 use Rattle.graphql_printing.specs.declared.refusal.Refusal.{Refusal}
 use Rattle.graphql_printing.specs.declared.refusal.Refusal.TheVariants as refusal

@@ -1,4 +1,6 @@
 //! What is asked for.
+ghost use Rattle.std.specs.Prelude.{◌≡◌, false};
+
 use graphql_ast_json::Unknown;
 
 /// How the lines of a print begin, or that it has one line.
@@ -41,7 +43,13 @@ pub struct Options {
 
 impl Default for Options {
     /// A print over several lines, with two spaces for a level, from level 0, of well-formed documents alone.
-    fn default() -> Options {
+    fn default() -> Options
+        ensures task { result.task ≡ Task.Print }
+        ensures lines { result.lines ≡ Lines.Spaces 2 }
+        ensures level { result.level ≡ 0 }
+        ensures unknown { result.unknown ≡ Unknown.Refuse }
+        ensures well_formed { result.allow_ill_formed ≡ false }
+    {
         Options {
             task: Task::Print,
             lines: Lines::Spaces(2),

@@ -95,6 +95,11 @@ check 0 $'{ a }\n' '' "$query" --one-line -
 check 0 $'   query {\n      a\n   }\n' '' "$query" --indent=3 --level 1
 check 0 '' '' "$query" --check
 check 0 '{"definitions":[{"directives":[],"kind":"OperationDefinition","operation":"query","selectionSet":{"kind":"SelectionSet","selections":[{"arguments":[],"directives":[],"kind":"Field","name":{"kind":"Name","value":"a"}}]},"variableDefinitions":[]}],"kind":"Document"}'$'\n' '' "$query" --json
+# AST JSON over several lines is what Python makes of that on one line.
+indented='import json, sys; print(json.dumps(json.loads(sys.argv[1]), indent=int(sys.argv[2])))'
+for width in 0 1 2 4 16; do
+    check 0 "$(python3 -c "$indented" "$(printf '%s' "$query" | "$program" --json)" "$width")"$'\n' '' "$query" --json --indent "$width"
+done
 check 0 $'graphql_print 0.1.0\n' '' '' --version
 
 # Words that are wrong.
@@ -117,6 +122,14 @@ printf '# \xf0\x9f\x98\x80\n\nextend scalar S\n' >flaw.graphql
 check 1 '' "${front}flaw.json: at \`definitions[0]\`, in a node from 6 to 21: an extension that adds nothing: \`S\`"$'\n' '' flaw.json
 check 1 '' "${front}flaw.json: at \`definitions[0]\` in flaw.graphql:3:1: an extension that adds nothing: \`S\`"$'\n' '' --check --source flaw.graphql flaw.json
 check 0 $'extend scalar S\n' '' '' --allow-ill-formed flaw.json
+name='{"kind":"Name","value":"true"}'
+printf '%s' '{"kind":"Document","definitions":[{"kind":"EnumTypeDefinition","name":'"$name"',"values":[{"kind":"EnumValueDefinition","name":'"$name"'},' \
+    '{"kind":"EnumValueDefinition","name":{"kind":"Name","value":"A"}},{"kind":"EnumValueDefinition","name":'"$name"'}]},' \
+    '{"kind":"ScalarTypeDefinition","name":'"$name"'},{"kind":"ScalarTypeExtension","name":{"kind":"Name","value":"S"}}]}' >flaws.json
+flaws="${front}flaws.json: at \`definitions[0].values[0].name.value\`: a reserved enum value: \`true\`"$'\n'
+flaws+="${front}flaws.json: at \`definitions[0].values[2].name.value\`: a reserved enum value: \`true\`"$'\n'
+flaws+="${front}flaws.json: at \`definitions[2]\`: an extension that adds nothing: \`S\`"$'\n'
+check 1 '' "$flaws" '' --check flaws.json
 printf '{"kind":"\xff"}' >bytes.json
 check 3 '' "${front}bytes.json: not JSON: not UTF-8 from byte 9 on"$'\n' '' bytes.json
 deep=$(printf '[%.0s' {1..200})

@@ -1,7 +1,8 @@
 -- Positions in source texts: the line and the column, as messages name them.
-use Rattle.std.specs.Prelude.{◌≡◌, ℕ, ◌+◌, ◌==◌, not, List, Option, Some, None, count_by, chars, take, string_bytes}
+use Rattle.std.specs.Prelude.{◌≡◌, ℕ, ◌+◌, ◌==◌, not, List, Option, Some, None, IfSome, count_by, chars, take, string_bytes}
 use Rattle.std.specs.List.{suffix_len}
 use Rattle.std.specs.Map.{lookup}
+use Rattle.std.specs.Option.{option_map}
 use Rattle.std.specs.Str.{IsCharBoundary}
 use Rattle.graphql_base.specs.declared.span.FileId.{FileId}
 use Rattle.graphql_base.specs.declared.span.SourceSpan.{SourceSpan}
@@ -39,6 +40,20 @@ IsStartPosition files span position = IsStartIn (source_file_of (span_file span)
 -- the position in a source text, without its path
 abbrev pub line_column_of : SourcePosition → LineColumn
 line_column_of place = place.position
+
+-- the path is that of the source file, if there is that one
+abbrev pub IsPathIn : Option SourceFile → SourcePosition → Type 0
+IsPathIn file place = IfSome file (λ found. place.path.now ≡ string_bytes found.path)
+
+-- what is answered for a span with the path of its source file
+abbrev pub IsSourcePosition : List (FileId × SourceFile) → SourceSpan → Option SourcePosition → Type 0
+IsSourcePosition files span place =
+    IsStartPosition files span (option_map line_column_of place) × IfSome place (IsPathIn (source_file_of (span_file span) files))
+
+-- what is answered for a location: none where there is no location
+abbrev pub IsPlaceOf : List (FileId × SourceFile) → Option SourceSpan → Option SourcePosition → Type 0
+IsPlaceOf files (Some span) place = IsSourcePosition files span place
+IsPlaceOf files None place = place ≡ None
 
 -- the flaw, wherever it stands
 abbrev pub found_of : PlacedFlaw → IllFormed

@@ -51,8 +51,8 @@ pub type Field = graphql_executable::field::Field;
 /// An inline fragment (`InlineFragment`, section 2.8).
 pub type InlineFragment = graphql_executable::inline_fragment::InlineFragment;
 
-/// A type over a static name. `ty!(N)` and `ty!(N!)` are a `Type`, and take no memory. `ty!(in alloc; [..])` and
-/// `ty!(in alloc; [..]!)` are a `Result<Type, AllocError>`, with `AllocError` where memory is refused.
+/// A type over a static name. `ty!(N)` and `ty!(N!)` are a `Type`, and allocate no memory. `ty!(in alloc; [..])` and
+/// `ty!(in alloc; [..]!)` are a `Result<Type, AllocError>`, with `AllocError` if an allocation fails.
 ///
 /// That the name is in name syntax is proved at the call. It stands in the body of a function.
 ///
@@ -86,7 +86,7 @@ macro_rules! ty {
     };
 }
 
-/// A value as GraphQL writes it: a `Result<Value, AllocError>`, with `AllocError` where memory is refused.
+/// A value as GraphQL writes it: a `Result<Value, AllocError>`, with `AllocError` if an allocation fails.
 ///
 /// Integers within `i64`, numbers with a fraction or an exponent, and texts are literals of Rust; of a number with a
 /// fraction or an exponent the digits stay as they are written. Enum values, variables and the names of fields are

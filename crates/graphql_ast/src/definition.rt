@@ -22,9 +22,20 @@ use graphql_type_system::union_type::{UnionTypeDefinition, UnionTypeExtension};
 use graphql_values::directive_definition::DirectiveDefinition;
 use graphql_values::directive_list::DirectiveList;
 
-/// A definition of a document (`Definition`, section 2.2): an operation or a fragment, which can be executed; a
-/// definition of a directive, of the schema or of a type; or an extension of the schema or of a type. Two are equal
-/// exactly if they differ in locations at most.
+/// A definition of a document (`Definition`, section 2.2).
+///
+/// It is an operation or a fragment, which can be executed; a definition of a directive, of the schema or of a type; or
+/// an extension of the schema or of a type.
+///
+/// Equality and hash ignore source locations.
+///
+/// ```
+/// for definition in &document.definitions {
+///     if let Definition::ObjectTypeDefinition(object) = definition {
+///         println!(rt; "type {}", object.name)?; // type Query
+///     }
+/// }
+/// ```
 #[derive(Clone, PartialEq, Eq, Hash, Debug, Drop)]
 pub enum Definition {
     /// An operation.

@@ -15,7 +15,17 @@ use graphql_base::span::FileId;
 use indexmap::IndexMap;
 use std::alloc::{AllocError, Global};
 
-/// A source text that nodes of a document may stand in. Two are equal exactly if their paths and their texts are.
+/// A source text that nodes of a document may stand in.
+///
+/// Two are equal if and only if their paths and their texts are.
+///
+/// ```
+/// let file = SourceFile {
+///     path: String::from_str(alloc, "a.graphql")?,
+///     text: String::from_str(alloc, "scalar Date")?,
+/// };
+/// document.sources.insert(FileId::new(1), file)?;
+/// ```
 #[derive(Clone, PartialEq, Eq, Debug, Drop)]
 pub struct SourceFile {
     /// Where the text was found, for messages.
@@ -24,10 +34,17 @@ pub struct SourceFile {
     pub text: String,
 }
 
-/// A document (`Document`, section 2.2). Two are equal exactly if their definitions are, wherever these stand in a
-/// source text.
+/// A document (`Document`, section 2.2): definitions, and the source texts that they come from.
 ///
-/// A clone has the same sources and the very definitions.
+/// Equality and hash ignore source locations and source texts. A clone has the same source texts, and shares the
+/// definitions' nodes.
+///
+/// ```
+/// let mut document = Document::new(alloc);
+/// document.push(alloc, ScalarTypeDefinition::new(alloc, name!(Date)))?;
+/// document.push(alloc, ScalarTypeDefinition::new(alloc, name!(Url)))?;
+/// println!(rt; "{}", document.serialize().no_indent())?; // scalar Date scalar Url
+/// ```
 #[derive(Clone, Drop)]
 #[derive_where(PartialEq, Eq, Hash, Debug)]
 pub struct Document {
@@ -39,7 +56,7 @@ pub struct Document {
 }
 
 impl Document {
-    /// A document without sources and definitions. It takes no memory.
+    /// A document without sources and definitions. It allocates no memory.
     pub fn new(alloc: Global) -> Document
         ensures sources { IsEmpty result.sources }
         ensures definitions { result.definitions.items ≡ [] }
@@ -51,7 +68,7 @@ impl Document {
     }
 
     /// Appends a definition: a struct such as `OperationDefinition`, which a node without a location is made of.
-    /// `AllocError` where memory is refused: the struct is given up then, and the document is as it was.
+    /// `AllocError` if an allocation fails: the struct is dropped then, and the document is as it was.
     ///
     /// ```
     /// document.push(alloc, ObjectTypeDefinition::new(alloc, name!(Query)))?;
@@ -68,8 +85,8 @@ impl Document {
         self.push_node(node)
     }
 
-    /// Appends a definition, or a node of a struct such as `OperationDefinition`. `AllocError` where memory is refused:
-    /// the node is given up then, and the document is as it was.
+    /// Appends a definition, or a node of a struct such as `OperationDefinition`. `AllocError` if an allocation fails:
+    /// the node is dropped then, and the document is as it was.
     ///
     /// ```
     /// document.push_node(operation.clone())?; // a node that another document has too

@@ -2,7 +2,7 @@
 
 pub use graphql_base::name::{InvalidNameError, Name, NameError, NamedType};
 
-/// A name over a static text: an identifier, or a text literal. It takes no memory.
+/// A name over a static text: an identifier, or a text literal. It allocates no memory.
 ///
 /// That the text is in name syntax is proved at the call, so `name!("1nvalid")` is refused by the check.
 /// It stands in the body of a function.

@@ -9,9 +9,9 @@ use graphql_ast::ast::Document;
 use std::alloc::Global;
 
 /// Whether some JSON is of a document that is well formed, so that `print_json` prints it, unless the level overflows or
-/// memory is refused.
+/// an allocation fails.
 ///
-/// `json` and `pass_over` are those of `print_json`. Answers `Done`, with 0 in `needed`, or with a message `NotJson`,
+/// `json` and `pass_over` are those of `print_json`. Returns `Done`, with 0 in `needed`, or with a message `NotJson`,
 /// `NoTree`, `IllFormed` or `OutOfMemory`.
 pub fn check_json(
     alloc: Global,

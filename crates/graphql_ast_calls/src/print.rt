@@ -105,7 +105,7 @@ fn print_well_formed<T: Syntax>(
 /// `Done`: the text stands at the front of `out`, and is read as the document that the JSON is of, and as no other.
 /// `TooShort`: it doesn't fit, and nothing is said of `out`. Else a message stands there, cut on a character to what
 /// fits: `WrongPrefix` exactly where the prefix has other bytes, which is looked at first; `NotJson`, `NoTree`,
-/// `IllFormed` and `LevelOverflow` where that is so; `OutOfMemory` where memory is refused.
+/// `IllFormed` and `LevelOverflow` where that is so; `OutOfMemory` if an allocation fails.
 ///
 /// ```
 /// let json = b"{\"kind\":\"Document\",\"definitions\":[]}";

@@ -2,7 +2,13 @@
 ghost use Rattle.std.specs.Prelude.{◌≡◌};
 ghost use Rattle.graphql_ast_calls.specs.Statuses.{status_code, status_of};
 
-/// What a call answers, by the numbers of the C interface.
+/// What a call returns, by the numbers of the C interface.
+///
+/// ```
+/// let (mut out, mut needed) = ([0; 80], 0);
+/// let status = check_json(alloc, b"[", false, &mut out, &mut needed);
+/// println!(rt; "{:?} {}", status, status.code())?; // NotJson 2
+/// ```
 #[derive(Clone, Copy, Debug, PartialEq, Eq)]
 pub enum Status {
     /// What was asked for stands at the front of the buffer.
@@ -17,7 +23,7 @@ pub enum Status {
     IllFormed = 4,
     /// The starting level and the nesting of the tree don't fit into 64 bits together.
     LevelOverflow = 5,
-    /// Memory was refused.
+    /// An allocation failed.
     OutOfMemory = 6,
     /// The prefix has other bytes than spaces and tabs.
     WrongPrefix = 7,

@@ -26,3 +26,5 @@ pub mod ToldTexts
 pub mod ToldMembers
 -- of Nodes: a location whose members are `end` and `start` alone
 pub mod TwoOffsets
+-- of Offsets: units of characters, and where a text is cut by them
+pub mod OffsetUnits

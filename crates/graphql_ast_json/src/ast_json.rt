@@ -51,10 +51,10 @@ pub trait AstJson: Sized {
     /// Whether it stands where the JSON tells.
     ghost stands: { Self → Data → Type 0 };
 
-    /// The tree that the JSON is of. Where the JSON tells where its nodes stand, that is a stretch of the source file.
+    /// The tree that the JSON is of. The source locations in the JSON are taken to be in the source file of the reader.
     ///
-    /// `AstJsonError::Invalid` exactly where the JSON is of no such tree, and `AstJsonError::Memory` where memory is
-    /// refused.
+    /// `AstJsonError::Invalid` exactly where the JSON is of no such tree, and `AstJsonError::Memory` if an
+    /// allocation fails.
     fn read_ast_json(node: NodeReader<'_>) -> Result<Self, AstJsonError>
         ensures ok { IfOk result (λ value. IsReadAs is_json_of node.entry (tree value)) }
         ensures stands { IfOk result (λ value. stands value (node_json node.entry)) }
@@ -79,13 +79,13 @@ pub trait AstJson: Sized {
     }
 
     /// Whether `read_json` reads parsed JSON as it stands. If not, a text is made a value of `serde_json` at once, for
-    /// `read_ast_json`. The answer changes only what a reading of a text costs, in time and memory: a kind with a
+    /// `read_ast_json`. What it returns changes only what a reading of a text costs, in time and memory: a kind with a
     /// `read_json` of its own has one of this too.
     fn reads_parsed() -> bool {
         false
     }
 
-    /// The tree as JSON. `AllocError` where memory is refused.
+    /// The tree as JSON. `AllocError` if an allocation fails.
     fn to_ast_json(&self, alloc: Global) -> Result<Json, AllocError>
         ensures ok { IfOk result (λ json. (unknown : Unknown)
             → is_json_of unknown (tree self.now) (view json)) }
@@ -111,7 +111,13 @@ pub trait AstJson: Sized {
     ghost laws: { JsonLaws is_json_of };
 }
 
-/// A kind of which each tree is one node, so that it may stand at a location.
+/// A kind of which each tree is one node, so that it may stand at a source location.
+///
+/// ```
+/// let span = SourceSpan::new(FileId::new(1), 0, 1).context("start is after end")?;
+/// let json = value!(in alloc; 4)?.to_ast_json_at(alloc, Some(span))?;
+/// println!(rt; "{json}")?; // {"kind":"IntValue","loc":{"end":1,"start":0},"value":"4"}
+/// ```
 pub trait AstNode: Sized {
     ghost Tree: { Type 0 };
 
@@ -150,7 +156,7 @@ pub trait AstNode: Sized {
             → is_node unknown (tree self.now) (view json)) }
         ensures stands { IfOk result (λ json. StandsAt (place_of node) (view json)) };
 
-    /// The tree as JSON, at a location if there is one. `AllocError` where memory is refused.
+    /// The tree as JSON, at a location if there is one. `AllocError` if an allocation fails.
     final fn to_ast_json_at(
         &self,
         alloc: Global,
@@ -251,8 +257,8 @@ pub(crate) fn node_at<T: Drop>(
 
 /// The tree that a text of AST JSON is of: `AstJson::from_ast_json` of the JSON that the text is.
 ///
-/// `AstJsonError::TooDeep` where arrays and objects of the text stand in one another more than 127 deep, at which the
-/// reader of JSON gives up, and `AstJsonError::NotJson` where the text is otherwise no JSON.
+/// `AstJsonError::TooDeep` where the nesting depth of arrays and objects of the text is above 127, at which the reader
+/// of JSON gives up, and `AstJsonError::NotJson` where the text is otherwise no JSON.
 pub fn from_ast_json_str<T: AstJson>(
     alloc: Global,
     text: &str,

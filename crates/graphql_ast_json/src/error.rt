@@ -7,6 +7,12 @@ use std::fmt::{self, Display, Formatter, Write};
 use thiserror::Error;
 
 /// A type of JSON.
+///
+/// `Display` names it with its article.
+///
+/// ```
+/// println!(rt; "{} or {}", JsonType::Null, JsonType::Text)?; // null or a string
+/// ```
 #[derive(Clone, Copy, Debug, Drop, PartialEq, Eq)]
 pub enum JsonType {
     Null,
@@ -33,7 +39,18 @@ impl Display for JsonType {
 /// How many characters of a text that was found an error tells.
 const EXCERPT: usize = 60;
 
-/// A text that was found: its first characters, which are escaped where it is displayed.
+/// A text that was found: its first 60 characters.
+///
+/// `Display` writes it between backquotes, escaped.
+///
+/// ```
+/// // `json` is {"kind":"Nmae","value":"a"}
+/// if let Err(AstJsonError::Invalid { problem, .. }) = Name::from_ast_json(alloc, &json, FileId::new(1)) {
+///     if let AstJsonProblem::UnknownKind { found, wanted } = problem {
+///         println!(rt; "{found}, not {wanted}")?; // `Nmae`, not Name
+///     }
+/// }
+/// ```
 #[derive(Debug, Drop)]
 pub struct Excerpt {
     text: String,
@@ -77,6 +94,13 @@ impl Display for Excerpt {
 }
 
 /// What is wrong with a part of the JSON.
+///
+/// ```
+/// // `json` is {"kind":"IntValue"}
+/// if let Err(AstJsonError::Invalid { problem, .. }) = Value::from_ast_json(alloc, &json, FileId::new(1)) {
+///     println!(rt; "{problem}")?; // found no member `value`, which each IntValue has
+/// }
+/// ```
 #[derive(Debug, Drop, Error)]
 pub enum AstJsonProblem {
     /// A member or an item of another type.
@@ -103,6 +127,13 @@ pub enum AstJsonProblem {
 }
 
 /// A position within JSON, as `fields[0].value`. The root is the empty path.
+///
+/// ```
+/// // `json` is {"kind":"ListValue","values":[{"kind":"IntValue","value":true}]}
+/// if let Err(AstJsonError::Invalid { path, .. }) = Value::from_ast_json(alloc, &json, FileId::new(1)) {
+///     println!(rt; "{}", path.as_str())?; // values[0].value
+/// }
+/// ```
 #[derive(Debug, Drop)]
 pub struct JsonPath {
     text: String,
@@ -171,15 +202,22 @@ impl Display for JsonPath {
 }
 
 /// Why no syntax tree was made of JSON.
+///
+/// ```
+/// let text = r#"{"kind":"IntValue","value":true}"#;
+/// if let Err(error) = from_ast_json_str::<Value>(alloc, text, FileId::new(1)) {
+///     println!(rt; "{error}")?; // at `value`: found a boolean where a string was wanted
+/// }
+/// ```
 #[derive(Debug, Drop, Error)]
 pub enum AstJsonError {
-    /// Memory was refused, for the tree or for the error.
+    /// Out of memory: an allocation failed, for the tree or for the error.
     #[error("out of memory")]
     Memory,
     /// The text is no JSON.
     #[error("not JSON: {0}")]
     NotJson(serde_json::Error),
-    /// Arrays and objects of the text stand in one another deeper than JSON is read.
+    /// The nesting depth of arrays and objects of the text is above 127.
     #[error("arrays and objects stand in one another more than 127 deep")]
     TooDeep,
     /// The JSON is of no such tree, because of this problem at this position, in a node that tells this place.
@@ -191,7 +229,14 @@ pub enum AstJsonError {
     },
 }
 
-/// Where the innermost node stands that has the problem and tells its place, if there is one.
+/// The source location of the innermost node that has the problem and a location, if there is one.
+///
+/// `Display` writes its offsets, and nothing where there is none.
+///
+/// ```
+/// let span = SourceSpan::new(FileId::new(1), 4, 9).context("start is after end")?;
+/// println!(rt; "at `value`{}", NodePlace(Some(span)))?; // at `value`, in a node from 4 to 9
+/// ```
 #[derive(Clone, Copy, Debug, PartialEq, Eq)]
 pub struct NodePlace(pub Option<SourceSpan>);
 
@@ -211,7 +256,7 @@ impl AstJsonError {
     ghost use Rattle.graphql_ast_json.specs.code.Paths.{item_name, path_text};
     ghost use Rattle.graphql_ast_json.specs.code.ToldErrors.{IsInvalidAnd, IsToldFrom};
 
-    /// Whether memory was refused.
+    /// Whether an allocation failed.
     pub fn is_memory(&self) -> bool
         ensures { IsTrue result ↔ IsMemory self.now }
     {

@@ -24,7 +24,13 @@ use parsed_json::AnyJson;
 use serde_json::{Map, Value as Json, put};
 use std::alloc::{AllocError, Global};
 
-/// What becomes of a member that no node of the kind has, and of one that no location has.
+/// What is done with a member that no node of the kind has, or that no location has.
+///
+/// ```
+/// // `json` is {"kind":"IntValue","value":"4","extra":true}
+/// let node = NodeReader { alloc, json: &json, source: FileId::new(1), unknown: Unknown::PassOver };
+/// let value = Value::read_ast_json(node)?; // the value 4; an error with `Unknown::Refuse`
+/// ```
 #[derive(Clone, Copy, Debug, PartialEq, Eq)]
 pub enum Unknown {
     /// The JSON is refused.
@@ -34,6 +40,13 @@ pub enum Unknown {
 }
 
 /// JSON that is read, as a rule a node of a syntax tree, with what its reading needs.
+///
+/// ```
+/// // `json` is {"kind":"Name","value":"id"}
+/// let node = NodeReader { alloc, json: &json, source: FileId::new(1), unknown: Unknown::Refuse };
+/// let name = Name::read_ast_json(node)?;
+/// println!(rt; "{name}")?; // id
+/// ```
 #[derive(Clone, Copy)]
 pub struct NodeReader<'j> {
     pub alloc: Global,
@@ -43,9 +56,11 @@ pub struct NodeReader<'j> {
     pub unknown: Unknown,
 }
 
-/// JSON that is read, as a rule a node of a syntax tree, in either form: a value of `serde_json`, or one that `parse_json`
-/// made of a text, which is read in a fraction of the time. The scratch of `parse_json` is `Scratch` of the kit's crate
-/// `json`: a program that calls it lists `json` in its line of crates.txt.
+/// JSON that is read, as a rule a node of a syntax tree, in either form.
+///
+/// It is a value of `serde_json`, or one that `parse_json` made of a text, which is read in a fraction of the time. The
+/// scratch of `parse_json` is `Scratch` of the kit's crate `json`: a program that calls it lists `json` in its line of
+/// crates.txt.
 ///
 /// ```
 /// let mut scratch = Scratch::new(alloc);

@@ -26,7 +26,17 @@ use std::alloc::{AllocError, Global};
 use std::fmt::{self, Display, Formatter, Write};
 use thiserror::Error;
 
-/// A side condition that a tree breaks, and the name that breaks it, or else that of what breaks it, if it has one.
+/// A side condition that a tree breaks, and a name.
+///
+/// The name is the one that breaks it, or else that of what breaks it, if it has one.
+///
+/// ```
+/// let text = r#"{"kind":"EnumTypeExtension","name":{"kind":"Name","value":"E"}}"#;
+/// let read = from_well_formed_ast_json_str::<EnumTypeExtension>(alloc, text, FileId::new(1));
+/// if let Err(WellFormedError::IllFormed { broken, .. }) = read {
+///     println!(rt; "{broken}")?; // an extension that adds nothing: `E`
+/// }
+/// ```
 #[derive(Debug, Drop)]
 pub struct BrokenCondition {
     pub condition: SideCondition,
@@ -64,6 +74,13 @@ impl Display for BrokenCondition {
 }
 
 /// Why no well-formed syntax tree was made of JSON.
+///
+/// ```
+/// match from_well_formed_ast_json_str::<Document>(alloc, r#"{"kind":"Document","definitions":[]}"#, FileId::new(1)) {
+///     Ok(document) => print!(rt; "{document}")?,
+///     Err(error) => println!(rt; "{error}")?, // at the root: a document without a definition
+/// }
+/// ```
 #[derive(Debug, Drop, Error)]
 pub enum WellFormedError {
     /// No tree was made of it, well formed or not.
@@ -85,7 +102,7 @@ pub enum WellFormedError {
 impl WellFormedError {
     ghost use Rattle.graphql_ast_json.specs.code.WellFormed.{IsMemoryRefused};
 
-    /// Whether memory was refused.
+    /// Whether an allocation failed.
     pub fn is_memory(&self) -> bool
         ensures { IsTrue result ↔ IsMemoryRefused self.now }
     {
@@ -110,7 +127,7 @@ impl From<AllocError> for WellFormedError {
 /// The tree that a node is of, if it is well formed.
 ///
 /// `WellFormedError::NotRead` where `AstJson::read_ast_json` refuses the node, and `WellFormedError::IllFormed` exactly
-/// where the node is of a tree that isn't well formed, unless memory is refused.
+/// where the node is of a tree that isn't well formed, unless an allocation fails.
 pub fn read_well_formed_ast_json<T: AstJson + SyntaxTree + Drop>(
     node: NodeReader<'_>,
 ) -> Result<T, WellFormedError>

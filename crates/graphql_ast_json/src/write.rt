@@ -47,7 +47,7 @@ fn write_location(alloc: Global, location: Option<SourceSpan>) -> Result<Option<
     }
 }
 
-/// An array of the JSON of these trees, one by one. `AllocError` where memory is refused.
+/// An array of the JSON of these trees, one by one. `AllocError` if an allocation fails.
 pub(crate) fn write_list<F: Form>(alloc: Global, values: &[F::Value]) -> Result<Json, AllocError>
     ensures { IfOk result (λ json. (unknown : Unknown) → IsSomeAnd (as_array (view json))
         (Each (F.is_json_of unknown) (map F.tree values.now))) }

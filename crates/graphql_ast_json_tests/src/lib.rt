@@ -2,6 +2,10 @@
 #![tactic(auto)]
 
 #[cfg(test)]
+mod calls;
+#[cfg(test)]
+mod each_kind;
+#[cfg(test)]
 mod errors;
 #[cfg(test)]
 mod flawed_trees;

@@ -1,5 +1,8 @@
 //! Calls that meet a refused growth, wherever it comes: the answer is the refusal, or that of an undisturbed call.
 //! `rt try --test --fail-alloc N` refuses the Nth growth of each test.
+mod each_kind;
+
+use crate::calls::check_all;
 use crate::samples::{DEFINITION, ILL_FORMED, PRINTED};
 use graphql_ast::ast::Document;
 use graphql_ast_json::{
@@ -10,6 +13,7 @@ use graphql_text::engine::PrintError;
 use graphql_values::directive_definition::DirectiveDefinition;
 use std::alloc::Global;
 use std::process::Abort;
+use worked_trees::refused::Refused;
 
 /// What is said of a text that is of no document. Nothing, where memory was refused.
 fn refusal(rt: &impl Abort, alloc: Global, text: &str) -> Option<String> {
@@ -25,6 +29,7 @@ fn refusal(rt: &impl Abort, alloc: Global, text: &str) -> Option<String> {
     }
 }
 
+/// Allocations: 53.
 #[test]
 fn a_definition_is_read_or_memory_was_refused(rt: HostRuntime) {
     let alloc = rt.alloc();
@@ -37,6 +42,7 @@ fn a_definition_is_read_or_memory_was_refused(rt: HostRuntime) {
     }
 }
 
+/// Allocations: 175.
 #[test]
 fn a_definition_is_written_or_memory_was_refused(rt: HostRuntime) {
     let alloc = rt.alloc();
@@ -53,6 +59,7 @@ fn a_definition_is_written_or_memory_was_refused(rt: HostRuntime) {
     }
 }
 
+/// Allocations: 14.
 #[test]
 fn a_flaw_is_told_or_memory_was_refused(rt: HostRuntime) {
     let alloc = rt.alloc();
@@ -65,6 +72,7 @@ fn a_flaw_is_told_or_memory_was_refused(rt: HostRuntime) {
     }
 }
 
+/// Allocations: 15.
 #[test]
 fn an_unknown_member_is_told_or_memory_was_refused(rt: HostRuntime) {
     let text = r#"{"kind":"Document","definitions":[],"b":[{}],"\u0061":1}"#;
@@ -77,10 +85,19 @@ fn an_unknown_member_is_told_or_memory_was_refused(rt: HostRuntime) {
 }
 
 /// The text has an escape, and is read twice.
+/// Allocations: 11.
 #[test]
 fn a_text_that_is_no_json_is_told_or_memory_was_refused(rt: HostRuntime) {
     let text = r#"{"kind":"\u0044ocument","definitions":[}"#;
     if let Some(said) = refusal(&rt, rt.alloc(), text) {
         assert_eq!(rt; said.as_str(), "not JSON: invalid JSON at line 1 column 40");
     }
+}
+
+/// Allocations: 225.
+#[test]
+fn calls_are_whole_or_memory_was_refused(rt: HostRuntime) {
+    let mut refused = Refused::none();
+    check_all(&rt, rt.alloc(), &mut refused);
+    assert!(rt; refused.calls <= 1);
 }

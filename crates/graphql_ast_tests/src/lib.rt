@@ -2,9 +2,15 @@
 #![tactic(auto)]
 
 #[cfg(test)]
+mod calls;
+#[cfg(test)]
 mod checks;
 #[cfg(test)]
 mod documents;
+#[cfg(test)]
+mod each_kind;
+#[cfg(test)]
+mod growths;
 #[cfg(test)]
 mod hostile;
 #[cfg(test)]

@@ -1,9 +1,13 @@
 //! What is made, copied, pushed and printed, or refused.
+mod calls;
+mod each_kind;
+
 use crate::checks::{check_cloned_or_refused, check_text_or_refused};
 use crate::samples::{EACH_VARIANT, document, each_variant};
 use graphql_ast::ast::{Document, ScalarTypeDefinition};
 use graphql_ast::name;
 
+/// Allocations: 62.
 #[test]
 fn a_document_is_copied_and_printed_or_refused(rt: HostRuntime) {
     if let Ok(all) = each_variant(rt.alloc()) {
@@ -14,6 +18,7 @@ fn a_document_is_copied_and_printed_or_refused(rt: HostRuntime) {
 }
 
 /// A definition that is refused leaves the document as it was, and the next is pushed.
+/// Allocations: 24.
 #[test]
 fn definitions_are_pushed_or_refused(rt: HostRuntime) {
     let alloc = rt.alloc();

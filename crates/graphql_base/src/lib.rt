@@ -1,7 +1,7 @@
 //! What each part of a GraphQL syntax tree is made of: names, values that may be shared, and their
 //! source locations.
 //!
-//! - `span`: numbers of source files, and stretches of their texts.
+//! - `span`: numbers of source files, and source locations.
 //! - `name`: names, with their syntax, and the macro `name!`.
 //! - `node`: values and texts that several trees may share.
 //! - `short_text`: short texts that take no memory.

@@ -13,18 +13,16 @@ use std::fmt::{self, Debug, Display, Formatter, Write};
 use std::rc::RcStr;
 use thiserror::Error;
 
-/// A name (the production `Name` of the GraphQL grammar): a letter or `_`, followed by letters, digits
-/// and `_`, all of ASCII.
+/// A name (`Name`, section 2.1.9): a letter or `_`, followed by letters, digits and `_`, all of ASCII.
 ///
-/// A name is its text, and optionally its source location. The text has one of
-/// three forms:
+/// A name is its text, and optionally its source location. The text has one of three forms:
 ///
 /// - *static*: it lives for the whole program (`new_static`, `name!`);
-/// - *shared*: it has memory of its own, which clones of the name share (`new`, `new_shared`);
-/// - *in place*: it stands in the name itself and takes no memory, at most `Name::IN_PLACE` bytes (`compact`).
+/// - *shared*: it has an allocation of its own, which clones of the name share (`new`, `new_shared`);
+/// - *in place*: at most `Name::IN_PLACE` bytes, stored in the name itself without an allocation (`compact`).
 ///
-/// Equality, order and hash are those of the text alone: a name equals one that stands elsewhere, or
-/// whose text has another form. The order is that of the bytes. A clone keeps the location and the form.
+/// Equality, order and hash are those of the text alone: they ignore the source location and the form of the text. The
+/// order is that of the bytes. A clone keeps the location and the form.
 ///
 /// ```
 /// let name = Name::new(alloc, "id")?;
@@ -37,10 +35,16 @@ pub struct Name {
     pub ghost valid: { IsTrue (is_name text.bytes) },
 }
 
-/// The name of a type (the production `NamedType`).
+/// The name of a type (`NamedType`, section 2.11).
 pub type NamedType = Name;
 
 /// The error of a text that is no name.
+///
+/// ```
+/// if let Err(NameError::Invalid(error)) = Name::new(alloc, "2nd search") {
+///     println!(rt; "{error}")?; // `2nd search` is not a valid GraphQL name
+/// }
+/// ```
 #[derive(Clone, Debug, Drop, PartialEq, Eq, Error)]
 #[error("`{name}` is not a valid GraphQL name")]
 pub struct InvalidNameError {
@@ -50,7 +54,15 @@ pub struct InvalidNameError {
     pub location: Option<SourceSpan>,
 }
 
-/// Why a constructor of `Name` made none.
+/// Why a constructor of `Name` returned no name.
+///
+/// ```
+/// match Name::new(alloc, "a-b") {
+///     Ok(name) => println!(rt; "{name}")?,
+///     Err(NameError::Invalid(error)) => println!(rt; "{}", error.name)?, // a-b
+///     Err(NameError::Memory) => println!(rt; "out of memory")?,
+/// }
+/// ```
 #[derive(Clone, Debug, Drop, PartialEq, Eq, Error)]
 pub enum NameError {
     /// The text isn't in name syntax.
@@ -178,6 +190,10 @@ impl Name {
     ///
     /// `NameError::Invalid` for a text outside name syntax, and for no other: it holds the text and no
     /// location. `NameError::Memory` where memory for that text is refused.
+    ///
+    /// ```
+    /// Name::new_shared(alloc, RcStr::from_str(alloc, "id")?)? // id
+    /// ```
     pub fn new_shared(alloc: Global, text: RcStr) -> Result<Name, NameError>
         ensures valid { IsOk result ↔ IsTrue (is_name (rc_str_bytes text)) }
         ensures ok { IfOk result (IsNewName (rc_str_bytes text) SharedForm) }
@@ -193,6 +209,10 @@ impl Name {
     ///
     /// `NameError::Invalid` for a text outside name syntax, and for no other: it holds the text and no
     /// location. `NameError::Memory` where memory for that text is refused.
+    ///
+    /// ```
+    /// Name::new_static(alloc, "id")? // id
+    /// ```
     pub fn new_static(alloc: Global, text: &'static str) -> Result<Name, NameError>
         ensures valid { IsOk result ↔ IsTrue (is_name text.now) }
         ensures ok { IfOk result (IsNewName text.now StaticForm) }
@@ -206,6 +226,10 @@ impl Name {
 
     /// A name over a copy of a text that is in name syntax, without a test. `AllocError` where memory is
     /// refused.
+    ///
+    /// ```
+    /// Name::new_unchecked(alloc, "id")? // id
+    /// ```
     pub fn new_unchecked(alloc: Global, text: &str) -> Result<Name, AllocError>
         requires { IsTrue (is_name text.now) }
         ensures { IfOk result (IsNewName text.now SharedForm) }
@@ -215,6 +239,10 @@ impl Name {
 
     /// A name over a copy of a text that is in name syntax, in the name itself where it fits, without a
     /// test. `AllocError` only for a longer text, where memory is refused.
+    ///
+    /// ```
+    /// Name::compact_unchecked(alloc, "id")? // id, in place
+    /// ```
     pub fn compact_unchecked(alloc: Global, text: &str) -> Result<Name, AllocError>
         requires { IsTrue (is_name text.now) }
         ensures ok { IfOk result (IsNewName text.now (compact_form text.now)) }
@@ -229,6 +257,10 @@ impl Name {
     }
 
     /// A name over a shared text that is in name syntax, without a test. It takes no memory.
+    ///
+    /// ```
+    /// Name::from_arc_unchecked(RcStr::from_str(alloc, "id")?) // id
+    /// ```
     pub fn from_arc_unchecked(text: RcStr) -> Name
         requires { IsTrue (is_name (rc_str_bytes text)) }
         ensures { IsNewName (rc_str_bytes text) SharedForm result }
@@ -240,6 +272,10 @@ impl Name {
 
     /// A name over a static text that is in name syntax, without a test. It takes no memory; `name!`
     /// calls it.
+    ///
+    /// ```
+    /// Name::new_static_unchecked("id") // id
+    /// ```
     pub fn new_static_unchecked(text: &'static str) -> Name
         requires { IsTrue (is_name text.now) }
         ensures { IsNewName text.now StaticForm result }
@@ -249,7 +285,12 @@ impl Name {
         }
     }
 
-    /// This name with another location: a stretch of as many bytes as the name has.
+    /// This name with another source location: a span of as many bytes as the name has.
+    ///
+    /// ```
+    /// let span = SourceSpan::new(FileId::new(5), 10, 12)?;
+    /// name!(id).with_location(span) == name!(id) // true
+    /// ```
     pub fn with_location(self, span: SourceSpan) -> Name
         requires { span_len span ≡ length (name_text self) }
         ensures text { name_text result ≡ name_text self }

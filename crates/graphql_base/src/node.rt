@@ -20,8 +20,7 @@ pub(crate) fn is_built_in(location: Option<SourceSpan>) -> bool
     }
 }
 
-/// A part of a tree: a value that several nodes may share, and optionally its
-/// source location.
+/// A part of a tree: a value that several nodes may share, and optionally its source location.
 ///
 /// A clone shares the value and keeps the location. A change through `make_mut` or `get_mut` is seen in
 /// that node alone. Equality and hash are those of the value alone.
@@ -42,23 +41,37 @@ pub struct Node<T> {
 impl<T: Drop> Node<T> {
     ghost use Rattle.graphql_base.specs.Node.{node_at};
 
-    /// A node of this value, with no location. `AllocError` where memory is refused; the value is given up
+    /// A node of this value, with no location. `AllocError` where memory is refused; the value is dropped
     /// then.
+    ///
+    /// ```
+    /// Node::new(alloc, name!(id))? // a node of the name id
+    /// ```
     pub fn new(alloc: Global, value: T) -> Result<Node<T>, AllocError>
         ensures { IfOk result (λ node. node ≡ node_at None value) }
     {
-        Node::at(alloc, value, None)
+        Node::new_at(alloc, value, None)
     }
 
     /// A node of this value, which stands at `span` in a source text. `AllocError` where memory is refused;
-    /// the value is given up then.
+    /// the value is dropped then.
+    ///
+    /// ```
+    /// Node::new_parsed(alloc, name!(id), span)?.location() // Some(span)
+    /// ```
     pub fn new_parsed(alloc: Global, value: T, span: SourceSpan) -> Result<Node<T>, AllocError>
         ensures { IfOk result (λ node. node ≡ node_at (Some span) value) }
     {
-        Node::at(alloc, value, Some(span))
+        Node::new_at(alloc, value, Some(span))
     }
 
-    pub(crate) fn at(
+    /// A node of this value, with this location or none. `AllocError` where memory is refused; the value is dropped
+    /// then.
+    ///
+    /// ```
+    /// Node::new_at(alloc, name!(id), node.location())? // where that node stands
+    /// ```
+    pub fn new_at(
         alloc: Global,
         value: T,
         location: Option<SourceSpan>,
@@ -76,11 +89,11 @@ impl<T> Node<T> {
     ghost use Rattle.graphql_base.specs.Node.{node_at, node_location};
 
     /// A node of another value, at this node's location if it has one. `AllocError` where memory is refused;
-    /// the value is given up then.
+    /// the value is dropped then.
     pub fn same_location<U: Drop>(&self, alloc: Global, value: U) -> Result<Node<U>, AllocError>
         ensures { IfOk result (λ node. node ≡ node_at (node_location self.now) value) }
     {
-        Node::at(alloc, value, self.location())
+        Node::new_at(alloc, value, self.location())
     }
 
     /// The source location of the value.
@@ -106,8 +119,8 @@ impl<T> Node<T> {
     /// The value, to write to, and `None` where another node shares it. A node just made shares its value
     /// with none.
     ///
-    /// What is written is seen in this node alone, and the location stays. In which cases the answer is
-    /// `None` is no part of the contract.
+    /// What is written is seen in this node alone, and the location stays. In which cases it returns `None` is no part
+    /// of the contract.
     pub fn get_mut(&mut self) -> Option<&mut T>
         ensures* writes_back { sem 𝓛 (LendsValue T.row self.entry result) }
         ensures value { IfSome result (λ value. value.now ≡ node_value self.old) }

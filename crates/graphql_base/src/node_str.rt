@@ -9,10 +9,15 @@ use crate::span::SourceSpan;
 use std::alloc::{AllocError, Global};
 use std::fmt::{self, Debug, Display, Formatter, Write};
 
-/// A text that several trees may share, and optionally its source location: what a
-/// `Node` is for a sized value.
+/// A text that several trees may share, and optionally its source location: what a `Node` is for a sized value.
 ///
 /// A clone shares the text and keeps the location. Equality and hash are those of the text alone.
+///
+/// ```
+/// let mut scalar = ScalarTypeDefinition::new(alloc, name!(DateTime));
+/// scalar.description = Some(NodeStr::new_str(alloc, "An RFC 3339 time")?);
+/// println!(rt; "{}", scalar.serialize().no_indent())?; // "An RFC 3339 time" scalar DateTime
+/// ```
 #[derive(Drop)]
 #[derive_where(PartialEq, Eq, Hash)]
 pub struct NodeStr {
@@ -26,6 +31,10 @@ impl NodeStr {
     ghost use Rattle.graphql_base.specs.Node.{node_at, node_str_text, node_str_location, IsNodeStrAt};
 
     /// A copy of the text, with no location. `AllocError` where memory is refused.
+    ///
+    /// ```
+    /// NodeStr::new_str(alloc, "The shop")?.as_str() // "The shop"
+    /// ```
     pub fn new_str(alloc: Global, text: &str) -> Result<NodeStr, AllocError>
         ensures { IfOk result (IsNodeStrAt None text.now) }
     {
@@ -33,6 +42,10 @@ impl NodeStr {
     }
 
     /// A copy of the text, which stands at `span` in a source text. `AllocError` where memory is refused.
+    ///
+    /// ```
+    /// NodeStr::new_str_parsed(alloc, "The shop", span)?.location() // Some(span)
+    /// ```
     pub fn new_str_parsed(
         alloc: Global,
         text: &str,
@@ -53,11 +66,11 @@ impl NodeStr {
     }
 
     /// A node of a value, at this text's location if it has one. `AllocError` where memory is refused; the
-    /// value is given up then.
+    /// value is dropped then.
     pub fn same_location<U: Drop>(&self, alloc: Global, value: U) -> Result<Node<U>, AllocError>
         ensures { IfOk result (λ node. node ≡ node_at (node_str_location self.now) value) }
     {
-        Node::at(alloc, value, self.location())
+        Node::new_at(alloc, value, self.location())
     }
 
     /// The text.

@@ -1,7 +1,12 @@
 //! A short text that stands in its owner, and takes no memory.
 ghost use Rattle.std.specs.Prelude.{◌≡◌, ◌≤◌, IsUtf8, length, take};
 
-/// A text of at most `ROOM` bytes, which stand in it.
+/// A text of at most `ROOM` bytes, which are stored in it.
+///
+/// ```
+/// let text: ShortText<4> = ShortText::new("id");
+/// text.as_str() // "id"
+/// ```
 #[derive(Clone, Copy)]
 pub struct ShortText<const ROOM: usize> {
     used: u8,

@@ -1,9 +1,14 @@
-//! Source files by their numbers, and stretches of their texts.
+//! Source files by their numbers, and source locations.
 ghost use Rattle.std.specs.Prelude.{◌≡◌, ◌≤◌, ◌↔◌, IsSome, IfSome};
 
 /// A source file, by a number that the caller chooses.
 ///
-/// Two ids are equal exactly if their numbers are.
+/// Equality and hash are those of the number.
+///
+/// ```
+/// FileId::new(5) == FileId::new(5)   // true
+/// FileId::new(5) == FileId::BUILT_IN // false
+/// ```
 #[derive(Clone, Copy, PartialEq, Eq, Hash, Debug)]
 pub struct FileId {
     number: u64,
@@ -16,6 +21,10 @@ impl FileId {
     pub const BUILT_IN: FileId = FileId { number: 0 };
 
     /// The file of this number. The number 0 is that of `FileId::BUILT_IN`.
+    ///
+    /// ```
+    /// FileId::new(0) == FileId::BUILT_IN // true
+    /// ```
     pub fn new(number: u64) -> FileId
         ensures { file_number result ≡ number }
     {
@@ -23,9 +32,14 @@ impl FileId {
     }
 }
 
-/// A stretch of a source file: from the offset `start` up to, not including, the offset `end`, both in bytes.
+/// A source location: the bytes of a file from the offset `start` up to, not including, the offset `end`.
 ///
-/// Its start is at most its end. Two spans are equal exactly if their files, starts and ends are.
+/// Its start is at most its end. Equality and hash are those of the file, the start and the end.
+///
+/// ```
+/// let span = SourceSpan::new(FileId::new(5), 10, 13)?;
+/// span.len() // 3
+/// ```
 #[derive(Clone, Copy, PartialEq, Eq, Hash, Debug)]
 pub struct SourceSpan {
     file_id: FileId,
@@ -37,7 +51,7 @@ pub struct SourceSpan {
 impl SourceSpan {
     ghost use Rattle.graphql_base.specs.Span.{span_file, span_start, span_end, span_len};
 
-    /// The stretch of the file from `start` up to, not including, `end`, both in bytes from the file's
+    /// The span of the file from `start` up to, not including, `end`, both in bytes from the file's
     /// beginning. `None` exactly where `start` is greater than `end`.
     ///
     /// ```
@@ -62,28 +76,28 @@ impl SourceSpan {
         }
     }
 
-    /// The file that this is a stretch of.
+    /// The file that the span is in.
     pub fn file_id(self) -> FileId
         ensures { result ≡ span_file self }
     {
         self.file_id
     }
 
-    /// Where the stretch begins, in bytes from the file's beginning.
+    /// Where the span begins, in bytes from the file's beginning.
     pub fn start(self) -> u32
         ensures { result ≡ span_start self }
     {
         self.start
     }
 
-    /// Where the stretch ends, in bytes from the file's beginning; the byte there is no part of it.
+    /// Where the span ends, in bytes from the file's beginning; the byte there is no part of it.
     pub fn end(self) -> u32
         ensures { result ≡ span_end self }
     {
         self.end
     }
 
-    /// How many bytes the stretch has: its end less its start.
+    /// How many bytes the span has: its end less its start.
     pub fn len(self) -> u32
         ensures { result ≡ span_len self }
     {

@@ -14,7 +14,16 @@ use graphql_values::directive_list::DirectiveList;
 use graphql_values::value::Value;
 use std::alloc::{AllocError, Global};
 
-/// A field (`Field`, section 2.5). Two are equal exactly if they differ in locations at most.
+/// A field (`Field`, section 2.5).
+///
+/// Equality and hash ignore source locations.
+///
+/// ```
+/// let mut user = Field::new(alloc, name!(user));
+/// user.alias = Some(name!(me));
+/// user.selection_set.push(Selection::field(alloc, Field::new(alloc, name!(id)))?)?;
+/// println!(rt; "{}", user.serialize().no_indent())?; // me: user { id }
+/// ```
 #[cycle(selection)]
 #[derive(PartialEq, Eq, Hash, Debug, Drop)]
 pub struct Field {

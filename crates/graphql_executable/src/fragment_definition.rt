@@ -9,8 +9,15 @@ use graphql_base::node::NodeStr;
 use graphql_values::directive_list::DirectiveList;
 use std::alloc::Global;
 
-/// A fragment definition (`FragmentDefinition`, section 2.8). Two are equal exactly if they differ in locations at
-/// most.
+/// A fragment definition (`FragmentDefinition`, section 2.8).
+///
+/// Equality and hash ignore source locations.
+///
+/// ```
+/// let mut fragment = FragmentDefinition::new(alloc, name!(F), name!(User));
+/// fragment.selection_set.push(Selection::field(alloc, Field::new(alloc, name!(id)))?)?;
+/// println!(rt; "{}", fragment.serialize().no_indent())?; // fragment F on User { id }
+/// ```
 #[derive(Clone, PartialEq, Eq, Hash, Debug, Drop)]
 pub struct FragmentDefinition {
     /// The string before `fragment`.

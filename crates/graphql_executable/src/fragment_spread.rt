@@ -7,7 +7,15 @@ use graphql_base::name::Name;
 use graphql_values::directive_list::DirectiveList;
 use std::alloc::Global;
 
-/// A fragment spread (`FragmentSpread`, section 2.8). Two are equal exactly if they differ in locations at most.
+/// A fragment spread (`FragmentSpread`, section 2.8).
+///
+/// Equality and hash ignore source locations.
+///
+/// ```
+/// let mut spread = FragmentSpread::new(alloc, name!(F));
+/// spread.directives.0.push(Node::new(alloc, Directive::new(alloc, name!(defer)))?)?;
+/// println!(rt; "{spread}")?; // ...F @defer
+/// ```
 #[derive(Clone, PartialEq, Eq, Hash, Debug, Drop)]
 pub struct FragmentSpread {
     /// The name of the fragment. A spread of `on` isn't well formed.

@@ -8,7 +8,16 @@ use graphql_base::name::NamedType;
 use graphql_values::directive_list::DirectiveList;
 use std::alloc::{AllocError, Global};
 
-/// An inline fragment (`InlineFragment`, section 2.8). Two are equal exactly if they differ in locations at most.
+/// An inline fragment (`InlineFragment`, section 2.8).
+///
+/// Equality and hash ignore source locations.
+///
+/// ```
+/// let mut fragment = InlineFragment::new(alloc);
+/// fragment.type_condition = Some(name!(User));
+/// fragment.selection_set.push(Selection::field(alloc, Field::new(alloc, name!(id)))?)?;
+/// println!(rt; "{}", fragment.serialize().no_indent())?; // ... on User { id }
+/// ```
 #[cycle(selection)]
 #[derive(PartialEq, Eq, Hash, Debug, Drop)]
 pub struct InlineFragment {

@@ -12,9 +12,16 @@ use graphql_values::directive_list::DirectiveList;
 use graphql_values::operation_type::OperationType;
 use std::alloc::Global;
 
-/// An operation (`OperationDefinition`, section 2.3). Two are equal exactly if they differ in locations at most.
+/// An operation (`OperationDefinition`, section 2.3).
 ///
-/// The variables stand in order; of variables with one name each is kept.
+/// The variables stand in order; of variables with one name each is kept. Equality and hash ignore source locations.
+///
+/// ```
+/// let mut query = OperationDefinition::new(alloc, OperationType::Query);
+/// query.name = Some(name!(Me));
+/// query.selection_set.push(Selection::field(alloc, Field::new(alloc, name!(id)))?)?;
+/// println!(rt; "{}", query.serialize().no_indent())?; // query Me { id }
+/// ```
 #[derive(Clone, PartialEq, Eq, Hash, Debug, Drop)]
 pub struct OperationDefinition {
     /// The string before the operation.

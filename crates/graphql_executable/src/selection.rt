@@ -15,7 +15,16 @@ use graphql_base::span::SourceSpan;
 use graphql_values::directive_list::DirectiveList;
 use std::alloc::{AllocError, Global};
 
-/// A selection (`Selection`, section 2.4). Two are equal exactly if they differ in locations at most.
+/// A selection (`Selection`, section 2.4).
+///
+/// Equality and hash ignore source locations.
+///
+/// ```
+/// let selection = Selection::field(alloc, Field::new(alloc, name!(id)))?;
+/// if let Some(field) = selection.as_field() {
+///     println!(rt; "{}", field.response_name())?; // id
+/// }
+/// ```
 #[cycle(selection)]
 #[derive(PartialEq, Eq, Hash, Debug, Drop)]
 pub enum Selection {
@@ -70,7 +79,7 @@ impl Selection {
     }
 
     /// The selection of a fragment spread, in a node without a location. `AllocError` where memory is refused; the
-    /// spread is given up then.
+    /// spread is dropped then.
     ///
     /// ```
     /// Selection::fragment_spread(alloc, FragmentSpread::new(alloc, name!(F)))? // ...F
@@ -83,7 +92,7 @@ impl Selection {
     }
 
     /// The selection of an inline fragment, in a node without a location. `AllocError` where memory is refused; the
-    /// fragment is given up then.
+    /// fragment is dropped then.
     ///
     /// ```
     /// Selection::inline_fragment(alloc, fragment)? // ... on T { id }

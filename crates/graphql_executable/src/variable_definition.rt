@@ -10,8 +10,15 @@ use graphql_values::types::Type;
 use graphql_values::value::Value;
 use std::alloc::Global;
 
-/// A variable of an operation (`VariableDefinition`, section 2.10). Two are equal exactly if they differ in locations
-/// at most.
+/// A variable of an operation (`VariableDefinition`, section 2.10).
+///
+/// Equality and hash ignore source locations.
+///
+/// ```
+/// let mut first = VariableDefinition::new(alloc, name!(first), Node::new(alloc, ty!(Int!))?);
+/// first.default_value = Some(Node::new(alloc, value!(in alloc; 10)?)?);
+/// println!(rt; "{first}")?; // $first: Int! = 10
+/// ```
 #[derive(Clone, PartialEq, Eq, Hash, Debug, Drop)]
 pub struct VariableDefinition {
     /// The string before the variable.

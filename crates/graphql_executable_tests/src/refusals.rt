@@ -8,6 +8,7 @@ use graphql_executable::operation_definition::OperationDefinition;
 use graphql_executable::selection::Selection;
 use std::alloc::AllocError;
 
+/// Allocations: 26.
 #[test]
 fn an_operation_is_copied_and_printed_or_refused(rt: HostRuntime) {
     let operation: Result<OperationDefinition, _> = operation(rt.alloc());
@@ -19,6 +20,7 @@ fn an_operation_is_copied_and_printed_or_refused(rt: HostRuntime) {
     }
 }
 
+/// Allocations: 8.
 #[test]
 fn a_fragment_is_copied_and_printed_or_refused(rt: HostRuntime) {
     if let Ok(fragment) = fragment(rt.alloc()) {
@@ -28,6 +30,7 @@ fn a_fragment_is_copied_and_printed_or_refused(rt: HostRuntime) {
     }
 }
 
+/// Allocations: 10.
 #[test]
 fn a_selection_is_made_or_refused(rt: HostRuntime) {
     let alloc = rt.alloc();
@@ -47,6 +50,7 @@ fn a_selection_is_made_or_refused(rt: HostRuntime) {
     }
 }
 
+/// Allocations: 31.
 #[test]
 fn directives_are_lent_or_the_selection_stays(rt: HostRuntime) {
     let alloc = rt.alloc();

@@ -87,8 +87,8 @@ impl Located for Document {
 
 /// Makes another document with the same tree, in which no name, text or node has a location, and which has no sources. This
 /// document stays as it is. Each node of the new one is its own: a node that stands at several places of this document is made
-/// for each of them. Texts of names are shared with this document where they are shared already. `AllocError` where memory is
-/// refused.
+/// for each of them. Texts of names are shared with this document where they are shared already. `AllocError` if an
+/// allocation fails.
 ///
 /// ```
 /// let plain = strip_locations(alloc, &document)?;

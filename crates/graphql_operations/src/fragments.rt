@@ -160,7 +160,7 @@ pub(crate) fn with_fragments(
 
 /// The fragments of a document that are reached from a node: those that are spread in it, those that are spread in these,
 /// and so on, in the order of the document. A fragment may reach itself, and a spread of a fragment that isn't there reaches
-/// none. `AllocError` where memory is refused.
+/// none. `AllocError` if an allocation fails.
 ///
 /// ```
 /// fragments_reached(alloc, &document, operation)?

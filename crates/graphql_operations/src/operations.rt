@@ -75,7 +75,7 @@ fn with_operation(
 }
 
 /// A document for each operation, in order: the operation and the fragments that it reaches, as they stand in the document,
-/// and nothing else. Each has the sources of the document, and shares its nodes. `AllocError` where memory is refused.
+/// and nothing else. Each has the sources of the document, and shares its nodes. `AllocError` if an allocation fails.
 ///
 /// ```
 /// for document in separate_operations(alloc, &document)? { .. }

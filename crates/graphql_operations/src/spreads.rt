@@ -28,8 +28,8 @@ impl Reader for Spreads {
     }
 }
 
-/// The names of the fragments that are spread within a node, in order, as often as they are spread. `AllocError` where
-/// memory is refused.
+/// The names of the fragments that are spread within a node, in order, as often as they are spread. `AllocError` if an
+/// allocation fails.
 ///
 /// ```
 /// fragment_spreads(alloc, &operation)

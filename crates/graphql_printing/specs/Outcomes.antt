@@ -1,5 +1,7 @@
 -- How a run ends, and what is so then. `left` is what the reader had left, `old` and `new` what the writer held before and after, where those are known.
-use Rattle.std.specs.Prelude.{◌≡◌, ℕ, false, List, Option, ⊤}
+use Rattle.std.specs.Prelude.{◌≡◌, ℕ, Bool, false, true, List, Option, ⊤}
+use Rattle.clap.specs.declared.error.kind.ErrorKind.{ErrorKind}
+use Rattle.clap.specs.declared.error.kind.ErrorKind.TheVariants.{DisplayHelp, DisplayVersion, OutOfMemory}
 use Rattle.graphql_ast.specs.Documents.{document_kind}
 use Rattle.graphql_ast.specs.Levels.{Overflows}
 use Rattle.graphql_ast_json.specs.kinds.DocumentJson.{IsDocument}
@@ -22,6 +24,15 @@ status_of NotJson = 3
 status_of NoTree = 3
 status_of Memory = 4
 status_of WriterFailed = 4
+
+-- the exit status of words that ask for nothing, by what is said of them, and whether that could be written
+abbrev pub status_of_words : ErrorKind → Bool → ℕ
+status_of_words DisplayHelp true = 0
+status_of_words DisplayVersion true = 0
+status_of_words DisplayHelp false = 4
+status_of_words DisplayVersion false = 4
+status_of_words OutOfMemory _ = 4
+status_of_words _ _ = 2
 
 -- how a run ends whose document was not written
 abbrev pub outcome_of_error : PrintError → Outcome

@@ -1,5 +1,5 @@
 //! Documents as AST JSON.
-ghost use Rattle.std.specs.Prelude.{◌≡◌, ◌≤◌, IfOk, IsErrOf, OnOk, Some, string_bytes};
+ghost use Rattle.std.specs.Prelude.{◌≡◌, ◌≤◌, IfOk, IsErrOf, IsTrue, OnOk, Some, string_bytes};
 ghost use Rattle.serde_json.specs.Data.{depth};
 ghost use Rattle.serde_json.specs.Read.{max_depth, read};
 ghost use Rattle.serde_json.specs.View.{view};
@@ -16,32 +16,77 @@ use serde_json::Value as Json;
 use std::alloc::{AllocError, Global};
 use std::io::Write;
 
-/// The text of JSON.
-fn text_of(alloc: Global, is_pretty: bool, json: &Json) -> Result<String, AllocError>
+/// A text of JSON in which each line has so many spaces for a level that stands there with two.
+// No line ends within a string of JSON.
+fn reindented(alloc: Global, text: &str, width: u8) -> Result<String, AllocError> {
+    let mut out = String::new(alloc);
+    for line in text.lines() {
+        let rest = line.trim_start_matches(' ');
+        let level = line.len().saturating_sub(rest.len()) / 2;
+        let indent = " ".repeat(alloc, level.saturating_mul(usize::from(width)))?;
+        let separator = if out.is_empty() { "" } else { "\n" };
+        out.push_str(separator)?;
+        out.push_str(indent.as_str())?;
+        out.push_str(rest)?;
+    }
+    Ok(out)
+}
+
+/// Whether what is read of a text is written as another text over several lines.
+fn is_written_as(alloc: Global, text: &str, pretty: &str) -> Result<bool, AllocError>
+    ensures { IfOk result (λ is. IsTrue is → read text.now ≡ read pretty.now) }
+{
+    match Json::from_str(alloc, text) {
+        Ok(json) => Ok(json.to_string_pretty(alloc)?.as_str() == pretty),
+        Err(error) if error.is_memory() => Err(AllocError),
+        Err(_) => Ok(false),
+    }
+}
+
+/// The text of JSON over several lines, with so many spaces for each level.
+// The writer of JSON indents by two spaces. Its text is laid out anew, and read back: one that were read otherwise would
+// not be taken.
+fn pretty_text(alloc: Global, width: u8, json: &Json) -> Result<String, AllocError>
     ensures { IfOk result (λ text. depth (view json.now) ≤ max_depth
         → read (string_bytes text) ≡ Some (view json.now)) }
 {
-    if is_pretty {
-        json.to_string_pretty(alloc)
+    let pretty = json.to_string_pretty(alloc)?;
+    if width == 2 {
+        return Ok(pretty);
+    }
+    let text = reindented(alloc, pretty.as_str(), width)?;
+    if is_written_as(alloc, text.as_str(), pretty.as_str())? {
+        Ok(text)
     } else {
-        json.to_string(alloc)
+        Ok(pretty)
+    }
+}
+
+/// The text of JSON, on one line, or with so many spaces for each level.
+fn text_of(alloc: Global, width: Option<u8>, json: &Json) -> Result<String, AllocError>
+    ensures { IfOk result (λ text. depth (view json.now) ≤ max_depth
+        → read (string_bytes text) ≡ Some (view json.now)) }
+{
+    match width {
+        Some(width) => pretty_text(alloc, width, json),
+        None => json.to_string(alloc),
     }
 }
 
 /// The text of a document's JSON.
-fn json_text(alloc: Global, is_pretty: bool, document: &Document) -> Result<String, AllocError>
+fn json_text(alloc: Global, width: Option<u8>, document: &Document) -> Result<String, AllocError>
     ensures { IfOk result (λ text. IsTextOf IsDocument (document_tree document.now)
         (string_bytes text)) }
 {
     let json = document.to_ast_json(alloc)?;
-    let text = text_of(alloc, is_pretty, &json)?;
+    let text = text_of(alloc, width, &json)?;
     Ok(text)
 }
 
-/// Writes a document's JSON, and a line feed.
+/// Writes a document's JSON, on one line or with so many spaces for each level, and a line feed.
 pub(crate) fn write_json<W: Write>(
     alloc: Global,
-    is_pretty: bool,
+    width: Option<u8>,
     document: &Document,
     mut out: W,
 ) -> (Result<(), PrintError>, W)
@@ -51,7 +96,7 @@ pub(crate) fn write_json<W: Write>(
     ensures memory { IsErrOf result.0 PrintError.Memory →
         W.contents result.1 ≡ W.contents out }
 {
-    let Ok(mut text) = json_text(alloc, is_pretty, document) else {
+    let Ok(mut text) = json_text(alloc, width, document) else {
         return (Err(PrintError::Memory), out);
     };
     if text.push('\n').is_err() {

@@ -94,7 +94,7 @@ fn with_tasks<'a>(alloc: Global, command: Command<'a>) -> Result<Command<'a>, Al
     let json = flag(
         alloc,
         "json",
-        "Writes AST JSON, on one line, or indented with --indent 2",
+        "Writes AST JSON, on one line, or indented with --indent",
     );
     let json = without(json, "check")?;
     let json = without(without(json, "tabs")?, "level")?;

@@ -112,7 +112,7 @@ fn document_in(
     if allow_ill_formed || document.is_well_formed() {
         Ok(document)
     } else {
-        Err(Refusal::ill_formed(flaws(node, source)))
+        Err(Refusal::ill_formed(flaws(alloc, &document, source)))
     }
 }
 

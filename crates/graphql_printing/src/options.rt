@@ -4,6 +4,11 @@ ghost use Rattle.std.specs.Prelude.{◌≡◌, false};
 use graphql_ast_json::Unknown;
 
 /// How the lines of a print begin, or that it has one line.
+///
+/// ```
+/// Options { lines: Lines::Spaces(4), ..Options::default() } // --indent 4
+/// Options { lines: Lines::OneLine, ..Options::default() } // --one-line
+/// ```
 #[derive(Clone, Copy, Debug, PartialEq, Eq)]
 pub enum Lines {
     /// Several lines, each with so many spaces for each level that it stands at.
@@ -15,6 +20,11 @@ pub enum Lines {
 }
 
 /// What is done with a document.
+///
+/// ```
+/// Options { task: Task::Check, ..Options::default() } // --check
+/// Options { task: Task::WriteJson, ..Options::default() } // --json
+/// ```
 #[derive(Clone, Copy, Debug, PartialEq, Eq)]
 pub enum Task {
     /// It is printed as GraphQL.
@@ -23,11 +33,17 @@ pub enum Task {
     Check,
     /// It is written as AST JSON, on one line.
     WriteJson,
-    /// It is written as AST JSON, over several lines.
+    /// It is written as AST JSON, over several lines, with so many spaces for each level as `lines` has, or two.
     WritePrettyJson,
 }
 
 /// What is asked for.
+///
+/// ```
+/// let options = Options { lines: Lines::Tabs, level: 1, ..Options::default() };
+/// let name = "standard input";
+/// let (outcome, _, _) = run_print(alloc, &options, name, rt.stdin(), None, rt.stdout(), rt.stderr());
+/// ```
 #[derive(Clone, Copy, Debug, PartialEq, Eq)]
 pub struct Options {
     pub task: Task,

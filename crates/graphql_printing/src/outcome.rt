@@ -3,6 +3,14 @@ ghost use Rattle.std.specs.Prelude.{◌≡◌};
 ghost use Rattle.graphql_printing.specs.Outcomes.{status_of};
 
 /// How a run ended.
+///
+/// ```
+/// let name = "standard input";
+/// match run_print(alloc, &options, name, rt.stdin(), None, rt.stdout(), rt.stderr()).0 {
+///     Outcome::Done => println!(rt; "printed")?,
+///     outcome => println!(rt; "status {}", outcome.status())?, // status 3 where the input is no JSON
+/// }
+/// ```
 #[derive(Clone, Copy, Debug, PartialEq, Eq)]
 pub enum Outcome {
     /// All that was asked for was done.
@@ -17,7 +25,7 @@ pub enum Outcome {
     NotJson,
     /// The JSON is of no document.
     NoTree,
-    /// Memory was refused.
+    /// An allocation failed.
     Memory,
     /// The writer failed, after a beginning of the text or before it.
     WriterFailed,
@@ -25,7 +33,7 @@ pub enum Outcome {
 
 impl Outcome {
     /// The exit status of a run that ends so: 0 where all was done, 1 for a document that isn't well formed, 2 for a level
-    /// that is too great, 3 where no document was read, and 4 where memory or the writer failed.
+    /// that is too great, 3 where no document was read, and 4 where an allocation or the writer failed.
     pub fn status(self) -> u8
         ensures { result ≡ status_of self }
     {

@@ -8,7 +8,7 @@ ghost use Rattle.graphql_printing.specs.Printing.{Does};
 
 use crate::ast_json::write_json;
 use crate::input::read_document;
-use crate::options::{Options, Task};
+use crate::options::{Lines, Options, Task};
 use crate::outcome::Outcome;
 use crate::print::print_document;
 use crate::refusal::tell;
@@ -17,6 +17,14 @@ use graphql_ast::document::SourceFile;
 use graphql_ast::serialize::PrintError;
 use std::alloc::Global;
 use std::io::{Read, Write};
+
+/// The spaces for each level of JSON.
+fn width_of(lines: Lines) -> u8 {
+    match lines {
+        Lines::Spaces(width) => width,
+        Lines::Tabs | Lines::OneLine => 2,
+    }
+}
 
 /// Does with a document what is asked for.
 fn write_document<W: Write>(
@@ -36,8 +44,8 @@ fn write_document<W: Write>(
     match options.task {
         Task::Print => print_document(alloc, options, document, out),
         Task::Check => (Ok(()), out),
-        Task::WriteJson => write_json(alloc, false, document, out),
-        Task::WritePrettyJson => write_json(alloc, true, document, out),
+        Task::WriteJson => write_json(alloc, None, document, out),
+        Task::WritePrettyJson => write_json(alloc, Some(width_of(options.lines)), document, out),
     }
 }
 
@@ -61,8 +69,9 @@ fn report_error<E: Write>(name: &str, error: PrintError, err: &mut E) -> Outcome
 ///   that is wrong, as in ``graphql_print: a.json: at `definitions[0].name`: found a number where an object was wanted``.
 ///   A message that `err` refuses changes nothing.
 ///
-/// It answers how the run ended, and both writers. `Outcome::Done`: the document passes, and what was asked for was done:
-/// what was printed is its layout, and is read as it, and as no other. Else nothing was written, unless the writer failed.
+/// It returns how the run ended, and both writers. `Outcome::Done`: the document passes, and what was asked for was
+/// done: what was printed is its layout, and is read as it, and as no other. Else nothing was written, unless the
+/// writer failed.
 ///
 /// ```
 /// let (outcome, out, err) = run_print(alloc, &options, "a.json", file, None, rt.stdout(), rt.stderr());

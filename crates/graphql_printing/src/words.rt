@@ -1,7 +1,9 @@
 //! What the words of a command line ask for.
-ghost use Rattle.std.specs.Prelude.{◌≡◌, codes, IfOk, map, option_map, string_bytes};
+ghost use Rattle.std.specs.Prelude.{◌≡◌, Bool, codes, IfOk, map, option_map, string_bytes};
+ghost use Rattle.clap.specs.Values.{kind_of};
 ghost use Rattle.clap.specs.Words.{app_of, first_of, found_of, matches_of, rows_of};
 ghost use Rattle.graphql_ast_calls.specs.Answers.{reading};
+ghost use Rattle.graphql_printing.specs.Outcomes.{status_of_words};
 ghost use Rattle.graphql_printing.specs.Words.{AreLinesOf, AreOptionsOf, IsNumberOf, file_of, is_given, printing_app, task_of};
 
 use crate::command::command;
@@ -13,6 +15,14 @@ use std::alloc::Global;
 use std::io::{self, Write};
 
 /// What is asked for, and of which file.
+///
+/// ```
+/// // `words` are graphql_print, --tabs and a.json
+/// match read_words(alloc, &words) {
+///     Ok(request) => println!(rt; "{:?} {:?}", request.options.lines, request.file)?, // Tabs Some("a.json")
+///     Err(error) => return Ok(report_words(&error, &mut rt.stdout(), &mut rt.stderr())),
+/// }
+/// ```
 #[derive(Clone, Copy, Debug, PartialEq, Eq)]
 pub struct Request<'a> {
     pub options: Options,
@@ -159,11 +169,6 @@ fn matches_of<'a>(
     command.try_get_matches_from_mut(words)
 }
 
-/// Whether JSON is asked for in a form that isn't written.
-fn is_other_json(options: Options) -> bool {
-    options.task == Task::WritePrettyJson && options.lines != Lines::Spaces(2)
-}
-
 /// What the words of a command line ask for, the first of which is the program's name.
 ///
 /// The options and the files are those of the matches that `clap` says it makes of the words, by the arguments of the
@@ -178,12 +183,7 @@ pub fn read_words<'a>(alloc: Global, words: &'a [String]) -> Result<Request<'a>,
 {
     let mut command = command(alloc)?;
     let matches = matches_of(&mut command, words)?;
-    let request = request_of(&matches);
-    if is_other_json(request.options) {
-        let message = "AST JSON is indented by 2 spaces, or stands on one line";
-        return Err(command.error(ErrorKind::ValueValidation, message)?);
-    }
-    Ok(request)
+    Ok(request_of(&matches))
 }
 
 /// Writes the text of an error where it belongs.
@@ -195,15 +195,24 @@ fn write_error<W: Write, E: Write>(error: &WordsError, out: &mut W, err: &mut E)
     }
 }
 
-/// Reports words that ask for nothing: help and the version on `out`, and a mistake on `err`.
-///
-/// It answers the exit status of a run that ends so: 0 for help and the version, if they could be written, 2 for a
-/// mistake, and 4 where memory or the writer failed.
-pub fn report_words<W: Write, E: Write>(error: &WordsError, out: &mut W, err: &mut E) -> u8 {
-    let written = write_error(error, out, err);
-    match error.kind() {
-        ErrorKind::DisplayHelp | ErrorKind::DisplayVersion if written.is_ok() => 0,
+/// The exit status of words that ask for nothing.
+fn status_of_words(kind: ErrorKind, is_written: bool) -> u8
+    ensures { result ≡ status_of_words kind is_written }
+{
+    match kind {
+        ErrorKind::DisplayHelp | ErrorKind::DisplayVersion if is_written => 0,
         ErrorKind::DisplayHelp | ErrorKind::DisplayVersion | ErrorKind::OutOfMemory => 4,
         _ => 2,
     }
+}
+
+/// Reports words that ask for nothing: help and the version on `out`, and a mistake on `err`.
+///
+/// It returns the exit status of a run that ends so: 0 for help and the version, if they could be written, 2 for a
+/// mistake, and 4 where an allocation or the writer of help or the version failed.
+pub fn report_words<W: Write, E: Write>(error: &WordsError, out: &mut W, err: &mut E) -> u8
+    ensures { (is_written : Bool) × (result ≡ status_of_words (kind_of error.now) is_written) }
+{
+    let is_written = write_error(error, out, err).is_ok();
+    status_of_words(error.kind(), is_written)
 }

@@ -26,6 +26,7 @@ fn check(
     }
 }
 
+/// Allocations: 66.
 #[test]
 fn a_document_is_printed_or_memory_was_refused(rt: HostRuntime) {
     check(
@@ -39,6 +40,7 @@ fn a_document_is_printed_or_memory_was_refused(rt: HostRuntime) {
 
 const JSON_WORDS: [&str; 2] = ["--json", "--allow-ill-formed"];
 
+/// Allocations: 55.
 #[test]
 fn json_is_written_or_memory_was_refused(rt: HostRuntime) {
     let json = "{\"definitions\":[],\"kind\":\"Document\"}\n";
@@ -46,11 +48,13 @@ fn json_is_written_or_memory_was_refused(rt: HostRuntime) {
     check(&rt, rt.alloc(), &JSON_WORDS, input, (0, json));
 }
 
+/// Allocations: 88.
 #[test]
 fn flaws_are_told_or_memory_was_refused(rt: HostRuntime) {
     check(&rt, rt.alloc(), &[], ILL_FORMED, (1, ""));
 }
 
+/// Allocations: 161.
 #[test]
 fn other_json_is_told_or_memory_was_refused(rt: HostRuntime) {
     let alloc = rt.alloc();
@@ -59,6 +63,7 @@ fn other_json_is_told_or_memory_was_refused(rt: HostRuntime) {
     check(&rt, alloc, &[], "{", (3, ""));
 }
 
+/// Allocations: 28.
 #[test]
 fn wrong_words_are_told_or_memory_was_refused(rt: HostRuntime) {
     check(&rt, rt.alloc(), &["--indent", "17"], QUERY, (2, ""));

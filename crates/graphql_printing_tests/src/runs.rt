@@ -74,7 +74,7 @@ fn a_document_is_printed_in_each_layout(rt: HostRuntime) -> Result<(), Fail> {
     check_done(&rt, rt.alloc(), &LAYOUTS)
 }
 
-const TASKS: [Done; 8] = [
+const TASKS: [Done; 10] = [
     (&["--check"], QUERY, ""),
     (&["--pass-over-unknown"], UNKNOWN, "scalar S\n\nscalar T\n"),
     (
@@ -95,6 +95,16 @@ const TASKS: [Done; 8] = [
         EMPTY,
         "{\n  \"definitions\": [],\n  \"kind\": \"Document\"\n}\n",
     ),
+    (
+        &["--allow-ill-formed", "--json", "--indent", "3"],
+        EMPTY,
+        "{\n   \"definitions\": [],\n   \"kind\": \"Document\"\n}\n",
+    ),
+    (
+        &["--allow-ill-formed", "--json", "--indent", "0"],
+        EMPTY,
+        "{\n\"definitions\": [],\n\"kind\": \"Document\"\n}\n",
+    ),
 ];
 
 #[test]
@@ -104,6 +114,7 @@ fn what_is_asked_for_is_done(rt: HostRuntime) -> Result<(), Fail> {
 
 const FLAWS: &str = "\
 graphql_print: standard input: at `definitions[0].name.value`, in a node from 9 to 11: a fragment named `on`: `on`
+graphql_print: standard input: at `definitions[0].selectionSet`, in a node from 9 to 11: an empty selection set: `on`
 graphql_print: standard input: at `definitions[2]`, in a node from 22 to 37: an extension that adds nothing: `S`
 ";
 
@@ -148,6 +159,7 @@ fn what_is_wrong_is_told(rt: HostRuntime) -> Result<(), Fail> {
 
 const PLACED: &str = "\
 graphql_print: standard input: at `definitions[0].name.value` in b.graphql:1:10: a fragment named `on`: `on`
+graphql_print: standard input: at `definitions[0].selectionSet` in b.graphql:1:10: an empty selection set: `on`
 graphql_print: standard input: at `definitions[2]` in b.graphql:3:1: an extension that adds nothing: `S`
 ";
 

@@ -8,8 +8,8 @@ pub const QUERY: &str =
 pub const UNKNOWN: &str =
     r#"{"kind":"Document","definitions":[{"kind":"ScalarTypeDefinition","name":{"kind":"Name","value":"S"},"more":1},{"kind":"ScalarTypeDefinition","name":{"kind":"Name","value":"T"}}]}"#;
 
-/// Two definitions with flaws on either side of one without: a fragment without a selection, whose name is `on`, and an
-/// extension that adds nothing.
+/// Two definitions with flaws on either side of one without: a fragment without a selection, whose name is `on`, which
+/// are two, and an extension that adds nothing.
 pub const ILL_FORMED: &str =
     r#"{"kind":"Document","definitions":[{"kind":"FragmentDefinition","name":{"kind":"Name","value":"on","loc":{"start":9,"end":11}},"typeCondition":{"kind":"NamedType","name":{"kind":"Name","value":"T"}},"selectionSet":{"kind":"SelectionSet","selections":[]},"loc":{"start":0,"end":20}},{"kind":"ScalarTypeDefinition","name":{"kind":"Name","value":"S"}},{"kind":"ScalarTypeExtension","name":{"kind":"Name","value":"S"},"loc":{"start":22,"end":37}}]}"#;
 

@@ -8,7 +8,7 @@ use std::test::Fail;
 /// Words, and how what is said of them begins.
 type Row = (&'static [&'static str], &'static str);
 
-const WRONG: [Row; 14] = [
+const WRONG: [Row; 13] = [
     (
         &["--no-such"],
         "error: unexpected argument '--no-such' found\n",
@@ -54,10 +54,6 @@ const WRONG: [Row; 14] = [
     (
         &["--json", "--level", "1"],
         "error: the argument '--json' cannot be used with '--level <N>'\n",
-    ),
-    (
-        &["--json", "--indent", "4"],
-        "error: AST JSON is indented by 2 spaces, or stands on one line\n",
     ),
 ];
 

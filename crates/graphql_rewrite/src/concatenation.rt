@@ -8,8 +8,8 @@ use graphql_ast::ast::Document;
 use std::alloc::{AllocError, Global};
 
 /// The document of all definitions of these, those of the first one before those of the next. Of sources with one file id
-/// the last stays, so nodes keep their texts where the documents were read with file ids of their own. `AllocError` where
-/// memory is refused; the documents are given up then.
+/// the last stays, so nodes keep their texts where the documents were read with file ids of their own. `AllocError` if
+/// an allocation fails; the documents are dropped then.
 ///
 /// ```
 /// concat(alloc, vec![in alloc; schema, query]?)?

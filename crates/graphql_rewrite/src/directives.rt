@@ -10,7 +10,12 @@ use graphql_ast::Node;
 use graphql_ast::ast::{Argument, Directive, Field, Selection, Value};
 use std::alloc::Global;
 
-/// The rewriter of `remove_directive`.
+/// The rewriter of `remove_directive`: it leaves out each directive of one name.
+///
+/// ```
+/// let remove = RemoveDirective { name: "client" };
+/// let made = rebuild_document(alloc, &remove, &document)?; // { user @client { id } } becomes { user { id } }
+/// ```
 #[derive(Clone, Copy, Debug)]
 pub struct RemoveDirective<'a> {
     /// The name of the directives that are left out.
@@ -60,9 +65,9 @@ impl Rewriter for RemoveDirective<'_> {
     }
 }
 
-/// Leaves out each directive of that name, in a document or within any node, and answers `None` where there is none. A
+/// Leaves out each directive of that name, in a document or within any node, and returns `None` where there is none. A
 /// definition of the directive stays, and so does an extension that adds no more than the directive: it isn't well formed
-/// then. `AllocError` where memory is refused.
+/// then. `AllocError` if an allocation fails.
 ///
 /// ```
 /// remove_directive(alloc, &document, "client")? // { user @client { id } } becomes { user { id } }

@@ -125,8 +125,8 @@ fn rebuild_definitions<R: Rewriter>(
     Ok(made)
 }
 
-/// A document of these definitions, with the sources of another one. `AllocError` where memory is refused; the definitions
-/// are given up then.
+/// A document of these definitions, with the sources of another one. `AllocError` if an allocation fails; the
+/// definitions are dropped then.
 ///
 /// ```
 /// with_definitions(&document, vec![in alloc; first]?)?
@@ -163,9 +163,9 @@ impl Rebuild for Document {
 }
 
 /// Makes another document, in which each value, list of arguments, list of directives, field and selection set is rewritten,
-/// the inner ones first, and `None` where nothing changes: no memory is taken then but what the rewriter takes. What doesn't
+/// the inner ones first, and `None` where nothing changes: only the rewriter allocates memory then. What doesn't
 /// change is shared with this document, which stays as it is. Nodes keep their locations, and the sources are those of this
-/// document. `AllocError` where memory is refused.
+/// document. `AllocError` if an allocation fails.
 ///
 /// ```
 /// let document = match rebuild_document(alloc, &rewriter, &document)? {

@@ -12,7 +12,12 @@ use graphql_ast::ast::{Argument, Directive, Field, Selection, Value};
 use graphql_ast::{Name, Node};
 use std::alloc::Global;
 
-/// The rewriter of `rename_fields`.
+/// The rewriter of `rename_fields`: it gives each field of one name another name.
+///
+/// ```
+/// let rename = RenameFields { from: "user", to: &name!(account) };
+/// let made = rebuild_document(alloc, &rename, &document)?; // { user { id } } becomes { account { id } }
+/// ```
 #[derive(Clone, Copy, Debug)]
 pub struct RenameFields<'a> {
     /// The name that fields have.
@@ -56,8 +61,8 @@ impl Rewriter for RenameFields<'_> {
     }
 }
 
-/// Gives each field of one name another name, in a document or within any node, and answers `None` where there is none.
-/// Aliases stay, and a field without an alias gets none. `AllocError` where memory is refused.
+/// Gives each field of one name another name, in a document or within any node, and returns `None` where there is none.
+/// Aliases stay, and a field without an alias gets none. `AllocError` if an allocation fails.
 ///
 /// ```
 /// rename_fields(alloc, &document, "user", &name!(account))? // { user { id } } becomes { account { id } }
@@ -70,7 +75,13 @@ pub fn rename_fields<T: Rebuild>(alloc: Global, item: &T, from: &str, to: &Name)
     item.rebuild(alloc, &RenameFields { from, to })
 }
 
-/// The rewriter of `add_field_everywhere`.
+/// The rewriter of `add_field_everywhere`: it adds a field to each selection set.
+///
+/// ```
+/// let add = AddField { name: &name!("__typename") };
+/// let made = rebuild_document(alloc, &add, &document)?;
+/// // { user { id } } becomes { user { id __typename } __typename }
+/// ```
 #[derive(Clone, Copy, Debug)]
 pub struct AddField<'a> {
     /// The name of the field that each set gets.
@@ -137,8 +148,8 @@ impl Rewriter for AddField<'_> {
 }
 
 /// Puts a field of that name, without an alias, arguments, directives and selections, behind the last selection of each
-/// selection set, unless the response speaks of one of its fields by that name. It answers `None` where no set gets one.
-/// `AllocError` where memory is refused.
+/// selection set, unless the response speaks of one of its fields by that name. It returns `None` where no set gets
+/// one. `AllocError` if an allocation fails.
 ///
 /// ```
 /// add_field_everywhere(alloc, &document, &name!("__typename"))? // { user { id } } becomes

@@ -11,7 +11,15 @@ use crate::shared_lists::keep;
 use graphql_ast::Node;
 use std::alloc::{AllocError, Global};
 
-/// What may be rebuilt: a definition, and each kind of node within one.
+/// What may be rebuilt: a document, a definition, and each kind of node within one.
+///
+/// ```
+/// let field = Field::new(alloc, name!(user));
+/// let rename = RenameFields { from: "user", to: &name!(account) };
+/// if let Some(made) = field.rebuild(alloc, &rename)? {
+///     println!(rt; "{field} becomes {made}")?; // user becomes account
+/// }
+/// ```
 pub trait Rebuild: Sized {
     /// Its tree.
     ghost Tree: { Type 0 };
@@ -26,7 +34,7 @@ pub trait Rebuild: Sized {
     ghost kept: { Self → Kept } = { λ _. nothing };
 
     /// Makes another one in which each part is rewritten, and `None` where nothing changes. What doesn't change is shared
-    /// with this one, and nodes keep their locations. `AllocError` where memory is refused.
+    /// with this one, and nodes keep their locations. `AllocError` if an allocation fails.
     fn rebuild<R: Rewriter>(&self, alloc: Global, rewriter: &R) -> Rebuilt<Self>
         ensures tree { IfOk result (λ made. outcome tree (tree self.now) made
             ≡ rewritten (R.rewriting rewriter.now) (tree self.now)) }
@@ -35,7 +43,7 @@ pub trait Rebuild: Sized {
 }
 
 /// Rewrites in place: what `rebuild` makes takes the place of the old one, and other owners of nodes of the old one keep
-/// theirs. `AllocError` where memory is refused: the old one is as it was then.
+/// theirs. `AllocError` if an allocation fails: the old one is as it was then.
 ///
 /// ```
 /// rewrite(alloc, &rewriter, &mut document)?;
@@ -74,7 +82,7 @@ pub fn rebuild_node<T: Rebuild + Drop, R: Rewriter>(
     }
 }
 
-/// Rebuilds each node at its location, and answers `None` where none of them changes. Those that don't are shared.
+/// Rebuilds each node at its location, and returns `None` where none of them changes. Those that don't are shared.
 #[tactic(auto, using(crate::proofs::Lists::made_steps, crate::proofs::Lists::stay_steps))]
 pub fn rebuild_nodes<T: Rebuild + Drop, R: Rewriter>(
     alloc: Global,

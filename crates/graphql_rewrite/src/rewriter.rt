@@ -10,14 +10,25 @@ use graphql_ast::Node;
 use graphql_ast::ast::{Argument, Directive, Field, Selection, Value};
 use std::alloc::{AllocError, Global};
 
-/// What a call answers that makes another value: it, or `None` where the value stays as it is. `AllocError` where memory is
-/// refused.
+/// What a call returns that makes another value: it, or `None` where the value stays as it is. `AllocError` if an
+/// allocation fails.
 pub type Rebuilt<T> = Result<Option<T>, AllocError>;
 
-/// What is made of each value, list of arguments, list of directives, field and selection set of a tree. Each call is given
-/// a part within which all is rewritten already, and answers what takes its place, or `None` where the part stays.
+/// What is made of each value, list of arguments, list of directives, field and selection set of a tree.
 ///
-/// `rewriting` says what the calls make, as functions of trees without locations.
+/// Each call is given a part within which all is rewritten already, and returns what takes its place, or `None` where
+/// the part stays. `rewriting` says what the calls make, as functions of trees without locations.
+///
+/// ```
+/// impl Rewriter for Tidy {
+///     ghost rewriting = { λ _. record unchanged { directives = without_directive (codes "client") } };
+///
+///     fn directives(&self, alloc: Global, old: &[Node<Directive>]) -> Rebuilt<Vec<Node<Directive>>> {
+///         RemoveDirective { name: "client" }.directives(alloc, old)
+///     }
+///     // `value`, `arguments`, `field` and `selections` return `Ok(None)`: these parts stay
+/// }
+/// ```
 pub trait Rewriter {
     ghost rewriting: { Self → Rewriting };
 

@@ -58,8 +58,8 @@ fn compare(one: &Definition, other: &Definition) -> Ordering
 }
 
 /// Puts the definitions in order, by kind and within a kind by name: operations, fragments, the schema, types, directives,
-/// extensions. Those without a name come first, and those of one kind and name stay in order. `AllocError` where memory is
-/// refused: the document is as it was then.
+/// extensions. Those without a name come first, and those of one kind and name stay in order. `AllocError` if an
+/// allocation fails: the document is as it was then.
 ///
 /// ```
 /// sort_definitions(&mut document)?;

@@ -15,7 +15,13 @@ use graphql_ast::ast::{Argument, Directive, Field, Selection, Value};
 use graphql_ast::{Name, Node};
 use std::alloc::Global;
 
-/// The rewriter of `replace_variables`.
+/// The rewriter of `replace_variables`: it puts values in the place of variables.
+///
+/// ```
+/// let values = [(name!(first), value!(in alloc; 10)?)];
+/// let replace = ReplaceVariables { values: &values };
+/// let made = rebuild_document(alloc, &replace, &document)?; // { items(first: $first) } becomes { items(first: 10) }
+/// ```
 #[derive(Clone, Copy, Debug)]
 pub struct ReplaceVariables<'a> {
     /// The values, each with the name of the variable.
@@ -73,12 +79,13 @@ impl Rewriter for ReplaceVariables<'_> {
     }
 }
 
-/// Puts the first value of its name in the place of each variable, in a document or within any node, and answers `None`
+/// Puts the first value of its name in the place of each variable, in a document or within any node, and returns `None`
 /// where no variable has a value. Variables without a value stay, and so do definitions of variables. Variables within the
-/// values that are put there aren't replaced. `AllocError` where memory is refused.
+/// values that are put there aren't replaced. `AllocError` if an allocation fails.
 ///
 /// ```
-/// replace_variables(alloc, &document, &[(name!(n), Value::from(10))])? // items(first: $n) becomes items(first: 10)
+/// let ten = value!(in alloc; 10)?;
+/// replace_variables(alloc, &document, &[(name!(n), ten)])? // items(first: $n) becomes items(first: 10)
 /// ```
 pub fn replace_variables<T: Rebuild>(
     alloc: Global,

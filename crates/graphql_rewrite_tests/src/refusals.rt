@@ -18,6 +18,7 @@ fn check(rt: &impl Abort, made: Rebuilt<Document>, document: &Document, copy: &D
     assert!(rt; document == copy);
 }
 
+/// Allocations: 149.
 #[test]
 fn another_document_is_made_or_memory_is_refused(rt: HostRuntime) {
     let alloc = rt.alloc();
@@ -34,6 +35,7 @@ fn another_document_is_made_or_memory_is_refused(rt: HostRuntime) {
     }
 }
 
+/// Allocations: 7.
 #[test]
 fn documents_are_joined_and_sorted_or_memory_is_refused(rt: HostRuntime) {
     let alloc = rt.alloc();
@@ -47,6 +49,7 @@ fn documents_are_joined_and_sorted_or_memory_is_refused(rt: HostRuntime) {
     }
 }
 
+/// Allocations: 54.
 #[test]
 fn a_document_is_rewritten_or_stays(rt: HostRuntime) {
     let alloc = rt.alloc();

@@ -2,6 +2,11 @@
 ghost use Rattle.std.specs.Prelude.{◌≡◌, max};
 
 /// How deep a tree is: its stacks have room for so many entries.
+///
+/// ```
+/// let depths = query.find_depths()?;
+/// depths.nesting // 2 for { me { id } }
+/// ```
 #[derive(Clone, Copy)]
 pub struct Depths {
     /// The nesting depth of its groups.

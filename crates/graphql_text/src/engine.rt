@@ -22,6 +22,12 @@ use std::hash::Hash;
 use thiserror::Error;
 
 /// A type whose values are trees of a kind (`specs/kinds/Kinds.antt`): what is known of them before they are printed.
+///
+/// ```
+/// fn nesting<T: SyntaxTree>(tree: &T) -> Option<usize> {
+///     Some(tree.find_depths()?.nesting) // 2 for [1, [2]]
+/// }
+/// ```
 pub trait SyntaxTree {
     /// The kind: its grammar, side conditions, layout and nesting depth.
     ghost kind: { Kind };
@@ -55,7 +61,15 @@ pub trait SyntaxTree {
         ensures { AreDepths result (kind.nesting (tree self.now)) (list_depth (tree self.now)) };
 }
 
-/// A type whose trees are printed, and read back as themselves alone. `Serialize` prints them.
+/// A type whose trees are printed, and read back as themselves alone.
+///
+/// `Serialize` prints them.
+///
+/// ```
+/// fn one_line<T: Syntax>(alloc: Global, tree: &T) -> Result<String, PrintError> {
+///     Serialize::new(tree).no_indent().to_text(alloc)
+/// }
+/// ```
 pub trait Syntax: SyntaxTree {
     /// Writes the whole layout of the tree. Memory for its stacks is asked for before the first byte: `AllocError`
     /// where it is refused, with nothing written.
@@ -72,6 +86,12 @@ pub trait Syntax: SyntaxTree {
 }
 
 /// A type whose trees are printed, displayed, compared and hashed: each that has these traits.
+///
+/// ```
+/// fn are_equal<T: Printed>(first: &T, second: &T) -> bool {
+///     first == second // whatever their source locations are
+/// }
+/// ```
 pub trait Printed: SyntaxTree + fmt::Display + PartialEq + Hash {
     /// All that `IsPrintedKind` says of the type: the kind, its trees and the lists around its types, what may not
     /// follow a tree among tokens, and what may not follow one that was printed.
@@ -86,6 +106,11 @@ impl<T: SyntaxTree + fmt::Display + PartialEq + Hash> Printed for T {
 }
 
 /// Why a tree was not printed, or not to its end.
+///
+/// ```
+/// let list = value!(in alloc; [1])?; // a nesting depth of 1
+/// list.serialize().initial_indent_level(usize::MAX).to_text(alloc) // Err(PrintError::LevelOverflow)
+/// ```
 #[derive(Clone, Copy, Debug, PartialEq, Eq, Error)]
 pub enum PrintError {
     /// The starting level and the nesting of the tree don't fit into a `usize` together. Nothing was written.
@@ -110,8 +135,14 @@ impl PrintError {
 
 /// A tree, and the layout that it is printed in.
 ///
-/// `Display` prints the same text. It answers `fmt::Error` where the level overflows or the memory of a stack is
-/// refused, with nothing written, and where the formatter refuses.
+/// `Display` prints the same text. It returns `fmt::Error` where the level overflows or memory for a stack is refused,
+/// with nothing written, and where the formatter fails.
+///
+/// ```
+/// let list = value!(in alloc; [1, 2])?;
+/// println!(rt; "{}", list.serialize().no_indent())?;   // [1, 2]
+/// list.serialize().indent_prefix("\t").to_text(alloc)? // "[\n\t1,\n\t2,\n]"
+/// ```
 #[derive_where(Clone, Copy)]
 pub struct Serialize<'a, T> {
     tree: &'a T,
@@ -123,6 +154,10 @@ impl<'a, T> Serialize<'a, T> {
     ghost use Rattle.graphql_text.specs.kinds.Printing.{IsDefaultPrint, print_tree, print_mode, print_level};
 
     /// The tree in the default layout: a prefix of two spaces, from level 0.
+    ///
+    /// ```
+    /// Serialize::new(&list).to_text(alloc)? // "[\n  1,\n  2,\n]", as by list.serialize()
+    /// ```
     pub fn new(tree: &'a T) -> Serialize<'a, T>
         ensures { IsDefaultPrint tree.now result }
     {
@@ -261,7 +296,7 @@ impl<'a, T: Syntax> Serialize<'a, T> {
     }
 
     /// The text of the layout. `LevelOverflow` and `Memory` come as in `print_to`, and `Memory` also where the text
-    /// itself cannot grow; it never answers `Sink`.
+    /// itself cannot grow; it never returns `Sink`.
     pub fn to_text(&self, alloc: Global) -> Result<String, PrintError>
         ensures printed { IfOk result
             (λ text. string_bytes text ≡ print_bytes T.kind T.tree self.now) }

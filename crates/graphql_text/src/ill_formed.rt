@@ -1,8 +1,7 @@
 //! Why a tree isn't well formed.
-ghost use Rattle.std.specs.Prelude.{◌≡◌, None, Some, option_copied};
+ghost use Rattle.std.specs.Prelude.{◌≡◌, option_copied};
 ghost use Rattle.std.specs.Option.{option_map, option_or};
-ghost use Rattle.graphql_base.specs.Name.{name_location};
-ghost use Rattle.graphql_text.specs.code.IllFormed.{flaw_of, found_flaw};
+ghost use Rattle.graphql_text.specs.code.IllFormed.{flaw_of, found_flaw, location_of};
 ghost use Rattle.graphql_text.specs.kinds.Flaws.{first_flaw, flaw_unless};
 ghost use Rattle.graphql_text.specs.trees.Leaves.{name_tree};
 
@@ -11,8 +10,15 @@ use graphql_base::span::SourceSpan;
 use std::error::Error;
 use std::fmt::{self, Display, Formatter, Write};
 
-/// A side condition of the grammar: a tree that breaks it has a text that is no syntax of GraphQL, or is read as
-/// another tree. `Display` tells what is wrong where it is broken.
+/// A side condition of the grammar, which the types of the tree don't rule out by themselves.
+///
+/// A tree that breaks it has a text that is no syntax of GraphQL, or is read as another tree. `Display` tells what is
+/// wrong where it is broken.
+///
+/// ```
+/// let spread = FragmentSpread::new(alloc, name!(on));
+/// spread.find_ill_formed()?.condition // SideCondition::IsNotOn
+/// ```
 #[derive(Clone, Copy, Debug, PartialEq, Eq, Hash)]
 pub enum SideCondition {
     /// A document has a definition.
@@ -51,7 +57,14 @@ impl Display for SideCondition {
 
 /// Where a tree isn't well formed: the first flaw in the order of print.
 ///
-/// `Display` tells it in one line, as in ``an extension that adds nothing: `A` ``.
+/// `Display` tells it in one line.
+///
+/// ```
+/// let extension = UnionTypeExtension::new(alloc, name!(A));
+/// if let Some(flaw) = extension.find_ill_formed() {
+///     println!(rt; "{flaw}")?; // an extension that adds nothing: `A`
+/// }
+/// ```
 #[derive(Clone, Copy, Debug)]
 pub struct IllFormed<'a> {
     /// The side condition that is broken.
@@ -65,9 +78,7 @@ pub struct IllFormed<'a> {
 impl<'a> IllFormed<'a> {
     /// The location of the name, or else that of the innermost node around it that has one.
     pub fn location(&self) -> Option<SourceSpan>
-        ensures named { (name : Name) → option_copied self.now.name ≡ Some name →
-            result ≡ option_or (name_location name) self.now.around }
-        ensures unnamed { option_copied self.now.name ≡ None → result ≡ self.now.around }
+        ensures { result ≡ location_of self.now }
     {
         match self.name {
             Some(name) => name.location().or(self.around),

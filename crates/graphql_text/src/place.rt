@@ -5,6 +5,11 @@ ghost use Rattle.graphql_text.specs.layout.Levels.{Fits};
 use crate::depths::Depths;
 
 /// Where a writer stands: the prefix of the lines, or none on one line, and the level, in levels of indentation.
+///
+/// ```
+/// let place = Place::new(Some("  "), 0);
+/// place.inner().level // 1
+/// ```
 #[derive(Clone, Copy)]
 pub struct Place<'p> {
     pub prefix: Option<&'p str>,

@@ -11,6 +11,13 @@ pub use crate::sink::vec::VecSink;
 use thiserror::Error;
 
 /// A sink did not take what it was given.
+///
+/// ```
+/// match sink.put(b"{ id }") {
+///     Ok(count) => println!(rt; "{count} bytes")?, // 6 bytes
+///     Err(SinkFault) => println!(rt; "the writer failed")?,
+/// }
+/// ```
 #[derive(Clone, Copy, Debug, PartialEq, Eq, Error)]
 #[error("the writer failed")]
 pub struct SinkFault;
@@ -18,6 +25,12 @@ pub struct SinkFault;
 /// What takes the bytes of a print, some or all of those that a call hands over, and counts its faults.
 ///
 /// A print calls `put` with at least one byte, and never again after a fault.
+///
+/// ```
+/// let mut sink = VecSink::new(alloc);
+/// sink.put(b"{a}") // Ok(3)
+/// sink.faults()    // 0
+/// ```
 pub trait TextSink {
     /// The bytes that it has taken, or `None` where the sink does not tell them.
     ghost taken: { Self → Option (List ℕ) };
@@ -25,7 +38,7 @@ pub trait TextSink {
     /// How many faults it has counted.
     ghost fault_count: { Self → ℕ };
 
-    /// Takes a front of the bytes, and answers its length in bytes, at least 1 unless there are none. After an `Err`
+    /// Takes a prefix of the bytes, and returns its length in bytes, at least 1 unless there are none. After an `Err`
     /// it has taken none of them, and counted one fault more.
     ///
     /// Condition: fewer than `u64::MAX` faults were counted.

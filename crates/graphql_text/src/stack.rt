@@ -3,8 +3,15 @@ ghost use Rattle.std.specs.Prelude.{◌≡◌, ℕ, ◌≤◌, ◌<◌, ◌++◌
 
 use std::alloc::{AllocError, Global};
 
-/// What is still to be written of a tree, the last entry first. Room for all entries is asked for before the first
-/// byte is written, so that no push can fail.
+/// What is still to be written of a tree, the last entry first.
+///
+/// Its memory is allocated before the first byte is written, so that no push can fail.
+///
+/// ```
+/// let mut stack = Stack::reserve(Some(alloc), 2)?;
+/// stack.push(1);
+/// stack.pop() // Some(1)
+/// ```
 #[derive(Drop)]
 pub struct Stack<T> {
     entries: Option<Vec<T>>,

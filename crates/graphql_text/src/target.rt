@@ -13,7 +13,7 @@ use crate::sink::{TextSink, put_all};
 use std::fmt;
 
 /// What a printer writes its text to. After a write that failed it takes no more, and remembers it: so the writers of
-/// a tree answer nothing, and only the whole print asks whether it came through.
+/// a tree return nothing, and only the whole print asks whether all was written.
 pub trait Target {
     /// From one moment to the other these bytes were written, or writing stopped within them.
     ghost wrote: { Self → List ℕ → Self → Type 0 };

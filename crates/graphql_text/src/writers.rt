@@ -173,8 +173,8 @@ pub fn ready_comma_lead(place: &Place<'_>) -> Option<ReadyCommaBreak>
 }
 
 /// Writes what stands before an item of a comma group: a break under a prefix, after a comma unless it is the first
-/// item; on one line a comma and a space, and nothing before the first item. What `ready_comma_lead` answers may be
-/// handed over, or none.
+/// item; on one line a comma and a space, and nothing before the first item. What `ready_comma_lead` returns may be
+/// passed, or none.
 #[inline(always)]
 pub fn write_comma_lead<O: Target>(
     out: &mut O,

@@ -10,8 +10,17 @@ use graphql_base::node::{Node, NodeStr};
 use graphql_values::directive_list::DirectiveList;
 use std::alloc::Global;
 
-/// A definition of an enum type (`EnumTypeDefinition`, section 3.9). Two are equal exactly if they differ in
-/// locations in a source text at most.
+/// A definition of an enum type (`EnumTypeDefinition`, section 3.9).
+///
+/// Equality and hash ignore source locations.
+///
+/// ```
+/// let small = EnumValueDefinition::new(alloc, name!(SMALL));
+/// let large = EnumValueDefinition::new(alloc, name!(LARGE));
+/// let mut size = EnumTypeDefinition::new(alloc, name!(Size));
+/// size.values = vec![in alloc; Node::new(alloc, small)?, Node::new(alloc, large)?]?;
+/// println!(rt; "{}", size.serialize().no_indent())?; // enum Size { SMALL LARGE }
+/// ```
 #[derive(Clone, PartialEq, Eq, Hash, Debug, Drop)]
 pub struct EnumTypeDefinition {
     /// The string before `enum`.
@@ -25,7 +34,7 @@ pub struct EnumTypeDefinition {
 }
 
 impl EnumTypeDefinition {
-    /// An enum type without a description, directives and values. It takes no memory.
+    /// An enum type without a description, directives and values. It allocates no memory.
     ///
     /// ```
     /// EnumTypeDefinition { values, ..EnumTypeDefinition::new(alloc, name!(Size)) } // enum Size { .. }
@@ -57,10 +66,18 @@ impl EnumTypeDefinition {
     }
 }
 
-/// An extension of an enum type (`EnumTypeExtension`, section 3.9). Two are equal exactly if they differ in
-/// locations in a source text at most.
+/// An extension of an enum type (`EnumTypeExtension`, section 3.9).
 ///
 /// One that adds nothing isn't well formed: it has a directive or a value.
+///
+/// Equality and hash ignore source locations.
+///
+/// ```
+/// let medium = EnumValueDefinition::new(alloc, name!(MEDIUM));
+/// let mut size = EnumTypeExtension::new(alloc, name!(Size));
+/// size.values.push(Node::new(alloc, medium)?)?;
+/// println!(rt; "{}", size.serialize().no_indent())?; // extend enum Size { MEDIUM }
+/// ```
 #[derive(Clone, PartialEq, Eq, Hash, Debug, Drop)]
 pub struct EnumTypeExtension {
     /// The name of the type that is extended.
@@ -72,7 +89,7 @@ pub struct EnumTypeExtension {
 }
 
 impl EnumTypeExtension {
-    /// An extension that adds nothing yet. It takes no memory, and isn't well formed before it has a directive or a
+    /// An extension that adds nothing yet. It allocates no memory, and isn't well formed before it has a directive or a
     /// value.
     ///
     /// ```

@@ -8,8 +8,16 @@ use graphql_base::node::NodeStr;
 use graphql_values::directive_list::DirectiveList;
 use std::alloc::Global;
 
-/// A value of an enum type (`EnumValueDefinition`, section 3.9). Two are equal exactly if they differ in locations in
-/// a source text at most.
+/// A value of an enum type (`EnumValueDefinition`, section 3.9).
+///
+/// Equality and hash ignore source locations.
+///
+/// ```
+/// let mut large = EnumValueDefinition::new(alloc, name!(LARGE));
+/// let deprecated = Directive::new(alloc, name!(deprecated));
+/// large.directives.0.push(Node::new(alloc, deprecated)?)?;
+/// println!(rt; "{}", large.serialize().no_indent())?; // LARGE @deprecated
+/// ```
 #[derive(Clone, PartialEq, Eq, Hash, Debug, Drop)]
 pub struct EnumValueDefinition {
     /// The string before the value.
@@ -21,8 +29,8 @@ pub struct EnumValueDefinition {
 }
 
 impl EnumValueDefinition {
-    /// A value without a description and directives. It takes no memory. One named `true`, `false` or `null` isn't well
-    /// formed.
+    /// A value without a description and directives. It allocates no memory. One named `true`, `false` or `null` isn't
+    /// well formed.
     ///
     /// ```
     /// EnumValueDefinition::new(alloc, name!(LARGE)) // LARGE

@@ -11,8 +11,16 @@ use graphql_values::input_value_definition::InputValueDefinition;
 use graphql_values::types::Type;
 use std::alloc::Global;
 
-/// A field of an object type or an interface type (`FieldDefinition`, section 3.6). Two are equal exactly if they
-/// differ in locations in a source text at most.
+/// A field of an object type or an interface type (`FieldDefinition`, section 3.6).
+///
+/// Equality and hash ignore source locations.
+///
+/// ```
+/// let first = InputValueDefinition::new(alloc, name!(first), Node::new(alloc, ty!(Int))?);
+/// let mut posts = FieldDefinition::new(alloc, name!(posts), ty!(in alloc; [Post!])?);
+/// posts.arguments.push(Node::new(alloc, first)?)?;
+/// println!(rt; "{}", posts.serialize().no_indent())?; // posts(first: Int): [Post!]
+/// ```
 #[derive(Clone, PartialEq, Eq, Hash, Debug, Drop)]
 pub struct FieldDefinition {
     /// The string before the name.
@@ -28,7 +36,7 @@ pub struct FieldDefinition {
 }
 
 impl FieldDefinition {
-    /// A field without a description, arguments and directives. It takes no memory.
+    /// A field without a description, arguments and directives. It allocates no memory.
     ///
     /// ```
     /// FieldDefinition::new(alloc, name!(id), ty!(ID!)) // id: ID!

@@ -10,8 +10,17 @@ use graphql_values::directive_list::DirectiveList;
 use graphql_values::input_value_definition::InputValueDefinition;
 use std::alloc::Global;
 
-/// A definition of an input object type (`InputObjectTypeDefinition`, section 3.10). Two are equal exactly if they
-/// differ in locations in a source text at most.
+/// A definition of an input object type (`InputObjectTypeDefinition`, section 3.10).
+///
+/// Equality and hash ignore source locations.
+///
+/// ```
+/// let mut first = InputValueDefinition::new(alloc, name!(first), Node::new(alloc, ty!(Int))?);
+/// first.default_value = Some(Node::new(alloc, value!(in alloc; 10)?)?);
+/// let mut page = InputObjectTypeDefinition::new(alloc, name!(Page));
+/// page.fields.push(Node::new(alloc, first)?)?;
+/// println!(rt; "{}", page.serialize().no_indent())?; // input Page { first: Int = 10 }
+/// ```
 #[derive(Clone, PartialEq, Eq, Hash, Debug, Drop)]
 pub struct InputObjectTypeDefinition {
     /// The string before `input`.
@@ -25,7 +34,7 @@ pub struct InputObjectTypeDefinition {
 }
 
 impl InputObjectTypeDefinition {
-    /// An input object type without a description, directives and fields. It takes no memory.
+    /// An input object type without a description, directives and fields. It allocates no memory.
     ///
     /// ```
     /// InputObjectTypeDefinition { fields, ..InputObjectTypeDefinition::new(alloc, name!(Page)) } // input Page { .. }
@@ -57,10 +66,18 @@ impl InputObjectTypeDefinition {
     }
 }
 
-/// An extension of an input object type (`InputObjectTypeExtension`, section 3.10). Two are equal exactly if they
-/// differ in locations in a source text at most.
+/// An extension of an input object type (`InputObjectTypeExtension`, section 3.10).
 ///
 /// One that adds nothing isn't well formed: it has a directive or a field.
+///
+/// Equality and hash ignore source locations.
+///
+/// ```
+/// let after = InputValueDefinition::new(alloc, name!(after), Node::new(alloc, ty!(ID))?);
+/// let mut page = InputObjectTypeExtension::new(alloc, name!(Page));
+/// page.fields.push(Node::new(alloc, after)?)?;
+/// println!(rt; "{}", page.serialize().no_indent())?; // extend input Page { after: ID }
+/// ```
 #[derive(Clone, PartialEq, Eq, Hash, Debug, Drop)]
 pub struct InputObjectTypeExtension {
     /// The name of the type that is extended.
@@ -72,7 +89,7 @@ pub struct InputObjectTypeExtension {
 }
 
 impl InputObjectTypeExtension {
-    /// An extension that adds nothing yet. It takes no memory, and isn't well formed before it has a directive or a
+    /// An extension that adds nothing yet. It allocates no memory, and isn't well formed before it has a directive or a
     /// field.
     ///
     /// ```

@@ -10,8 +10,16 @@ use graphql_base::node::{Node, NodeStr};
 use graphql_values::directive_list::DirectiveList;
 use std::alloc::Global;
 
-/// A definition of an interface type (`InterfaceTypeDefinition`, section 3.7). Two are equal exactly if they differ in
-/// locations in a source text at most.
+/// A definition of an interface type (`InterfaceTypeDefinition`, section 3.7).
+///
+/// Equality and hash ignore source locations.
+///
+/// ```
+/// let id = FieldDefinition::new(alloc, name!(id), ty!(ID!));
+/// let mut node = InterfaceTypeDefinition::new(alloc, name!(Node));
+/// node.fields.push(Node::new(alloc, id)?)?;
+/// println!(rt; "{}", node.serialize().no_indent())?; // interface Node { id: ID! }
+/// ```
 #[derive(Clone, PartialEq, Eq, Hash, Debug, Drop)]
 pub struct InterfaceTypeDefinition {
     /// The string before `interface`.
@@ -27,7 +35,7 @@ pub struct InterfaceTypeDefinition {
 }
 
 impl InterfaceTypeDefinition {
-    /// An interface type without a description, interfaces, directives and fields. It takes no memory.
+    /// An interface type without a description, interfaces, directives and fields. It allocates no memory.
     ///
     /// ```
     /// InterfaceTypeDefinition { fields, ..InterfaceTypeDefinition::new(alloc, name!(Node)) } // interface Node { .. }
@@ -61,10 +69,17 @@ impl InterfaceTypeDefinition {
     }
 }
 
-/// An extension of an interface type (`InterfaceTypeExtension`, section 3.7). Two are equal exactly if they differ in
-/// locations in a source text at most.
+/// An extension of an interface type (`InterfaceTypeExtension`, section 3.7).
 ///
 /// One that adds nothing isn't well formed: it has an interface, a directive or a field.
+///
+/// Equality and hash ignore source locations.
+///
+/// ```
+/// let mut node = InterfaceTypeExtension::new(alloc, name!(Node));
+/// node.implements_interfaces.push(name!(Entity))?;
+/// println!(rt; "{}", node.serialize().no_indent())?; // extend interface Node implements Entity
+/// ```
 #[derive(Clone, PartialEq, Eq, Hash, Debug, Drop)]
 pub struct InterfaceTypeExtension {
     /// The name of the type that is extended.
@@ -78,7 +93,7 @@ pub struct InterfaceTypeExtension {
 }
 
 impl InterfaceTypeExtension {
-    /// An extension that adds nothing yet. It takes no memory, and isn't well formed before it has an interface, a
+    /// An extension that adds nothing yet. It allocates no memory, and isn't well formed before it has an interface, a
     /// directive or a field.
     ///
     /// ```

@@ -10,8 +10,17 @@ use graphql_base::node::{Node, NodeStr};
 use graphql_values::directive_list::DirectiveList;
 use std::alloc::Global;
 
-/// A definition of an object type (`ObjectTypeDefinition`, section 3.6). Two are equal exactly if they differ in
-/// locations in a source text at most.
+/// A definition of an object type (`ObjectTypeDefinition`, section 3.6).
+///
+/// Equality and hash ignore source locations.
+///
+/// ```
+/// let id = FieldDefinition::new(alloc, name!(id), ty!(ID!));
+/// let mut user = ObjectTypeDefinition::new(alloc, name!(User));
+/// user.implements_interfaces.push(name!(Node))?;
+/// user.fields.push(Node::new(alloc, id)?)?;
+/// println!(rt; "{}", user.serialize().no_indent())?; // type User implements Node { id: ID! }
+/// ```
 #[derive(Clone, PartialEq, Eq, Hash, Debug, Drop)]
 pub struct ObjectTypeDefinition {
     /// The string before `type`.
@@ -27,7 +36,7 @@ pub struct ObjectTypeDefinition {
 }
 
 impl ObjectTypeDefinition {
-    /// An object type without a description, interfaces, directives and fields. It takes no memory.
+    /// An object type without a description, interfaces, directives and fields. It allocates no memory.
     ///
     /// ```
     /// ObjectTypeDefinition { fields, ..ObjectTypeDefinition::new(alloc, name!(User)) } // type User { .. }
@@ -61,10 +70,18 @@ impl ObjectTypeDefinition {
     }
 }
 
-/// An extension of an object type (`ObjectTypeExtension`, section 3.6). Two are equal exactly if they differ in
-/// locations in a source text at most.
+/// An extension of an object type (`ObjectTypeExtension`, section 3.6).
 ///
 /// One that adds nothing isn't well formed: it has an interface, a directive or a field.
+///
+/// Equality and hash ignore source locations.
+///
+/// ```
+/// let email = FieldDefinition::new(alloc, name!(email), ty!(String));
+/// let mut user = ObjectTypeExtension::new(alloc, name!(User));
+/// user.fields.push(Node::new(alloc, email)?)?;
+/// println!(rt; "{}", user.serialize().no_indent())?; // extend type User { email: String }
+/// ```
 #[derive(Clone, PartialEq, Eq, Hash, Debug, Drop)]
 pub struct ObjectTypeExtension {
     /// The name of the type that is extended.
@@ -78,7 +95,7 @@ pub struct ObjectTypeExtension {
 }
 
 impl ObjectTypeExtension {
-    /// An extension that adds nothing yet. It takes no memory, and isn't well formed before it has an interface, a
+    /// An extension that adds nothing yet. It allocates no memory, and isn't well formed before it has an interface, a
     /// directive or a field.
     ///
     /// ```

@@ -8,8 +8,15 @@ use graphql_base::node::NodeStr;
 use graphql_values::directive_list::DirectiveList;
 use std::alloc::Global;
 
-/// A definition of a scalar type (`ScalarTypeDefinition`, section 3.5). Two are equal exactly if they differ in
-/// locations in a source text at most.
+/// A definition of a scalar type (`ScalarTypeDefinition`, section 3.5).
+///
+/// Equality and hash ignore source locations.
+///
+/// ```
+/// let mut date = ScalarTypeDefinition::new(alloc, name!(Date));
+/// date.description = Some(NodeStr::new_str(alloc, "A day")?);
+/// println!(rt; "{}", date.serialize().no_indent())?; // "A day" scalar Date
+/// ```
 #[derive(Clone, PartialEq, Eq, Hash, Debug, Drop)]
 pub struct ScalarTypeDefinition {
     /// The string before `scalar`.
@@ -21,7 +28,7 @@ pub struct ScalarTypeDefinition {
 }
 
 impl ScalarTypeDefinition {
-    /// A scalar type without a description and directives. It takes no memory.
+    /// A scalar type without a description and directives. It allocates no memory.
     ///
     /// ```
     /// ScalarTypeDefinition::new(alloc, name!(Date)) // scalar Date
@@ -39,10 +46,18 @@ impl ScalarTypeDefinition {
     }
 }
 
-/// An extension of a scalar type (`ScalarTypeExtension`, section 3.5). Two are equal exactly if they differ in
-/// locations in a source text at most.
+/// An extension of a scalar type (`ScalarTypeExtension`, section 3.5).
 ///
 /// One that adds nothing isn't well formed: it has a directive.
+///
+/// Equality and hash ignore source locations.
+///
+/// ```
+/// let mut date = ScalarTypeExtension::new(alloc, name!(Date));
+/// let utc = Directive::new(alloc, name!(utc));
+/// date.directives.0.push(Node::new(alloc, utc)?)?;
+/// println!(rt; "{}", date.serialize().no_indent())?; // extend scalar Date @utc
+/// ```
 #[derive(Clone, PartialEq, Eq, Hash, Debug, Drop)]
 pub struct ScalarTypeExtension {
     /// The name of the type that is extended.
@@ -52,7 +67,7 @@ pub struct ScalarTypeExtension {
 }
 
 impl ScalarTypeExtension {
-    /// An extension that adds nothing yet. It takes no memory, and isn't well formed before it has a directive.
+    /// An extension that adds nothing yet. It allocates no memory, and isn't well formed before it has a directive.
     ///
     /// ```
     /// ScalarTypeExtension { directives, ..ScalarTypeExtension::new(alloc, name!(Date)) } // extend scalar Date @..

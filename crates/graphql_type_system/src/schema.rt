@@ -9,8 +9,15 @@ use graphql_values::directive_list::DirectiveList;
 use graphql_values::operation_type::OperationType;
 use std::alloc::Global;
 
-/// A definition of a schema (`SchemaDefinition`, section 3.3). Two are equal exactly if they differ in
-/// locations in a source text at most.
+/// A definition of a schema (`SchemaDefinition`, section 3.3).
+///
+/// Equality and hash ignore source locations.
+///
+/// ```
+/// let mut schema = SchemaDefinition::new(alloc);
+/// schema.root_operations.push(Node::new(alloc, (OperationType::Query, name!(Query)))?)?;
+/// println!(rt; "{}", schema.serialize().no_indent())?; // schema { query: Query }
+/// ```
 #[derive(Clone, PartialEq, Eq, Hash, Debug, Drop)]
 pub struct SchemaDefinition {
     /// The string before `schema`.
@@ -23,7 +30,7 @@ pub struct SchemaDefinition {
 }
 
 impl SchemaDefinition {
-    /// A schema without a description, directives and root operations. It takes no memory, and isn't well formed
+    /// A schema without a description, directives and root operations. It allocates no memory, and isn't well formed
     /// before it has a root operation.
     ///
     /// ```
@@ -42,10 +49,17 @@ impl SchemaDefinition {
     }
 }
 
-/// An extension of a schema (`SchemaExtension`, section 3.3). Two are equal exactly if they differ in
-/// locations in a source text at most.
+/// An extension of a schema (`SchemaExtension`, section 3.3).
 ///
 /// One that adds nothing isn't well formed: it has a directive or a root operation.
+///
+/// Equality and hash ignore source locations.
+///
+/// ```
+/// let mut schema = SchemaExtension::new(alloc);
+/// schema.root_operations.push(Node::new(alloc, (OperationType::Mutation, name!(Mutation)))?)?;
+/// println!(rt; "{}", schema.serialize().no_indent())?; // extend schema { mutation: Mutation }
+/// ```
 #[derive(Clone, PartialEq, Eq, Hash, Debug, Drop)]
 pub struct SchemaExtension {
     /// The directives behind `schema`. A variable in their arguments isn't well formed.
@@ -55,7 +69,7 @@ pub struct SchemaExtension {
 }
 
 impl SchemaExtension {
-    /// An extension that adds nothing yet. It takes no memory, and isn't well formed before it has a directive or a
+    /// An extension that adds nothing yet. It allocates no memory, and isn't well formed before it has a directive or a
     /// root operation.
     ///
     /// ```

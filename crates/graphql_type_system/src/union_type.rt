@@ -8,8 +8,15 @@ use graphql_base::node::NodeStr;
 use graphql_values::directive_list::DirectiveList;
 use std::alloc::Global;
 
-/// A definition of a union type (`UnionTypeDefinition`, section 3.8). Two are equal exactly if they differ in
-/// locations in a source text at most.
+/// A definition of an union type (`UnionTypeDefinition`, section 3.8).
+///
+/// Equality and hash ignore source locations.
+///
+/// ```
+/// let mut found = UnionTypeDefinition::new(alloc, name!(Found));
+/// found.members = vec![in alloc; name!(User), name!(Post)]?;
+/// println!(rt; "{}", found.serialize().no_indent())?; // union Found = User | Post
+/// ```
 #[derive(Clone, PartialEq, Eq, Hash, Debug, Drop)]
 pub struct UnionTypeDefinition {
     /// The string before `union`.
@@ -23,7 +30,7 @@ pub struct UnionTypeDefinition {
 }
 
 impl UnionTypeDefinition {
-    /// A union type without a description, directives and members. It takes no memory.
+    /// A union type without a description, directives and members. It allocates no memory.
     ///
     /// ```
     /// UnionTypeDefinition { members, ..UnionTypeDefinition::new(alloc, name!(Found)) } // union Found = ..
@@ -43,10 +50,17 @@ impl UnionTypeDefinition {
     }
 }
 
-/// An extension of a union type (`UnionTypeExtension`, section 3.8). Two are equal exactly if they differ in
-/// locations in a source text at most.
+/// An extension of an union type (`UnionTypeExtension`, section 3.8).
 ///
 /// One that adds nothing isn't well formed: it has a directive or a member.
+///
+/// Equality and hash ignore source locations.
+///
+/// ```
+/// let mut found = UnionTypeExtension::new(alloc, name!(Found));
+/// found.members.push(name!(Comment))?;
+/// println!(rt; "{}", found.serialize().no_indent())?; // extend union Found = Comment
+/// ```
 #[derive(Clone, PartialEq, Eq, Hash, Debug, Drop)]
 pub struct UnionTypeExtension {
     /// The name of the type that is extended.
@@ -58,7 +72,7 @@ pub struct UnionTypeExtension {
 }
 
 impl UnionTypeExtension {
-    /// An extension that adds nothing yet. It takes no memory, and isn't well formed before it has a directive or a
+    /// An extension that adds nothing yet. It allocates no memory, and isn't well formed before it has a directive or a
     /// member.
     ///
     /// ```

@@ -9,8 +9,15 @@ use graphql_base::name::Name;
 use graphql_base::node::Node;
 use std::alloc::{AllocError, Global};
 
-/// An argument of a field or a directive (`Argument`, section 2.6). Two are equal exactly if they differ in locations
-/// at most.
+/// An argument of a field or a directive (`Argument`, section 2.6).
+///
+/// Equality and hash ignore source locations.
+///
+/// ```
+/// let mut items = Field::new(alloc, name!(items));
+/// let ten = Node::new(alloc, value!(in alloc; 10)?)?;
+/// items.arguments.push(Argument::new_node(alloc, name!(first), ten)?)?; // items(first: 10)
+/// ```
 #[derive(Clone, PartialEq, Eq, Hash, Debug, Drop)]
 pub struct Argument {
     /// The name that stands before `:`.
@@ -33,7 +40,11 @@ impl Argument {
     }
 
     /// A node of the argument, with no location. `AllocError` where memory is refused; the name and the value are
-    /// given up then.
+    /// dropped then.
+    ///
+    /// ```
+    /// Argument::new_node(alloc, name!(first), Node::new(alloc, value!(in alloc; 10)?)?)? // first: 10
+    /// ```
     pub fn new_node(
         alloc: Global,
         name: Name,

@@ -3,7 +3,14 @@ ghost use Rattle.std.specs.Prelude.{◌≡◌};
 ghost use Rattle.graphql_values.specs.trees.ValueTrees.{constness_of};
 ghost use Rattle.graphql_values.specs.kinds.Values.{admits_variables};
 
-/// Whether a value stands in a const context (`Value[Const]`), which admits no variable at any depth.
+/// Whether a value stands in a const context (`Value[Const]`, section 2.9), which admits no variable at any depth.
+///
+/// ```
+/// let value = value!(in alloc; [$first])?;
+/// if let Some(flaw) = find_ill_formed_value(&value, Constness::Const) {
+///     println!(rt; "{flaw}")?; // a variable where only constants may stand: `first`
+/// }
+/// ```
 #[derive(Clone, Copy, Debug, PartialEq, Eq)]
 pub enum Constness {
     /// `Value[Const]`: no variable.

@@ -26,7 +26,7 @@ pub fn find_ill_formed_default_value<'a>(
     Some(found.within(value.location()))
 }
 
-/// How deep the lists and objects of a default value stand in one another, and 0 without one. `None` if it is above
+/// The nesting depth of the lists and objects of a default value, and 0 without one. `None` if it is above
 /// `usize::MAX`.
 pub fn find_default_value_nesting(default_value: Option<&Node<Value>>) -> Option<usize>
     ensures { IsCount result (default_value_nesting (default_value_tree default_value.entry)) }

@@ -19,9 +19,16 @@ use indexmap::IndexMap;
 use std::alloc::{AllocError, Global};
 use thiserror::Error;
 
-/// A directive (`Directive`, section 2.12). Two are equal exactly if they differ in locations at most.
+/// A directive (`Directive`, section 2.12).
 ///
-/// The arguments stand in order; of arguments with one name each is kept.
+/// The arguments stand in order; of arguments with one name each is kept. Equality and hash ignore source locations.
+///
+/// ```
+/// let mut directive = Directive::new(alloc, name!(deprecated));
+/// let reason = Node::new(alloc, value!(in alloc; "use `name`")?)?;
+/// directive.arguments.push(Argument::new_node(alloc, name!(reason), reason)?)?;
+/// println!(rt; "{directive}")?; // @deprecated(reason: "use `name`")
+/// ```
 #[derive(Clone, PartialEq, Eq, Hash, Debug, Drop)]
 pub struct Directive {
     /// The name, without `@`.
@@ -31,6 +38,12 @@ pub struct Directive {
 }
 
 /// What an argument of a directive stands for.
+///
+/// ```
+/// if let Ok(ArgumentValue::Value(reason)) = directive.argument_by_name("reason", &definitions) {
+///     println!(rt; "{reason}")?; // "use `name`" for @deprecated(reason: "use `name`")
+/// }
+/// ```
 #[derive(Clone, Copy, Debug)]
 pub enum ArgumentValue<'a> {
     /// The value that is specified, or the default value.
@@ -40,6 +53,12 @@ pub enum ArgumentValue<'a> {
 }
 
 /// Why an argument of a directive has no value.
+///
+/// ```
+/// let definitions = IndexMap::new(alloc);
+/// let tag = Directive::new(alloc, name!(tag));
+/// tag.argument_by_name("name", &definitions) // Err(ArgumentByNameError::UndefinedDirective)
+/// ```
 #[derive(Clone, Copy, Debug, PartialEq, Eq)]
 pub enum ArgumentByNameError {
     /// The argument is not specified, and there is no definition of the directive.
@@ -51,6 +70,11 @@ pub enum ArgumentByNameError {
 }
 
 /// Why the value of an argument can't be written to.
+///
+/// ```
+/// let mut directive = Directive::new(alloc, name!(deprecated));
+/// directive.specified_argument_by_name_mut("reason") // Err(SpecifiedArgumentError::NotSpecified)
+/// ```
 #[derive(Clone, Copy, Debug, PartialEq, Eq, Error)]
 pub enum SpecifiedArgumentError {
     /// The directive has no argument of that name.
@@ -137,9 +161,9 @@ impl Directive {
     /// The value of the argument of that name: the value of the first one that the directive specifies, whatever the
     /// definitions say; or else the default value that the directive's definition gives it, or else `ImplicitNull`.
     ///
-    /// The definition is what the map has under the directive's name. For an argument that isn't specified the answer
-    /// is `UndefinedDirective` where the map has none; else `NoSuchArgument` where the definition has no argument of
-    /// that name; else `RequiredArgumentNotSpecified` where that has a non-null type and no default value.
+    /// The definition is what the map has under the directive's name. For an argument that isn't specified it returns
+    /// `UndefinedDirective` where the map has none; else `NoSuchArgument` where the definition has no argument of that
+    /// name; else `RequiredArgumentNotSpecified` where that has a non-null type and no default value.
     pub fn argument_by_name<'a>(
         &'a self,
         name: &str,

@@ -13,8 +13,16 @@ use graphql_base::name::Name;
 use graphql_base::node::{Node, NodeStr};
 use std::alloc::Global;
 
-/// A definition of a directive (`DirectiveDefinition`, section 3.13). Two are equal exactly if they differ in
-/// locations in a source text at most.
+/// A definition of a directive (`DirectiveDefinition`, section 3.13).
+///
+/// Equality and hash ignore source locations.
+///
+/// ```
+/// let mut definition = DirectiveDefinition::new(alloc, name!(tag));
+/// definition.repeatable = true;
+/// definition.locations.push(DirectiveLocation::Object)?;
+/// println!(rt; "{definition}")?; // directive @tag repeatable on OBJECT
+/// ```
 #[derive(Clone, PartialEq, Eq, Hash, Debug, Drop)]
 pub struct DirectiveDefinition {
     /// The string before `directive`.

@@ -1,9 +1,11 @@
 //! Lists of directives: look-ups by name, and going over them.
-ghost use Rattle.std.specs.Prelude.{◌≡◌, ◌==◌, ◌∷◌, ◌++◌, ◌^◌, ◌<◌, [], IfOk, IfErr, IfSome, OnOk, OnErr, length, option_copied, position};
+ghost use Rattle.std.specs.Prelude.{◌≡◌, ◌==◌, ◌∷◌, ◌++◌, ◌^◌, ◌<◌, [], None, IfOk, IfErr, IfSome, OnOk, OnErr, length, option_copied, position};
 ghost use Rattle.std.specs.Borrow.{sem};
 ghost use Rattle.std.specs.Iterator.{Drains, IsFinite, YieldsFirstRef, item_count};
 ghost use Rattle.std.specs.Iterator.Runs.{EveryRun, ItemsMapTo};
 ghost use Rattle.std.specs.Slice.Iter.{iter_rest, iter_mut_rest, iter_steps, iter_mut_steps};
+ghost use Rattle.std.specs.Vec.{vec_allocator};
+ghost use Rattle.graphql_base.specs.Node.{node_at};
 ghost use Rattle.graphql_base.specs.declared.node.Node.{Node};
 ghost use Rattle.graphql_values.specs.declared.directive.Directive.{Directive};
 ghost use Rattle.graphql_values.specs.code.Loans.{LendsItems, LendsVec};
@@ -17,10 +19,16 @@ use std::alloc::{AllocError, Global};
 use std::ops::{Deref, DerefMut};
 use std::{slice, vec};
 
-/// Directives in order (`Directives`, section 2.12), or none. Two lists are equal exactly if they differ in locations
-/// at most.
+/// Directives in order (`Directives`, section 2.12), or none.
 ///
-/// Of directives with one name each is kept, as GraphQL allows for repeatable ones.
+/// Of directives with one name each is kept, as GraphQL allows for repeatable ones. Equality and hash ignore source
+/// locations.
+///
+/// ```
+/// let mut list = DirectiveList::new(alloc);
+/// list.0.push(Node::new(alloc, Directive::new(alloc, name!(deprecated)))?)?; // @deprecated
+/// list.has("deprecated") // true
+/// ```
 #[derive(Clone, PartialEq, Eq, Hash, Debug, Drop)]
 pub struct DirectiveList(pub Vec<Node<Directive>>);
 
@@ -28,14 +36,32 @@ impl DirectiveList {
     ghost use Rattle.graphql_values.specs.code.Queries.{directives_left};
 
     /// The empty list. It takes no memory.
+    ///
+    /// ```
+    /// DirectiveList::new(alloc).is_empty() // true
+    /// ```
     pub fn new(alloc: Global) -> DirectiveList
         ensures { result.0.items ≡ [] }
     {
         DirectiveList(Vec::new(alloc))
     }
 
+    /// A list of one directive, in a node without a location. `AllocError` where memory is refused; the directive is
+    /// dropped then.
+    ///
+    /// ```
+    /// DirectiveList::of(alloc, Directive::new(alloc, name!(deprecated)))? // @deprecated
+    /// ```
+    pub fn of(alloc: Global, directive: Directive) -> Result<DirectiveList, AllocError>
+        ensures { IfOk result (λ list. list.0.items ≡ node_at None directive ∷ []) }
+    {
+        Ok(DirectiveList(vec![in alloc; Node::new(alloc, directive)?]?))
+    }
+
     /// The allocator of the list.
-    pub fn allocator(&self) -> Global {
+    pub fn allocator(&self) -> Global
+        ensures { result ≡ vec_allocator self.now.0 }
+    {
         *self.0.allocator()
     }
 
@@ -94,8 +120,9 @@ impl DirectiveList {
         }
     }
 
-    /// Appends a directive. Where memory is refused, the node is handed back and the list is as it was. `push` of the
-    /// list within answers an error that `?` makes an `AllocError`, and gives the node up then.
+    /// Appends a directive. Where memory is refused, the node is handed back and the list is as it was.
+    ///
+    /// `push` of the vector within returns an error that `?` converts to `AllocError`, and drops the node then.
     ///
     /// ```
     /// list.push(node)    // Err(node) where memory is refused
@@ -113,7 +140,11 @@ impl DirectiveList {
     }
 
     /// A list of the items of an iterator that ends, in order. `AllocError` where memory is refused; the items taken
-    /// so far are given up then.
+    /// so far are dropped then.
+    ///
+    /// ```
+    /// DirectiveList::collect_from(alloc, list.into_iter())? // the same directives
+    /// ```
     pub fn collect_from<I: Iterator<Item = Node<Directive>>>(
         alloc: Global,
         items: I,
@@ -136,7 +167,15 @@ fn first_position(directives: &[Node<Directive>], name: &str) -> Option<usize>
         .position(|node| node.name.as_str() == name)
 }
 
-/// The directives of a list that have one name, in order. After the last one it answers `None` whenever it is asked.
+/// The directives of a list that have one name, in order: what `DirectiveList::get_all` returns.
+///
+/// After the last one `next` always returns `None`.
+///
+/// ```
+/// for directive in list.get_all("deprecated") {
+///     println!(rt; "{directive}")?; // @deprecated
+/// }
+/// ```
 #[derive(Drop)]
 pub struct GetAll<'l, 'n> {
     rest: &'l [Node<Directive>],

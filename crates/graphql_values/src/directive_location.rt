@@ -7,6 +7,11 @@ use crate::operation_type::OperationType;
 use std::fmt::{self, Display, Formatter, Write};
 
 /// A part of a document that a directive may be written at (`DirectiveLocation`, section 3.13).
+///
+/// ```
+/// println!(rt; "{}", DirectiveLocation::FragmentSpread)?; // FRAGMENT_SPREAD
+/// DirectiveLocation::from(OperationType::Query)           // DirectiveLocation::Query
+/// ```
 #[derive(Clone, Copy, PartialEq, Eq, Hash, Debug)]
 pub enum DirectiveLocation {
     Query,

@@ -11,8 +11,15 @@ use graphql_base::name::Name;
 use graphql_base::node::{Node, NodeStr};
 use std::alloc::Global;
 
-/// An argument of a field or a directive, or a field of an input object (`InputValueDefinition`, section 3.6.1). Two
-/// are equal exactly if they differ in locations at most.
+/// An argument of a field or a directive, or a field of an input object (`InputValueDefinition`, section 3.6.1).
+///
+/// Equality and hash ignore source locations.
+///
+/// ```
+/// let mut first = InputValueDefinition::new(alloc, name!(first), Node::new(alloc, ty!(Int!))?);
+/// first.default_value = Some(Node::new(alloc, value!(in alloc; 10)?)?); // first: Int! = 10
+/// first.is_required() // false
+/// ```
 #[derive(Clone, PartialEq, Eq, Hash, Debug, Drop)]
 pub struct InputValueDefinition {
     /// The string before the name.

@@ -14,7 +14,13 @@ use std::fmt::{self, Debug, Display, Formatter, Write};
 use std::num::ParseIntError;
 use thiserror::Error;
 
-/// Why a constructor of an int or a float made none.
+/// Why a constructor of `IntValue` or `FloatValue` returned no number.
+///
+/// ```
+/// if let Err(error) = IntValue::new(alloc, "012") {
+///     println!(rt; "{error}")?; // `012` is not a valid GraphQL number
+/// }
+/// ```
 #[derive(Clone, Debug, Drop, PartialEq, Eq, Error)]
 pub enum LiteralError {
     /// The text, which isn't in the syntax of the literal.
@@ -50,8 +56,16 @@ impl LiteralError {
     }
 }
 
-/// The text of an integer (`IntValue`, section 2.9.1). It may be too great for any integer type. Two are equal
-/// exactly if their texts are. A text of at most 30 bytes takes no memory.
+/// The text of an integer (`IntValue`, section 2.9.1).
+///
+/// It may be too great for any integer type. Equality and hash are those of the text: `0` and `-0` differ. A text of at
+/// most 30 bytes takes no memory.
+///
+/// ```
+/// let int = IntValue::new(alloc, "-12")?;
+/// int.try_to_i32() // Ok(-12)
+/// Value::Int(int)  // the value -12
+/// ```
 #[derive_where(PartialEq, Eq, Hash)]
 #[derive(Debug, Drop)]
 pub struct IntValue {
@@ -101,6 +115,10 @@ impl IntValue {
     /// `IN_PLACE` bytes.
     ///
     /// Condition: the text is in the syntax of an `IntValue`.
+    ///
+    /// ```
+    /// IntValue::new_parsed(alloc, "0")? // 0
+    /// ```
     pub fn new_parsed(alloc: Global, text: &str) -> Result<IntValue, AllocError>
         requires { IsTrue (is_int text.now) }
         ensures text { IfOk result (λ int. int_text int ≡ text.now) }
@@ -111,9 +129,12 @@ impl IntValue {
         })
     }
 
-    /// The integer of a number: its decimal digits, after a `-` where it is negative.
+    /// The integer of a number: its decimal digits, after a `-` where it is negative. It takes no memory, and is never
+    /// an error.
     ///
-    /// `IntValue::from_i32(alloc, -7)?.as_str()` is `-7`. It takes no memory, and is never an error.
+    /// ```
+    /// IntValue::from_i32(alloc, -7)?.as_str() // "-7"
+    /// ```
     pub fn from_i32(alloc: Global, number: i32) -> Result<IntValue, AllocError>
         ensures text { IfOk result (λ int. int_text int ≡ signed_decimal number) }
         ensures number { IfOk result (λ int. int_number int ≡ number) }
@@ -126,7 +147,7 @@ impl IntValue {
     /// and is never an error.
     ///
     /// ```
-    /// IntValue::from_i64(alloc, -3000000000)?.as_str() // -3000000000
+    /// IntValue::from_i64(alloc, -3000000000)?.as_str() // "-3000000000"
     /// ```
     pub fn from_i64(alloc: Global, number: i64) -> Result<IntValue, AllocError>
         ensures text { IfOk result (λ int. int_text int ≡ signed_decimal number) }
@@ -196,8 +217,15 @@ impl Display for IntValue {
     }
 }
 
-/// The text of a number with a fraction, an exponent or both (`FloatValue`, section 2.9.2). Two are equal exactly if
-/// their texts are. A text of at most 30 bytes takes no memory.
+/// The text of a number with a fraction, an exponent or both (`FloatValue`, section 2.9.2).
+///
+/// Equality and hash are those of the text: `1.5` and `1.50` differ. A text of at most 30 bytes takes no memory.
+///
+/// ```
+/// let float = FloatValue::new(alloc, "1.50")?;
+/// float.as_str()      // "1.50"
+/// Value::Float(float) // the value 1.50
+/// ```
 #[derive_where(PartialEq, Eq, Hash)]
 #[derive(Debug, Drop)]
 pub struct FloatValue {
@@ -249,6 +277,10 @@ impl FloatValue {
     /// `IN_PLACE` bytes.
     ///
     /// Condition: the text is in the syntax of a `FloatValue`.
+    ///
+    /// ```
+    /// FloatValue::new_parsed(alloc, "1.5")? // 1.5
+    /// ```
     pub fn new_parsed(alloc: Global, text: &str) -> Result<FloatValue, AllocError>
         requires { IsTrue (is_float text.now) }
         ensures text { IfOk result (λ float. float_text float ≡ text.now) }

@@ -11,6 +11,11 @@ use graphql_base::name::NamedType;
 use std::fmt::{self, Display, Formatter, Write};
 
 /// The type of an operation (`OperationType`, section 2.3).
+///
+/// ```
+/// OperationType::Mutation.name()              // "mutation"
+/// OperationType::Mutation.default_type_name() // the name Mutation
+/// ```
 #[derive(Clone, Copy, PartialEq, Eq, Hash, Debug)]
 pub enum OperationType {
     Query,

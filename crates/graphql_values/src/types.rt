@@ -6,8 +6,16 @@ pub(crate) mod print;
 pub use graphql_base::name::NamedType;
 use std::alloc::{AllocError, Global};
 
-/// A type reference (`Type`, section 2.11): the type of a field, an argument or a variable. Two types are equal
-/// exactly if they differ in locations at most.
+/// A type reference (`Type`, section 2.11): the type of a field, an argument or a variable.
+///
+/// Equality and hash ignore source locations.
+///
+/// ```
+/// let tags = ty!(in alloc; [String!])?;
+/// println!(rt; "{tags}")?;              // [String!]
+/// tags.inner_named_type()               // the name String
+/// ty!(Int!).is_assignable_to(&ty!(Int)) // true
+/// ```
 #[derive(PartialEq, Eq, Hash, Debug, Drop)]
 pub enum Type {
     /// `Name`: its values, and null.
@@ -44,7 +52,7 @@ impl Type {
         }
     }
 
-    /// The nullable list of items of this type. `AllocError` where memory is refused; the type is given up then.
+    /// The nullable list of items of this type. `AllocError` where memory is refused; the type is dropped then.
     pub fn list(self, alloc: Global) -> Result<Type, AllocError>
         ensures { IfOk result (λ list. type_wrapping list ≡ listed false (type_wrapping self)) }
     {

@@ -12,9 +12,16 @@ use graphql_base::name::Name;
 use graphql_base::node::Node;
 use std::alloc::{AllocError, Global};
 
-/// A value (`Value`, section 2.9). Two values are equal exactly if they differ in locations at most.
+/// A value (`Value`, section 2.9).
 ///
-/// The items of a list and the fields of an object stand in order; of fields with one name each is kept.
+/// The items of a list and the fields of an object stand in order; of fields with one name each is kept. Equality and
+/// hash ignore source locations.
+///
+/// ```
+/// let filter = value!(in alloc; {min: 0, tags: ["new"]})?;
+/// println!(rt; "{}", filter.serialize().no_indent())?; // {min: 0, tags: ["new"]}
+/// filter.as_object()                                   // Some: the two fields, min and tags
+/// ```
 #[derive(PartialEq, Eq, Hash, Debug, Drop)]
 pub enum Value {
     /// `null`.
@@ -38,6 +45,10 @@ impl Value {
     ghost use Rattle.graphql_values.specs.code.ValueQueries.{boolean_of, enum_of, int_of, is_null, list_items_of, object_fields_of, string_of, unlocated_field, variable_of};
 
     /// The number as an integer. It takes no memory, and is never an error.
+    ///
+    /// ```
+    /// Value::from_i32(alloc, -7)? // -7
+    /// ```
     pub fn from_i32(alloc: Global, number: i32) -> Result<Value, AllocError>
         ensures text { IfOk result (λ value.
             IsSomeAnd (int_of value) (λ int. int_text int ≡ signed_decimal number)) }
@@ -64,7 +75,7 @@ impl Value {
     }
 
     /// The list of these items, each in a node without a location. `AllocError` where memory is refused; the items are
-    /// given up then.
+    /// dropped then.
     ///
     /// ```
     /// Value::list(alloc, vec![in alloc; Value::from(true), Value::Null]?)? // [true, null]
@@ -81,7 +92,7 @@ impl Value {
     }
 
     /// The object of these fields, the value of each in a node without a location. `AllocError` where memory is
-    /// refused; the fields are given up then.
+    /// refused; the fields are dropped then.
     ///
     /// ```
     /// Value::object(alloc, vec![in alloc; (name!(a), Value::Null)]?)? // {a: null}
@@ -99,6 +110,10 @@ impl Value {
     }
 
     /// A string of a copy of the text. `AllocError` where memory is refused.
+    ///
+    /// ```
+    /// Value::from_text(alloc, "new")? // "new"
+    /// ```
     pub fn from_text(alloc: Global, text: &str) -> Result<Value, AllocError>
         ensures { IfOk result (λ value. string_of value ≡ Some text.now) }
     {

@@ -10,8 +10,14 @@ use crate::value::Value;
 use graphql_base::name::Name;
 use std::alloc::{AllocError, Global};
 
-/// A literal of Rust that may be written in `value!`: an integer within `i64`, a number with a fraction or an exponent,
-/// or a text.
+/// A literal of Rust that may be written in `value!`.
+///
+/// It is an integer within `i64`, a number with a fraction or an exponent, or a text.
+///
+/// ```
+/// value!(in alloc; 1.50)?              // 1.50
+/// Literal::value(1.50, alloc, "1.50")? // the same
+/// ```
 pub trait Literal {
     ghost use Rattle.graphql_values.specs.declared.value.Value.{Value};
 

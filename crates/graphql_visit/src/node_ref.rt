@@ -11,7 +11,17 @@ use graphql_ast::ast::{
 };
 use graphql_ast::{Name, Node};
 
-/// A node of a document, of any kind. Descriptions and names are no nodes of their own.
+/// A node of a document, of any kind.
+///
+/// Descriptions and names are no nodes of their own.
+///
+/// ```
+/// match node {
+///     NodeRef::Field(field) => println!(rt; "a field {}", field.name)?,
+///     NodeRef::Argument(argument) => println!(rt; "an argument {}", argument.name)?,
+///     _ => {}
+/// }
+/// ```
 #[derive(Clone, Copy)]
 pub enum NodeRef<'a> {
     /// A document.

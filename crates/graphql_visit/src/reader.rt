@@ -10,8 +10,9 @@ use crate::visitor::{Ended, Flow, Visitor};
 use crate::walked::{Walked, walk};
 use std::ops::ControlFlow;
 
-/// What is called at each node, in order. `reads` says what a call makes of the reader; where nothing is to be known of that
-/// behind a walk, it is `⊤`.
+/// What is called at each node, in order.
+///
+/// `reads` says what a call makes of the reader; where nothing is to be known of that after a walk, it is `⊤`.
 ///
 /// ```
 /// impl Reader for Fields {
@@ -31,7 +32,7 @@ pub trait Reader {
     /// Why a call fails.
     type Error;
 
-    /// What a call may make of the reader, and answer.
+    /// What a call may make of the reader, and return.
     ghost reads: { NodeTree → Self → Result ⊤ Self.Error → Self → Type 0 };
 
     /// Reads a node. Those within it come next.

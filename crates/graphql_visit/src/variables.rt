@@ -33,7 +33,7 @@ impl Reader for Variables {
 }
 
 /// The names of the variables that are used in a node, in order, as often as they are used. Definitions of variables use
-/// none but in their default values and directives. `AllocError` where memory is refused.
+/// none but in their default values and directives. `AllocError` if an allocation fails.
 ///
 /// ```
 /// used_variables(alloc, &document)

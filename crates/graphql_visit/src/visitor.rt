@@ -9,7 +9,16 @@ ghost use Rattle.graphql_visit.specs.declared.visitor.Flow.{Flow};
 use crate::node_ref::NodeRef;
 use std::ops::ControlFlow;
 
-/// What comes behind the call before a node.
+/// What comes after the call before a node.
+///
+/// ```
+/// fn enter(&mut self, node: NodeRef<'_>) -> Result<Flow, ()> {
+///     match node {
+///         NodeRef::FragmentDefinition(_) => Ok(Flow::Skip), // no node within a fragment comes
+///         _ => Ok(Flow::Continue),
+///     }
+/// }
+/// ```
 #[derive(Clone, Copy, Debug, PartialEq, Eq)]
 pub enum Flow {
     /// The nodes within the node, and the call behind it.
@@ -20,7 +29,15 @@ pub enum Flow {
     Stop,
 }
 
-/// How a walk ended before it came to its end.
+/// Why a walk ended before its end.
+///
+/// ```
+/// match walk_document(&document, &mut visitor) {
+///     Ok(()) => println!(rt; "each node came")?,
+///     Err(Ended::Stopped) => println!(rt; "the visitor stopped the walk")?,
+///     Err(Ended::Failed(error)) => println!(rt; "the visitor failed: {error}")?,
+/// }
+/// ```
 #[derive(Clone, Copy, Debug, PartialEq, Eq)]
 pub enum Ended<E> {
     /// A call of the visitor stopped it.
@@ -29,13 +46,36 @@ pub enum Ended<E> {
     Failed(E),
 }
 
-/// What a walk calls before each node and behind it. `enters` and `leaves` say what the calls make of the visitor; where
-/// nothing is to be known of that behind a walk, they are `⊤`. A `Reader` is a visitor too, which goes on at each node.
+/// What a walk calls before each node and after it.
+///
+/// `enters` and `leaves` say what the calls make of the visitor; where nothing is to be known of that after a walk,
+/// they are `⊤`. A `Reader` is a visitor too, which goes on at each node.
+///
+/// ```
+/// impl Visitor for Depth {
+///     type Error = ();
+///
+///     ghost enters = { λ node old result new. ⊤ };
+///
+///     ghost leaves = { λ node old result new. ⊤ };
+///
+///     fn enter(&mut self, _node: NodeRef<'_>) -> Result<Flow, ()> {
+///         self.now = self.now.saturating_add(1);
+///         self.greatest = self.greatest.max(self.now);
+///         Ok(Flow::Continue)
+///     }
+///
+///     fn leave(&mut self, _node: NodeRef<'_>) -> Result<ControlFlow<()>, ()> {
+///         self.now = self.now.saturating_sub(1);
+///         Ok(ControlFlow::Continue(()))
+///     }
+/// }
+/// ```
 pub trait Visitor {
     /// Why a call fails.
     type Error;
 
-    /// What the call before a node may make of the visitor, and answer.
+    /// What the call before a node may make of the visitor, and return.
     ghost enters: { NodeTree → Self → Result Flow Self.Error → Self → Type 0 };
 
     /// The same of the call behind a node.

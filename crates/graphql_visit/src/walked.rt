@@ -8,6 +8,13 @@ use crate::node_ref::NodeRef;
 use crate::visitor::{Ended, Visitor, enter, leave};
 
 /// A node that a walk may begin at: a document, a definition, and each kind of node within one.
+///
+/// ```
+/// let value = Node::new(alloc, value!(in alloc; [$first, 10, $last])?)?;
+/// for name in used_variables(alloc, &value)? {
+///     println!(rt; "{name}")?; // first, then last
+/// }
+/// ```
 pub trait Walked {
     /// Its tree.
     ghost Tree: { Type 0 };

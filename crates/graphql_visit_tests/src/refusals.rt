@@ -3,6 +3,7 @@ use crate::samples::document;
 use crate::variables::check_names;
 use graphql_visit::used_variables;
 
+/// Allocations: 32.
 #[test]
 fn variables_are_told_or_memory_is_refused(rt: HostRuntime) {
     let alloc = rt.alloc();

@@ -11,7 +11,14 @@ use crate::numbers::unsigned_number;
 use json::Value as Parsed;
 use serde_json::Value as Json;
 
-/// JSON in either form.
+/// JSON in either form: a value of `serde_json`, or one that `parse_json` made of a text.
+///
+/// ```
+/// let mut scratch = Scratch::new(alloc);
+/// if let Some(value) = parse_json(alloc, r#"{"kind":"Name"}"#, &mut scratch)? {
+///     let kind = AnyJson::Parsed(&value).get("kind").and_then(AnyJson::as_str); // Some("Name")
+/// }
+/// ```
 #[derive(Clone, Copy)]
 pub enum AnyJson<'j, 't> {
     Owned(&'j Json),
@@ -19,6 +26,13 @@ pub enum AnyJson<'j, 't> {
 }
 
 /// The items of an array in either form.
+///
+/// ```
+/// let json = serde_json::Value::from_str(alloc, "[true, null]")?;
+/// if let Some(items) = AnyJson::Owned(&json).as_items() {
+///     println!(rt; "{} {}", items.len(), items.at(1).is_null())?; // 2 true
+/// }
+/// ```
 #[derive(Clone, Copy)]
 pub enum AnyItems<'j, 't> {
     Owned(&'j [Json]),

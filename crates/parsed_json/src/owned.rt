@@ -21,7 +21,7 @@ fn number_or_minus_one(text: &str) -> Number
     }
 }
 
-/// The same JSON as a value of `serde_json`. `AllocError` where memory is refused.
+/// The same JSON as a value of `serde_json`. `AllocError` if an allocation fails.
 #[cycle(owned)]
 pub fn owned_json(alloc: Global, value: &Parsed<'_>) -> Result<Json, AllocError>
     ensures { IfOk result (λ json. view json ≡ parsed_data value.now) }

@@ -13,7 +13,7 @@ use crate::numbers::number_of;
 use json::{Reader, Scratch, Token, Value as Parsed};
 use std::alloc::{AllocError, Global};
 
-/// How deep arrays and objects of a text may stand in one another, for its JSON to be read.
+/// The greatest nesting depth of arrays and objects at which the JSON of a text is read.
 const MAX_DEPTH: usize = 127;
 
 /// For a text of so many bytes the scratch takes spare room.
@@ -270,11 +270,13 @@ fn read_token<'t>(
     }
 }
 
-/// The JSON that a text is, or `None` where it is none that is read: it may be no JSON, arrays and objects of it may stand in
-/// one another more than 127 deep, or a number may be too large. `serde_json`, which reads none of these, tells which.
+/// The JSON that a text is, or `None` where it is none that is read.
+///
+/// It may be no JSON, the nesting depth of its arrays and objects may be above 127, or a number may be too large.
+/// `serde_json`, which reads none of these, tells which.
 ///
 /// Its texts lie in the text, or in the scratch where they have escapes. The scratch takes as much memory as the text has
-/// bytes, and 256 KiB more for a text of 128 KiB and more. `AllocError` where memory is refused.
+/// bytes, and 256 KiB more for a text of 128 KiB and more. `AllocError` if an allocation fails.
 #[inline(never)]
 pub fn parse_json<'t>(
     alloc: Global,

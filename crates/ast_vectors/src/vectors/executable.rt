@@ -1,25 +1,20 @@
 //! Trees of operations.
-use super::values::{directive, include};
+use super::values::include;
 use graphql_ast::ast::{
-    Argument, Field, FragmentSpread, InlineFragment, OperationDefinition, OperationType, Selection,
-    Value, VariableDefinition,
+    Argument, Directive, DirectiveList, Field, FragmentSpread, InlineFragment, OperationDefinition,
+    OperationType, Selection, Value, VariableDefinition,
 };
 use graphql_ast::name::Name;
 use graphql_ast::node::{Node, NodeStr};
 use graphql_ast::{name, ty, value};
 use std::alloc::{AllocError, Global};
 
-/// The anonymous query of one field with a name alone.
-fn query_of(alloc: Global, field: Name) -> Result<OperationDefinition, AllocError> {
-    Ok(OperationDefinition {
-        selection_set: vec![in alloc; Selection::field(alloc, Field::new(alloc, field))?]?,
-        ..OperationDefinition::new(alloc, OperationType::Query)
-    })
-}
-
 /// `{ a }`
 pub(super) fn anonymous_query(alloc: Global) -> Result<OperationDefinition, AllocError> {
-    query_of(alloc, name!(a))
+    Ok(OperationDefinition {
+        selection_set: vec![in alloc; Selection::field(alloc, Field::new(alloc, name!(a)))?]?,
+        ..OperationDefinition::new(alloc, OperationType::Query)
+    })
 }
 
 /// `"D" query { a }`
@@ -31,9 +26,11 @@ pub(super) fn described_query(alloc: Global) -> Result<OperationDefinition, Allo
 
 /// `query @dir { field }`
 pub(super) fn query_with_directive(alloc: Global) -> Result<OperationDefinition, AllocError> {
-    let mut operation = query_of(alloc, name!(field))?;
-    operation.directives = directive(alloc, name!(dir))?;
-    Ok(operation)
+    Ok(OperationDefinition {
+        directives: DirectiveList::of(alloc, Directive::new(alloc, name!(dir)))?,
+        selection_set: vec![in alloc; Selection::field(alloc, Field::new(alloc, name!(field)))?]?,
+        ..OperationDefinition::new(alloc, OperationType::Query)
+    })
 }
 
 /// A variable of type `Int` with default value 1.
@@ -85,7 +82,7 @@ fn field_with_alias(alloc: Global) -> Result<Field, AllocError> {
 /// `query N($v: Int = 1 @d) { .. }` of a field with an alias, an argument, a directive and fragments.
 pub(super) fn query_of_all_selections(alloc: Global) -> Result<OperationDefinition, AllocError> {
     let mut variable = variable_with_default(alloc, name!(v))?;
-    variable.directives = directive(alloc, name!(d))?;
+    variable.directives = DirectiveList::of(alloc, Directive::new(alloc, name!(d)))?;
     Ok(OperationDefinition {
         name: Some(name!(N)),
         variables: vec![in alloc; Node::new(alloc, variable)?]?,

@@ -1,8 +1,7 @@
 //! Trees of type system definitions.
-use super::values::directive;
 use graphql_ast::ast::{
-    DirectiveDefinition, DirectiveLocation, FieldDefinition, InputValueDefinition,
-    ObjectTypeDefinition, ScalarTypeDefinition,
+    Directive, DirectiveDefinition, DirectiveList, DirectiveLocation, FieldDefinition,
+    InputValueDefinition, ObjectTypeDefinition, ScalarTypeDefinition,
 };
 use graphql_ast::node::{Node, NodeStr};
 use graphql_ast::{name, ty, value};
@@ -24,7 +23,7 @@ fn described_field(alloc: Global) -> Result<FieldDefinition, AllocError> {
         name: name!(f),
         arguments: vec![in alloc; Node::new(alloc, x)?]?,
         ty: ty!(in alloc; [String!]!)?,
-        directives: directive(alloc, name!(e))?,
+        directives: DirectiveList::of(alloc, Directive::new(alloc, name!(e)))?,
     })
 }
 
@@ -32,7 +31,7 @@ fn described_field(alloc: Global) -> Result<FieldDefinition, AllocError> {
 pub(super) fn object_with_field(alloc: Global) -> Result<ObjectTypeDefinition, AllocError> {
     Ok(ObjectTypeDefinition {
         implements_interfaces: vec![in alloc; name!(A), name!(B)]?,
-        directives: directive(alloc, name!(d))?,
+        directives: DirectiveList::of(alloc, Directive::new(alloc, name!(d)))?,
         fields: vec![in alloc; Node::new(alloc, described_field(alloc)?)?]?,
         ..ObjectTypeDefinition::new(alloc, name!(T))
     })
@@ -43,7 +42,7 @@ pub(super) fn field_with_argument(alloc: Global) -> Result<FieldDefinition, Allo
     let ty = Node::new(alloc, ty!(in alloc; [Int])?)?;
     let mut a = InputValueDefinition::new(alloc, name!(a), ty);
     a.default_value = Some(Node::new(alloc, value!(in alloc; [1])?)?);
-    a.directives = directive(alloc, name!(x))?;
+    a.directives = DirectiveList::of(alloc, Directive::new(alloc, name!(x)))?;
     let mut field = FieldDefinition::new(alloc, name!(f), ty!(Int));
     field.arguments = vec![in alloc; Node::new(alloc, a)?]?;
     Ok(field)
@@ -52,7 +51,7 @@ pub(super) fn field_with_argument(alloc: Global) -> Result<FieldDefinition, Allo
 /// `directive @d(a: Int @x, b: Int) on FIELD`
 pub(super) fn directive_definition(alloc: Global) -> Result<DirectiveDefinition, AllocError> {
     let mut a = InputValueDefinition::new(alloc, name!(a), Node::new(alloc, ty!(Int))?);
-    a.directives = directive(alloc, name!(x))?;
+    a.directives = DirectiveList::of(alloc, Directive::new(alloc, name!(x)))?;
     let b = InputValueDefinition::new(alloc, name!(b), Node::new(alloc, ty!(Int))?);
     Ok(DirectiveDefinition {
         arguments: vec![in alloc; Node::new(alloc, a)?, Node::new(alloc, b)?]?,

@@ -1,6 +1,5 @@
 //! Trees of values, and the directives that hold them.
 use graphql_ast::ast::{Argument, Directive, DirectiveList, Value};
-use graphql_ast::name::Name;
 use graphql_ast::node::Node;
 use graphql_ast::{name, value};
 use std::alloc::{AllocError, Global};
@@ -23,12 +22,6 @@ pub(super) fn object_of_fields(alloc: Global) -> Result<Value, AllocError> {
     })
 }
 
-/// One directive without arguments.
-pub(super) fn directive(alloc: Global, name: Name) -> Result<DirectiveList, AllocError> {
-    let directive = Node::new(alloc, Directive::new(alloc, name))?;
-    Ok(DirectiveList(vec![in alloc; directive]?))
-}
-
 /// `@include(if: true)`
 pub(super) fn include(alloc: Global) -> Result<DirectiveList, AllocError> {
     let condition = Node::new(alloc, Value::Boolean(true))?;
@@ -36,5 +29,5 @@ pub(super) fn include(alloc: Global) -> Result<DirectiveList, AllocError> {
         arguments: vec![in alloc; Argument::new_node(alloc, name!("if"), condition)?]?,
         ..Directive::new(alloc, name!(include))
     };
-    Ok(DirectiveList(vec![in alloc; Node::new(alloc, directive)?]?))
+    DirectiveList::of(alloc, directive)
 }

@@ -7,7 +7,16 @@ ghost use Rattle.graphql_ast.specs.LinesAndColumns.{IsPositionAt, IsStartPositio
 use crate::document::{Document, SourceFile};
 use graphql_base::span::{FileId, SourceSpan};
 
-/// A position in a source text, for messages. A line ends with a line terminator (`LineTerminator`, section 2.1.3).
+/// A position in a source text, for messages.
+///
+/// A line ends with a line terminator (`LineTerminator`, section 2.1.3).
+///
+/// ```
+/// // the text of the file: "a\né {"
+/// if let Some(LineColumn { line, column }) = file.line_column(4) {
+///     println!(rt; "{line}:{column}")?; // 2:2
+/// }
+/// ```
 #[derive(Clone, Copy, PartialEq, Eq, Hash, Debug)]
 pub struct LineColumn {
     /// The number of the line, from 1.

@@ -155,7 +155,16 @@ fn is_extension_named(definition: &Definition, name: &str) -> bool
     definition.is_extension_definition() && has_name(definition.name(), Some(name))
 }
 
-/// The operations of a document, in order. After the last one it answers `None` whenever it is asked.
+/// The operations of a document, in order: an iterator.
+///
+/// After the last operation it returns `None` at each call.
+///
+/// ```
+/// // query A { a } fragment F on T { a } mutation B { b }
+/// for operation in document.operations() {
+///     println!(rt; "{}", operation.operation_type)?; // query, then mutation
+/// }
+/// ```
 #[derive(Drop)]
 pub struct Operations<'d> {
     rest: &'d [Definition],
@@ -179,7 +188,16 @@ impl<'d> Iterator for Operations<'d> {
     }
 }
 
-/// The fragments of a document, in order. After the last one it answers `None` whenever it is asked.
+/// The fragments of a document, in order: an iterator.
+///
+/// After the last fragment it returns `None` at each call.
+///
+/// ```
+/// // query A { a } fragment F on T { a }
+/// for fragment in document.fragments() {
+///     println!(rt; "{} on {}", fragment.name, fragment.type_condition)?; // F on T
+/// }
+/// ```
 #[derive(Drop)]
 pub struct Fragments<'d> {
     rest: &'d [Definition],
@@ -203,7 +221,16 @@ impl<'d> Iterator for Fragments<'d> {
     }
 }
 
-/// The extensions of a type in a document, in order. After the last one it answers `None` whenever it is asked.
+/// The extensions of a type in a document, in order: an iterator.
+///
+/// After the last extension it returns `None` at each call.
+///
+/// ```
+/// // type Query { a: Int } extend type Query { b: Int }
+/// for extension in document.extensions_of("Query") {
+///     println!(rt; "{}", extension.serialize().no_indent())?; // extend type Query { b: Int }
+/// }
+/// ```
 #[derive(Drop)]
 pub struct Extensions<'d, 'n> {
     rest: &'d [Definition],

@@ -1,10 +1,10 @@
 //! What is wrong with a document, and where in its sources.
-ghost use Rattle.std.specs.Prelude.{◌≡◌, option_copied};
+ghost use Rattle.std.specs.Prelude.{IfSome};
 ghost use Rattle.std.specs.Option.{option_map};
-ghost use Rattle.graphql_text.specs.code.IllFormed.{IsFirstFlaw};
+ghost use Rattle.graphql_text.specs.code.IllFormed.{IsFirstFlaw, location_of};
 ghost use Rattle.graphql_ast.specs.AstTrees.{document_tree};
 ghost use Rattle.graphql_ast.specs.Documents.{document_kind};
-ghost use Rattle.graphql_ast.specs.LinesAndColumns.{IsStartPosition, found_of, line_column_of};
+ghost use Rattle.graphql_ast.specs.LinesAndColumns.{IsPlaceOf, IsSourcePosition, found_of};
 
 use crate::document::Document;
 use crate::document::lines_and_columns::LineColumn;
@@ -13,7 +13,13 @@ use graphql_text::ill_formed::IllFormed;
 use std::error::Error;
 use std::fmt::{self, Display, Formatter, Write};
 
-/// Where something stands: the path of a source file, and a position in its text.
+/// A position in a source file, for messages: the path of the file, and a position in its text.
+///
+/// ```
+/// if let Some(position) = document.source_position(span) {
+///     println!(rt; "{position}")?; // a.graphql:3:1
+/// }
+/// ```
 #[derive(Clone, Copy, Debug, PartialEq, Eq)]
 pub struct SourcePosition<'a> {
     /// The path of the source file.
@@ -31,8 +37,13 @@ impl Display for SourcePosition<'_> {
 
 /// What is wrong with a document, and where in its sources.
 ///
-/// `Display` tells it in one line, as in ``a.graphql:3:1: an extension that adds nothing: `A` ``, and without the
-/// position where it isn't known.
+/// `Display` tells it in one line, and without the position where it isn't known.
+///
+/// ```
+/// if let Some(flaw) = document.find_placed_flaw() {
+///     println!(rt; "{flaw}")?; // a.graphql:3:1: an extension that adds nothing: `A`
+/// }
+/// ```
 #[derive(Clone, Copy, Debug)]
 pub struct PlacedFlaw<'a> {
     /// What is wrong.
@@ -61,8 +72,7 @@ impl Document {
     /// let place = document.source_position(node.location()?)?; // a.graphql:3:1
     /// ```
     pub fn source_position(&self, span: SourceSpan) -> Option<SourcePosition<'_>>
-        ensures { IsStartPosition self.now.sources.entries span
-            (option_map line_column_of result) }
+        ensures { IsSourcePosition self.now.sources.entries span result }
     {
         let file = self.source_file(span.file_id())?;
         let position = file.line_column(span.start() as usize)?;
@@ -73,7 +83,7 @@ impl Document {
     }
 
     /// The first flaw of the document, in the order of print, and where it stands in its sources. `None` exactly if the
-    /// document is well formed. It takes no memory.
+    /// document is well formed. It allocates no memory.
     ///
     /// ```
     /// if let Some(flaw) = document.find_placed_flaw() {
@@ -81,8 +91,10 @@ impl Document {
     /// }
     /// ```
     pub fn find_placed_flaw(&self) -> Option<PlacedFlaw<'_>>
-        ensures { IsFirstFlaw (document_kind.flaws (document_tree self.now))
+        ensures flaw { IsFirstFlaw (document_kind.flaws (document_tree self.now))
             (option_map found_of result) }
+        ensures place { IfSome result (λ flaw.
+            IsPlaceOf self.now.sources.entries (location_of flaw.found) flaw.place) }
     {
         let found = self.find_ill_formed()?;
         let place = match found.location() {

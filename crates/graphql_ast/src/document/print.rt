@@ -102,7 +102,7 @@ fn write_definitions<'a, O: Target>(
     write_finish(out, place);
 }
 
-/// The stacks that definitions of these depths are written with. `AllocError` where memory is refused.
+/// The stacks that definitions of these depths are written with. `AllocError` if an allocation fails.
 fn reserve_stacks<'t>(
     alloc: Global,
     definitions: &'t [Definition],

@@ -19,7 +19,7 @@ use graphql_base::node::Node;
 use serde_json::{Value as Json, push};
 use std::alloc::{AllocError, Global};
 
-/// A selection, at its location if it has one. `AllocError` where memory is refused.
+/// A selection, at its location if it has one. `AllocError` if an allocation fails.
 #[cycle(selection)]
 pub(crate) fn write_selection(alloc: Global, selection: &Selection) -> Result<Json, AllocError>
     ensures ok { IfOk result (λ json. (unknown : Unknown)

@@ -14,7 +14,7 @@ use graphql_ast::ast::{NamedType, Type};
 use serde_json::Value as Json;
 use std::alloc::AllocError;
 
-/// The type reference as a node. `AllocError` where memory is refused.
+/// The type reference as a node. `AllocError` if an allocation fails.
 pub(crate) fn write_type(node: NodeWriter, ty: &Type) -> Result<Json, AllocError>
     ensures ok { IfOk result (λ json. (unknown : Unknown)
         → IsTypeReference unknown (type_tree ty.now) (view json)) }

@@ -20,7 +20,7 @@ use graphql_base::node::Node;
 use serde_json::{Value as Json, push};
 use std::alloc::{AllocError, Global};
 
-/// The value as a node. The names and the nodes in it have their own locations. `AllocError` where memory is refused.
+/// The value as a node. The names and the nodes in it have their own locations. `AllocError` if an allocation fails.
 #[cycle(value)]
 pub(crate) fn write_value(node: NodeWriter, value: &Value) -> Result<Json, AllocError>
     ensures ok { IfOk result (λ json. (unknown : Unknown)

@@ -45,8 +45,7 @@ pub(crate) fn find_ill_formed_field_head(field: &Field) -> Option<IllFormed<'_>>
     find_ill_formed_directive(&field.directives, Constness::NonConst)
 }
 
-/// How deep the groups in the arguments and the directives of a field stand in one another. `None` if it is above
-/// `usize::MAX`.
+/// The nesting depth of the groups in the arguments and the directives of a field. `None` if it is above `usize::MAX`.
 #[tactic(auto, using(crate::proofs::layout::SelectionShapes::field_head_is))]
 pub(crate) fn find_field_head_nesting(field: &Field) -> Option<usize>
     ensures { IsCount result (field_head_nesting (field_tree field.now).head) }

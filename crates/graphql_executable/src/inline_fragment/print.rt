@@ -45,8 +45,7 @@ pub(crate) fn find_ill_formed_inline_fragment_head(
     find_ill_formed_directive(&fragment.directives, Constness::NonConst)
 }
 
-/// How deep the groups in the directives of an inline fragment stand in one another. `None` if it is above
-/// `usize::MAX`.
+/// The nesting depth of the groups in the directives of an inline fragment. `None` if it is above `usize::MAX`.
 #[tactic(auto, using(crate::proofs::layout::SelectionShapes::inline_fragment_head_is))]
 pub(crate) fn find_inline_fragment_head_nesting(fragment: &InlineFragment) -> Option<usize>
     ensures { IsCount result

@@ -129,7 +129,7 @@ fn is_plain(selection: &Selection) -> bool
     }
 }
 
-/// How deep the groups of a selection stand in one another. `None` if it is above `usize::MAX`.
+/// The nesting depth of the groups of a selection. `None` if it is above `usize::MAX`.
 #[cycle(nesting)]
 #[tactic(auto, using(crate::proofs::layout::SelectionShapes::selection_nesting_steps))]
 fn find_selection_nesting(selection: &Selection) -> Option<usize>
@@ -151,8 +151,8 @@ fn find_selection_nesting(selection: &Selection) -> Option<usize>
     }
 }
 
-/// How deep the groups of a selection set stand in one another: one more than the selection that nests most, and 0
-/// without selections. `None` if it is above `usize::MAX`.
+/// The nesting depth of the groups of a selection set: one more than the selection that nests most, and 0 without
+/// selections. `None` if it is above `usize::MAX`.
 #[cycle(nesting)]
 pub(crate) fn find_selection_set_nesting(selections: &[Selection]) -> Option<usize>
     ensures { IsCount result (selection_set_nesting (selection_trees selections.now)) }
@@ -330,7 +330,7 @@ fn write_leaf<'a, O: Target>(
     }
 }
 
-/// Writes the selections up to the next one that has selections of its own. It answers what is left then.
+/// Writes the selections up to the next one that has selections of its own. It returns what is left then.
 #[inline(always)]
 fn write_leaves<'a, O: Target>(
     out: &mut O,

@@ -1,11 +1,21 @@
 //! A sink that hands the bytes to a writer.
-ghost use Rattle.std.specs.Prelude.{◌≡◌, None, option_copied};
+ghost use Rattle.std.specs.Prelude.{◌≡◌, ◌+◌, ◌<◌, ◌≤◌, None, IfOk, OnErr, OnOk, length, option_copied};
+ghost use Rattle.std.specs.Io.KnownBytes.{WriteAppends};
+ghost use Rattle.graphql_text.specs.code.Sinks.{CanFault};
+ghost use Rattle.graphql_text.specs.code.Stream.{stream_error, stream_writer};
 
 use crate::sink::{SinkFault, TextSink};
 use std::io::{self, Write};
 
-/// A sink that hands the bytes to a writer, by one `write` a call. An error of the writer, an interrupted write too,
-/// is a fault, and so is a write that takes none of at least one byte: nothing is tried again.
+/// A sink that hands the bytes to a writer, by one `write` a call.
+///
+/// An error of the writer, an interrupted write too, is a fault, and so is a write that takes none of at least one
+/// byte: nothing is tried again.
+///
+/// ```
+/// let mut sink = StreamSink::new(rt.stdout());
+/// document.serialize().print_to(&mut sink)?; // PrintError::Sink where the writer fails
+/// ```
 #[derive(Drop)]
 pub struct StreamSink<W> {
     writer: W,
@@ -14,9 +24,11 @@ pub struct StreamSink<W> {
 }
 
 impl<W: Write> StreamSink<W> {
-    ghost use Rattle.graphql_text.specs.code.Stream.{stream_error, stream_writer};
-
     /// A sink over this writer, which has counted no fault.
+    ///
+    /// ```
+    /// StreamSink::new(rt.stdout()).faults() // 0
+    /// ```
     pub fn new(writer: W) -> StreamSink<W>
         ensures writer { stream_writer result ≡ writer }
         ensures taken { ⟦<StreamSink<W> as TextSink>⟧.taken result ≡ W.contents writer }
@@ -30,7 +42,7 @@ impl<W: Write> StreamSink<W> {
         }
     }
 
-    /// The error that the writer answered last. `None` where it answered none, though a write may have taken no byte.
+    /// The error that the writer returned last. `None` where it returned none, though a write may have taken no byte.
     pub fn last_error(&self) -> Option<&io::Error>
         ensures { option_copied result ≡ stream_error self.now }
     {
@@ -51,7 +63,17 @@ impl<W: Write> TextSink for StreamSink<W> {
 
     ghost fault_count = { λ s. s.faults };
 
-    fn put(&mut self, bytes: &[u8]) -> Result<usize, SinkFault> {
+    /// As of any sink; besides, after an `Ok` the last error is what it was.
+    fn put(&mut self, bytes: &[u8]) -> Result<usize, SinkFault>
+        requires { CanFault self.old.faults }
+        ensures bound { IfOk result (λ n. n ≤ length bytes.now) }
+        ensures progress { IfOk result (λ n. 0 < length bytes.now → 0 < n) }
+        ensures bytes { WriteAppends (W.contents (stream_writer self.old))
+            (W.contents (stream_writer self.new)) result bytes.now }
+        ensures ok { OnOk result (self.new.faults ≡ self.old.faults) }
+        ensures err { OnErr result (self.new.faults ≡ self.old.faults + 1) }
+        ensures error { OnOk result (stream_error self.new ≡ stream_error self.old) }
+    {
         match self.writer.write(bytes) {
             Ok(n) if n > 0 || bytes.is_empty() => Ok(n),
             Ok(_) => {

@@ -6,7 +6,15 @@ ghost use Rattle.graphql_text.specs.code.Sinks.{CanFault};
 use crate::sink::{SinkFault, TextSink};
 use std::alloc::Global;
 
-/// A sink that keeps the bytes in memory. It takes all that it is given, or faults where memory for it was refused.
+/// A sink that keeps the bytes in memory.
+///
+/// It takes all that it is given, or faults where memory for it was refused.
+///
+/// ```
+/// let mut sink = VecSink::new(alloc);
+/// document.serialize().print_to(&mut sink)?;
+/// sink.bytes() // the text in UTF-8
+/// ```
 #[derive(Drop)]
 pub struct VecSink {
     bytes: Vec<u8>,
@@ -15,6 +23,10 @@ pub struct VecSink {
 
 impl VecSink {
     /// A sink that has taken nothing, and counted no fault. It takes no memory yet.
+    ///
+    /// ```
+    /// VecSink::new(alloc).bytes() // no bytes
+    /// ```
     pub fn new(alloc: Global) -> VecSink
         ensures taken { ⟦<VecSink as TextSink>⟧.taken result ≡ Some [] }
         ensures faults { ⟦<VecSink as TextSink>⟧.fault_count result ≡ 0 }

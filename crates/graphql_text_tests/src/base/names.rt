@@ -145,6 +145,10 @@ fn check_compact(rt: &impl Abort, name: &Name, text: &str, in_place: bool) {
     assert_eq!(rt; name.as_static_str(), None);
     let short = name.short_text().map(|short| short.as_str());
     assert_eq!(rt; short, in_place.then_some(text));
+    match name.short_text_or_str() {
+        Ok(short) => assert_eq!(rt; (short.as_str(), in_place), (text, true)),
+        Err(other) => assert_eq!(rt; (other, in_place), (text, false)),
+    }
 }
 
 /// A name of so many bytes, so that it ends at the last offset that there is.

@@ -35,6 +35,7 @@ fn empty(node: &mut Node<String>, alloc: Global) -> &'static str {
 }
 
 /// Of one owner no memory is asked.
+/// Allocations: 6.
 #[test]
 fn make_mut_changes_one_node_or_none(rt: HostRuntime) {
     let Ok(first) = placed(rt.alloc()) else {
@@ -53,6 +54,7 @@ fn make_mut_changes_one_node_or_none(rt: HostRuntime) {
     check_placed(&rt, &alone, "");
 }
 
+/// Allocations: 6.
 #[test]
 fn nodes_are_made_or_refused(rt: HostRuntime) {
     let alloc = rt.alloc();
@@ -86,6 +88,7 @@ fn check_placed_text(rt: &impl Abort, node: &NodeStr) {
     );
 }
 
+/// Allocations: 3.
 #[test]
 fn texts_are_placed_and_cloned_or_refused(rt: HostRuntime) {
     let Ok(text) = placed_text(rt.alloc()) else {
@@ -115,6 +118,7 @@ fn check_refused(rt: &impl Abort, made: Result<Name, NameError>, text: &str) {
     }
 }
 
+/// Allocations: 7.
 #[test]
 fn names_are_made_or_refused(rt: HostRuntime) {
     match Name::new(rt.alloc(), "abc") {
@@ -134,6 +138,7 @@ fn names_are_made_or_refused(rt: HostRuntime) {
     }
 }
 
+/// Allocations: 4.
 #[test]
 fn texts_of_names_are_shared_or_refused(rt: HostRuntime) {
     let alloc = rt.alloc();
@@ -170,6 +175,7 @@ fn check_in_place(rt: &impl Abort, alloc: Global, made: Result<Name, NameError>,
     assert_eq!(rt; copy.as_str(), text);
 }
 
+/// Allocations: 14.
 #[test]
 fn names_in_place_take_no_memory(rt: HostRuntime) {
     let alloc = rt.alloc();
@@ -198,6 +204,7 @@ fn check_placed_name(rt: &impl Abort, name: &Name) {
     assert!(rt; name.as_static_str().is_none());
 }
 
+/// Allocations: 2.
 #[test]
 fn names_are_cloned_or_refused(rt: HostRuntime) {
     let Ok(name) = placed_name(rt.alloc()) else {
@@ -213,6 +220,7 @@ fn names_are_cloned_or_refused(rt: HostRuntime) {
     }
 }
 
+/// Allocations: 2.
 #[test]
 fn errors_of_names_are_cloned_or_refused(rt: HostRuntime) {
     let Err(error) = Name::new(rt.alloc(), "1nvalid") else {

@@ -3,7 +3,7 @@
 use crate::checks::check_made;
 use graphql_base::name;
 use graphql_text::engine::PrintError;
-use graphql_text::ill_formed::{IllFormed, SideCondition};
+use graphql_text::ill_formed::{IllFormed, SideCondition, ill_formed_unless};
 use graphql_text::sink::SinkFault;
 
 #[test]
@@ -80,6 +80,11 @@ fn what_is_ill_formed(rt: HostRuntime) {
             around: None,
         };
         check_made(&rt, format!(in alloc; "{nameless}"), wanted);
+        assert!(rt; ill_formed_unless(true, condition, Some(&name)).is_none());
+        let found = ill_formed_unless(false, condition, Some(&name)).expect(&rt, "a flaw");
+        assert_eq!(rt; found.location(), None);
+        let named = format!(in alloc; "{wanted}: `A`").expect(&rt, "memory");
+        check_made(&rt, format!(in alloc; "{found}"), named.as_str());
     }
     let named = IllFormed {
         condition: SideCondition::AddsSomething,

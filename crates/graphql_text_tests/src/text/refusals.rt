@@ -4,6 +4,7 @@
 use graphql_text::sink::{TextSink, VecSink};
 use graphql_text::writers::Stack;
 
+/// Allocations: 2.
 #[test]
 fn vectors_and_stacks_have_room_or_are_refused(rt: HostRuntime) {
     let mut sink = VecSink::new(rt.alloc());

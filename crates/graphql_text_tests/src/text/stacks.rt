@@ -26,3 +26,17 @@ fn empty(rt: HostRuntime) {
     let mut stack: Stack<char> = Stack::reserve(None, 0).expect(&rt, "memory");
     assert_eq!(rt; stack.pop(), None, "no room");
 }
+
+/// What an entry takes: 64 KiB.
+#[derive(Clone, Copy, Drop)]
+struct Large {
+    bytes: [u8; 1 << 16],
+}
+
+/// Room for 1 GiB, of which no byte is touched. A stack many times as large would be refused, on a machine without such memory.
+#[test]
+fn no_more_room_than_is_asked_for(rt: HostRuntime) {
+    let mut stack: Stack<Large> = Stack::reserve(Some(rt.alloc()), 1 << 14).expect(&rt, "memory");
+    let first = stack.pop().and_then(|large| large.bytes.first().copied());
+    assert_eq!(rt; first, None);
+}

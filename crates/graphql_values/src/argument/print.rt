@@ -33,8 +33,8 @@ pub fn find_ill_formed_argument(
     None
 }
 
-/// How deep the groups of arguments stand in one another: one more than the value that nests most, and 0 without
-/// arguments. `None` if it is above `usize::MAX`.
+/// The nesting depth of the groups of arguments: one more than the value that nests most, and 0 without arguments.
+/// `None` if it is above `usize::MAX`.
 pub fn find_arguments_nesting(arguments: &[Node<Argument>]) -> Option<usize>
     ensures { IsCount result (arguments_nesting (argument_trees arguments.now)) }
 {

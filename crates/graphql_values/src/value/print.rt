@@ -99,7 +99,7 @@ pub enum ValueEntry<'a> {
     Fields(&'a [(Name, Node<Value>)], bool),
 }
 
-/// How many lists and objects that aren't empty stand in one another. `None` if it is above `usize::MAX`.
+/// The nesting depth of the lists and objects that aren't empty. `None` if it is above `usize::MAX`.
 #[cycle(nesting)]
 #[inline(always)]
 #[tactic(auto, using(crate::proofs::layout::ValueShapes::value_nesting_steps))]

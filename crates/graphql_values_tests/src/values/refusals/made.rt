@@ -8,6 +8,7 @@ use graphql_values::literal::{FloatValue, IntValue, LiteralError};
 use graphql_values::value;
 use graphql_values::value::Value;
 
+/// Allocations: 3.
 #[test]
 fn arguments_and_values_are_made_or_refused(rt: HostRuntime) {
     let alloc = rt.alloc();
@@ -24,6 +25,7 @@ fn arguments_and_values_are_made_or_refused(rt: HostRuntime) {
     }
 }
 
+/// Allocations: 31.
 #[test]
 fn values_of_parts_are_made_or_refused(rt: HostRuntime) {
     let alloc = rt.alloc();
@@ -42,6 +44,7 @@ const INT: &str = "-100000000000000000000000000002";
 
 const FLOAT: &str = "1.50000000000000000000000000002";
 
+/// Allocations: 9.
 #[test]
 fn a_literal_is_made_or_refused(rt: HostRuntime) {
     match IntValue::new(rt.alloc(), INT) {

@@ -30,6 +30,7 @@ fn check_calls<T: Clone + PartialEq + Display + Syntax + Drop>(
     }
 }
 
+/// Allocations: 16.
 #[test]
 fn a_value_is_printed_or_nothing_is(rt: HostRuntime) {
     let alloc = rt.alloc();
@@ -40,6 +41,7 @@ fn a_value_is_printed_or_nothing_is(rt: HostRuntime) {
     }
 }
 
+/// Allocations: 12.
 #[test]
 fn a_value_of_each_form_is_copied_or_refused(rt: HostRuntime) {
     for form in FORMS {
@@ -61,6 +63,7 @@ fn no_memory_is_asked_without_lists_and_arguments(rt: HostRuntime) {
     check_printed(&rt, &Directive::new(rt.alloc(), name!(a)), "@a");
 }
 
+/// Allocations: 15.
 #[test]
 fn directives_are_printed_or_nothing_is(rt: HostRuntime) {
     let alloc = rt.alloc();
@@ -70,6 +73,7 @@ fn directives_are_printed_or_nothing_is(rt: HostRuntime) {
     check_calls(&rt, alloc, directives(alloc), two, two);
 }
 
+/// Allocations: 15.
 #[test]
 fn an_input_value_definition_is_printed_or_nothing_is(rt: HostRuntime) {
     let alloc = rt.alloc();
@@ -78,12 +82,14 @@ fn an_input_value_definition_is_printed_or_nothing_is(rt: HostRuntime) {
     check_calls(&rt, alloc, input(alloc), flat, displayed);
 }
 
+/// Allocations: 18.
 #[test]
 fn a_definition_is_printed_or_nothing_is(rt: HostRuntime) {
     let text = "directive @d(a: [[I!]] = [[], 1.5])";
     check_calls(&rt, rt.alloc(), definition(rt.alloc()), text, text);
 }
 
+/// Allocations: 7.
 #[test]
 fn a_type_is_made_copied_and_displayed_or_refused(rt: HostRuntime) {
     if let Ok(ty) = ty!(in rt.alloc(); [[I]!]!) {
@@ -111,6 +117,7 @@ fn check_vector(rt: &impl Abort, printed: Result<(), PrintError>, sink: &VecSink
     }
 }
 
+/// Allocations: 12.
 #[test]
 fn a_vector_takes_a_beginning_or_all(rt: HostRuntime) {
     let Ok(value) = nested(rt.alloc()) else {

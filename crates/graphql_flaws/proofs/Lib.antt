@@ -1,0 +1,4 @@
+-- Lemmas on flaws that are found.
+
+-- of FoundFlaws: what is found of parts one after another
+pub mod PartsFound

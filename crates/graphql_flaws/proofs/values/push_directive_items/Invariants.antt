@@ -1,0 +1,10 @@
+use Rattle.std.proofs.Common.{◌≡◌, ◌++◌, take}
+use Rattle.graphql_values.specs.kinds.Directives.{directives_flaws}
+use Rattle.graphql_values.specs.trees.DirectiveTrees.{directive_node_trees}
+use Rattle.graphql_values.specs.trees.ValueTrees.{constness_of}
+use Rattle.graphql_flaws.specs.FoundFlaws.{found_by}
+use Rattle.graphql_flaws.proofs.values.push_directive_items.Given as goal
+
+abbrev pub invariant-loop-index : goal.invariant-loop-index
+invariant-loop-index l =
+    found_by l.search ≡ found_by l.fn.search ++ directives_flaws (constness_of l.constness) (directive_node_trees (take l.index l.nodes))

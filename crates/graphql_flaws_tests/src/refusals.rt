@@ -1,0 +1,25 @@
+//! What is found, or refused.
+use crate::notation::json_of;
+use graphql_ast::ast::Document;
+use graphql_ast::span::FileId;
+use graphql_ast_json::from_ast_json_str;
+use graphql_flaws::FindFlaws;
+
+const ROW: &str =
+    "(Document;'definitions':[(ScalarTypeExtension;'name':<A>),(ScalarTypeDefinition;'name':<B>,@)])";
+
+/// Either all flaws are found, or memory was refused.
+#[test]
+fn flaws_are_found_or_memory_is_refused(rt: HostRuntime) {
+    let alloc = rt.alloc();
+    if let Ok(json) = json_of(alloc, ROW) {
+        if let Ok(document) = from_ast_json_str::<Document>(alloc, json.as_str(), FileId::new(1)) {
+            if let Ok(flaws) = document.flaws(alloc) {
+                assert_eq!(rt; flaws.len(), 3);
+                for (flaw, steps) in flaws.iter().zip([2, 10, 12]) {
+                    assert_eq!(rt; flaw.path.steps.len(), steps);
+                }
+            }
+        }
+    }
+}

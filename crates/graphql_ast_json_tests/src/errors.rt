@@ -42,6 +42,7 @@ fn json_too_deep_and_memory_are_named(rt: HostRuntime) {
         ("", "{\"a\":", 128),
         ("[\"\\\"]\",", "[", 127),
         ("[\n\"]\",\n", "[", 127),
+        ("[\"\\\\\",", "[", 127),
     ];
     for (before, text, count) in rows {
         let deep = repeated(&rt, alloc, before, text, count);
@@ -72,6 +73,9 @@ fn a_text_that_is_no_json_is_named(rt: HostRuntime) {
         ("{\n  \"a\": 1,\n  b", "[", 128),
         ("", " ", 5000),
         ("", "", 0),
+        ("[", "[],", 200),
+        ("[", "{},", 200),
+        ("", "]", 200),
     ];
     for (before, text, count) in rows {
         let text = repeated(&rt, alloc, before, text, count);

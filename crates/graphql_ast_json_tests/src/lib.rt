@@ -6,6 +6,10 @@ mod calls;
 #[cfg(test)]
 mod each_kind;
 #[cfg(test)]
+mod direct;
+#[cfg(test)]
+mod either_form;
+#[cfg(test)]
 mod errors;
 #[cfg(test)]
 mod flawed_trees;
@@ -13,6 +17,8 @@ mod flawed_trees;
 mod flaws_found;
 #[cfg(test)]
 mod ill_formed_samples;
+#[cfg(test)]
+mod large;
 #[cfg(test)]
 mod offsets;
 #[cfg(test)]

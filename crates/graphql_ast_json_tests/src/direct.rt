@@ -1,0 +1,82 @@
+//! A kind of another crate that reads parsed JSON itself, and what a reading of a text calls of it.
+ghost use Rattle.std.specs.Prelude.{List, None, ⊤};
+ghost use Rattle.graphql_ast.specs.AstTrees.{document_tree};
+ghost use Rattle.graphql_ast.specs.Definitions.{DefinitionTree};
+ghost use Rattle.graphql_ast_json.specs.kinds.DocumentJson.{IsDocument};
+ghost use Rattle.graphql_ast_json.specs.lemmas.DocumentNodes.{document_laws};
+ghost use Rattle.graphql_ast_json.specs.lemmas.Leaves.{json_laws};
+
+use graphql_ast::ast::Document;
+use graphql_ast_json::{AstJson, AstJsonError, JsonNode, NodeReader, from_ast_json_str};
+use graphql_base::span::FileId;
+use serde_json::Value as Json;
+use std::alloc::{AllocError, Global};
+
+/// A document, which is read of JSON in either form. Of a value of `serde_json` by itself it answers that memory was refused.
+#[derive(Drop)]
+struct Direct {
+    document: Document,
+}
+
+impl AstJson for Direct {
+    ghost Tree = { List DefinitionTree };
+
+    ghost tree = { λ direct. document_tree direct.document };
+
+    ghost is_json_of = { IsDocument };
+
+    ghost location = { λ _. None };
+
+    ghost stands = { λ _ _. ⊤ };
+
+    ghost laws = { json_laws document_laws };
+
+    fn read_ast_json(_node: NodeReader<'_>) -> Result<Direct, AstJsonError> {
+        Err(AstJsonError::Memory)
+    }
+
+    fn read_json(node: JsonNode<'_, '_>) -> Result<Direct, AstJsonError> {
+        match Document::read_json(node) {
+            Ok(document) => Ok(Direct { document }),
+            Err(error) => Err(error),
+        }
+    }
+
+    fn reads_parsed() -> bool {
+        true
+    }
+
+    fn to_ast_json(&self, alloc: Global) -> Result<Json, AllocError> {
+        self.document.to_ast_json(alloc)
+    }
+}
+
+/// Texts of JSON, with what is told of each.
+const TEXTS: [(&str, &str); 3] = [
+    (
+        r#"{"kind":"Document","definitions":[
+        {"kind":"ScalarTypeDefinition","name":{"kind":"Name","value":"\u0041"}}]}"#,
+        "scalar A\n",
+    ),
+    (
+        r#"{"kind":"Document","definitions":[1]}"#,
+        "at `definitions[0]`: found a number where an object was wanted",
+    ),
+    (
+        r#"{"kind":"Document","definitions":[],"a":0}"#,
+        "at the root: found a member `a`, which no Document has",
+    ),
+];
+
+/// A text is read by `read_json` of the kind, as it is parsed.
+#[test]
+fn a_kind_that_reads_parsed_json_is_read_by_itself(rt: HostRuntime) {
+    let alloc = rt.alloc();
+    for (text, wanted) in TEXTS {
+        let told = match from_ast_json_str::<Direct>(alloc, text, FileId::new(1)) {
+            Ok(direct) => format!(in alloc; "{}", direct.document),
+            Err(error) => format!(in alloc; "{error}"),
+        };
+        assert_eq!(&rt; told.expect(&rt, "memory").as_str(), wanted);
+    }
+}

@@ -14,7 +14,7 @@ pub enum Rewritten {
 }
 
 /// So many fields `a` in one another.
-fn fields(alloc: Global, levels: u32) -> Result<Selection, AllocError> {
+pub fn fields(alloc: Global, levels: u32) -> Result<Selection, AllocError> {
     let mut selection = Selection::field(alloc, Field::new(alloc, name!(a)))?;
     for _ in 1..levels {
         let mut field = Field::new(alloc, name!(a));
@@ -25,7 +25,7 @@ fn fields(alloc: Global, levels: u32) -> Result<Selection, AllocError> {
 }
 
 /// So many lists in one another, around a variable.
-fn lists(alloc: Global, levels: u32) -> Result<Value, AllocError> {
+pub fn lists(alloc: Global, levels: u32) -> Result<Value, AllocError> {
     let mut value = Value::Variable(name!(a));
     for _ in 0..levels {
         let node = Node::new(alloc, value)?;

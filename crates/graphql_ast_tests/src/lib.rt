@@ -6,6 +6,8 @@ mod calls;
 #[cfg(test)]
 mod checks;
 #[cfg(test)]
+mod deep;
+#[cfg(test)]
 mod documents;
 #[cfg(test)]
 mod each_kind;
@@ -20,6 +22,8 @@ mod lines_and_columns;
 #[cfg(test)]
 mod look_ups;
 #[cfg(test)]
+mod passed_on;
+#[cfg(test)]
 mod prints;
 #[cfg(test)]
 mod queries;
@@ -27,3 +31,9 @@ mod queries;
 mod refusals;
 #[cfg(test)]
 mod samples;
+#[cfg(test)]
+mod sinks;
+#[cfg(test)]
+mod worked;
+#[cfg(test)]
+mod worked_types;

@@ -1,4 +1,5 @@
 //! The calls that each kind that is printed has, over a worked tree of each: clones, comparisons, hashes and prints.
+use crate::kinds::{self, EachKind, document_line};
 use graphql_ast::ast::{Document, Serialize, Value};
 use graphql_ast::serialize::{PrintError, Syntax};
 use graphql_ast::sink::{StreamSink, TextSink, VecSink};
@@ -8,24 +9,8 @@ use std::fmt::{self, Display, Write};
 use std::hash::{DefaultHasher, Hash, Hasher};
 use std::io::{self, Cursor};
 use std::process::Abort;
-use worked_trees::definitions::{VARIANTS, definition, document};
-use worked_trees::executable::{
-    field, field_selection, fragment_definition, fragment_spread, inline_fragment,
-    inline_selection, operation_definition, spread_selection, variable_definition,
-};
+use worked_trees::definitions::document;
 use worked_trees::refused::Refused;
-use worked_trees::type_extensions::{
-    enum_type_extension, input_object_type_extension, interface_type_extension,
-    object_type_extension, scalar_type_extension, schema_extension, union_type_extension,
-};
-use worked_trees::types::{
-    enum_type_definition, enum_value_definition, field_definition, input_object_type_definition,
-    interface_type_definition, object_type_definition, scalar_type_definition, schema_definition,
-    union_type_definition,
-};
-use worked_trees::values::{
-    directive, directive_definition, directive_list, input_value_definition, value,
-};
 
 fn hash<T: Hash>(tree: &T) -> u64 {
     let mut hasher = DefaultHasher::default();
@@ -166,124 +151,39 @@ fn check_tree<T: Clone + PartialEq + Hash + Display + Syntax + Drop>(
     Some(copy)
 }
 
-/// The same of a tree that is made here, or memory for it is refused.
-fn check<T: Clone + PartialEq + Hash + Display + Syntax + Drop>(
-    rt: &impl Abort,
+/// The calls on each tree that comes, of which so many were refused memory.
+#[derive(Drop)]
+pub(crate) struct Calls<'a, R: Abort> {
+    rt: &'a R,
     alloc: Global,
-    refused: &mut Refused,
-    made: Result<T, AllocError>,
-    line: &str,
-) {
-    if let Some(tree) = refused.made(made) {
-        check_tree(rt, alloc, refused, &tree, line);
+    pub(crate) refused: Refused,
+}
+
+impl<R: Abort> Calls<'_, R> {
+    pub(crate) fn new(rt: &R, alloc: Global) -> Calls<'_, R> {
+        Calls {
+            rt,
+            alloc,
+            refused: Refused::none(),
+        }
     }
 }
 
-pub(crate) const VALUE: &str =
-    "[null, A, $v, \"s\", 1.50000000000000000000000000000002, -7, true, [1], {a: 1}]";
-
-pub(crate) fn check_values(rt: &impl Abort, alloc: Global, refused: &mut Refused) {
-    check(rt, alloc, refused, value(alloc), VALUE);
-    check(rt, alloc, refused, directive(alloc), "@d(x: 1)");
-    check(rt, alloc, refused, directive_list(alloc), " @d(x: 1)");
-    let wanted = "\"D\" i: [T!] = [1] @d(x: 1)";
-    check(rt, alloc, refused, input_value_definition(alloc), wanted);
-    let made = directive_definition(alloc);
-    check(rt, alloc, refused, made, DEFINITIONS[2]);
-}
-
-const SPREAD: &str = "...F @d(x: 1)";
-
-const INLINE: &str = "... on T @d(x: 1) { ...F @d(x: 1) }";
-
-const FIELD: &str = "b: a(x: 1) @d(x: 1) { ... on T @d(x: 1) { ...F @d(x: 1) } }";
-
-pub(crate) fn check_executable(rt: &impl Abort, alloc: Global, refused: &mut Refused) {
-    let wanted = "\"D\" $v: [T!] = [1] @d(x: 1)";
-    check(rt, alloc, refused, variable_definition(alloc), wanted);
-    check(rt, alloc, refused, fragment_spread(alloc), SPREAD);
-    check(rt, alloc, refused, spread_selection(alloc), SPREAD);
-    check(rt, alloc, refused, inline_fragment(alloc), INLINE);
-    check(rt, alloc, refused, inline_selection(alloc), INLINE);
-    check(rt, alloc, refused, field(alloc), FIELD);
-    check(rt, alloc, refused, field_selection(alloc), FIELD);
-    let made = operation_definition(alloc);
-    check(rt, alloc, refused, made, DEFINITIONS[0]);
-    let made = fragment_definition(alloc);
-    check(rt, alloc, refused, made, DEFINITIONS[1]);
-}
-
-pub(crate) fn check_types(rt: &impl Abort, alloc: Global, refused: &mut Refused) {
-    let wanted = "\"D\" f(\"D\" i: [T!] = [1] @d(x: 1)): [T!] @d(x: 1)";
-    check(rt, alloc, refused, field_definition(alloc), wanted);
-    let wanted = "\"D\" V @d(x: 1)";
-    check(rt, alloc, refused, enum_value_definition(alloc), wanted);
-    check(rt, alloc, refused, schema_definition(alloc), DEFINITIONS[3]);
-    let made = scalar_type_definition(alloc);
-    check(rt, alloc, refused, made, DEFINITIONS[4]);
-    let made = object_type_definition(alloc);
-    check(rt, alloc, refused, made, DEFINITIONS[5]);
-    let made = interface_type_definition(alloc);
-    check(rt, alloc, refused, made, DEFINITIONS[6]);
-    let made = union_type_definition(alloc);
-    check(rt, alloc, refused, made, DEFINITIONS[7]);
-    let made = enum_type_definition(alloc);
-    check(rt, alloc, refused, made, DEFINITIONS[8]);
-    let input = input_object_type_definition(alloc);
-    check(rt, alloc, refused, input, DEFINITIONS[9]);
-}
-
-pub(crate) fn check_type_extensions(rt: &impl Abort, alloc: Global, refused: &mut Refused) {
-    check(rt, alloc, refused, schema_extension(alloc), DEFINITIONS[10]);
-    let made = scalar_type_extension(alloc);
-    check(rt, alloc, refused, made, DEFINITIONS[11]);
-    let made = object_type_extension(alloc);
-    check(rt, alloc, refused, made, DEFINITIONS[12]);
-    let interface = interface_type_extension(alloc);
-    check(rt, alloc, refused, interface, DEFINITIONS[13]);
-    let made = union_type_extension(alloc);
-    check(rt, alloc, refused, made, DEFINITIONS[14]);
-    let made = enum_type_extension(alloc);
-    check(rt, alloc, refused, made, DEFINITIONS[15]);
-    let input = input_object_type_extension(alloc);
-    check(rt, alloc, refused, input, DEFINITIONS[16]);
-}
-
-/// The text on one line of the definition of each variant.
-pub(crate) const DEFINITIONS: [&str; VARIANTS] = [
-    "\"D\" query N(\"D\" $v: [T!] = [1] @d(x: 1)) @d(x: 1) \
-        { b: a(x: 1) @d(x: 1) { ... on T @d(x: 1) { ...F @d(x: 1) } } }",
-    "\"D\" fragment F on T @d(x: 1) { ...F @d(x: 1) }",
-    "\"D\" directive @d(\"D\" i: [T!] = [1] @d(x: 1)) repeatable on FIELD | QUERY",
-    "\"D\" schema @d(x: 1) { query: Q mutation: M }",
-    "\"D\" scalar N @d(x: 1)",
-    "\"D\" type N implements A & B @d(x: 1) \
-        { \"D\" f(\"D\" i: [T!] = [1] @d(x: 1)): [T!] @d(x: 1) }",
-    "\"D\" interface N implements A & B @d(x: 1) \
-        { \"D\" f(\"D\" i: [T!] = [1] @d(x: 1)): [T!] @d(x: 1) }",
-    "\"D\" union N @d(x: 1) = A | B",
-    "\"D\" enum N @d(x: 1) { \"D\" V @d(x: 1) }",
-    "\"D\" input N @d(x: 1) { \"D\" i: [T!] = [1] @d(x: 1) }",
-    "extend schema @d(x: 1) { subscription: S }",
-    "extend scalar N @d(x: 1)",
-    "extend type N implements A & B @d(x: 1) \
-        { \"D\" f(\"D\" i: [T!] = [1] @d(x: 1)): [T!] @d(x: 1) }",
-    "extend interface N implements A & B @d(x: 1) \
-        { \"D\" f(\"D\" i: [T!] = [1] @d(x: 1)): [T!] @d(x: 1) }",
-    "extend union N @d(x: 1) = A | B",
-    "extend enum N @d(x: 1) { \"D\" V @d(x: 1) }",
-    "extend input N @d(x: 1) { \"D\" i: [T!] = [1] @d(x: 1) }",
-];
-
-pub(crate) fn check_definitions(rt: &impl Abort, alloc: Global, refused: &mut Refused) {
-    for (variant, line) in DEFINITIONS.iter().enumerate() {
-        check(rt, alloc, refused, definition(alloc, variant), line);
+impl<R: Abort> EachKind for Calls<'_, R> {
+    fn take<T: Clone + PartialEq + Hash + Display + Syntax + Drop>(
+        &mut self,
+        made: Result<T, AllocError>,
+        line: &str,
+    ) {
+        if let Some(tree) = self.refused.made(made) {
+            check_tree(self.rt, self.alloc, &mut self.refused, &tree, line);
+        }
     }
 }
 
 /// The document of all definitions, whose source is kept.
 pub(crate) fn check_document(rt: &impl Abort, alloc: Global, refused: &mut Refused) {
-    let Some(line) = refused.made(DEFINITIONS.join(alloc, " ")) else {
+    let Some(line) = refused.made(document_line(alloc)) else {
         return;
     };
     let Some(document) = refused.made(document(alloc)) else {
@@ -304,14 +204,15 @@ fn check_sources(rt: &impl Abort, document: &Document, copy: &Document) {
 /// Memory is ample, so each call has to be whole.
 #[test]
 fn calls_of_each_kind_are_whole(rt: HostRuntime) {
-    let mut refused = Refused::none();
-    check_values(&rt, rt.alloc(), &mut refused);
-    check_executable(&rt, rt.alloc(), &mut refused);
-    check_types(&rt, rt.alloc(), &mut refused);
-    check_type_extensions(&rt, rt.alloc(), &mut refused);
-    check_definitions(&rt, rt.alloc(), &mut refused);
-    check_document(&rt, rt.alloc(), &mut refused);
-    assert_eq!(rt; refused.calls, 0);
+    let alloc = rt.alloc();
+    let mut calls = Calls::new(&rt, alloc);
+    kinds::values(alloc, &mut calls);
+    kinds::executable(alloc, &mut calls);
+    kinds::types(alloc, &mut calls);
+    kinds::type_extensions(alloc, &mut calls);
+    kinds::definitions(alloc, &mut calls);
+    check_document(&rt, alloc, &mut calls.refused);
+    assert_eq!(&rt; calls.refused.calls, 0);
 }
 
 /// A name in the program, in a block of its own and in place is the same enum value.

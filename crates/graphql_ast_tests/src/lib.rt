@@ -18,6 +18,8 @@ mod hostile;
 #[cfg(test)]
 mod ill_formed;
 #[cfg(test)]
+mod kinds;
+#[cfg(test)]
 mod lines_and_columns;
 #[cfg(test)]
 mod look_ups;
@@ -33,7 +35,3 @@ mod refusals;
 mod samples;
 #[cfg(test)]
 mod sinks;
-#[cfg(test)]
-mod worked;
-#[cfg(test)]
-mod worked_types;

@@ -2,16 +2,19 @@
 //! were, and that nothing was tried again.
 ghost use Rattle.std.specs.Prelude.{◌≡◌, ◌<◌, Some};
 
-use crate::worked::{self, Texts};
-use crate::worked_types;
-use graphql_ast::ast::{Selection, Value};
+use crate::kinds::{self, EachKind, document_line};
+use graphql_ast::ast::{Serialize, Value};
 use graphql_ast::name::Name;
 use graphql_ast::node::Node;
-use graphql_ast::serialize::{PrintError, Serialize, Syntax};
+use graphql_ast::serialize::{PrintError, Syntax};
 use graphql_ast::sink::{SinkFault, StreamSink, TextSink};
+use graphql_ast::value;
 use std::alloc::{AllocError, Global};
+use std::fmt::Display;
+use std::hash::Hash;
 use std::io::{self, ErrorKind, Write};
 use std::process::Abort;
+use worked_trees::definitions::document;
 
 /// Takes so many bytes of a call at most, and so many in all. Then it faults.
 #[derive(Drop)]
@@ -144,9 +147,8 @@ const REFUSALS: [Option<ErrorKind>; 3] = [
     None,
 ];
 
-/// One byte a call and all of a call, with room for each number of bytes, or each so many; and each write of one byte refused, and
-/// the first of all.
-fn check_layout<T: Syntax>(
+/// One byte a call and all of a call, with room for each number of bytes, or for each so many.
+fn check_rooms<T: Syntax>(
     rt: &impl Abort,
     alloc: Global,
     print: Serialize<'_, T>,
@@ -159,166 +161,95 @@ fn check_layout<T: Syntax>(
         check_room(rt, alloc, print, wanted, (1, room));
         check_room(rt, alloc, print, wanted, (usize::MAX, room));
     }
-    for error in REFUSALS {
-        for refused in (0..wanted.len()).step_by(step) {
-            let writer = Refusing {
-                bytes: Vec::new(alloc),
-                most: 1,
-                writes: 0,
-                refused,
-                error,
-            };
-            check_refused(rt, print, wanted, writer, refused);
-        }
+}
+
+/// Of writes of one byte the first, one in the middle and the last refused; and the first of all bytes at once.
+fn check_writers<T: Syntax>(
+    rt: &impl Abort,
+    alloc: Global,
+    print: Serialize<'_, T>,
+    wanted: &str,
+    error: Option<ErrorKind>,
+) {
+    let last = wanted.len().saturating_sub(1);
+    for (most, refused) in [(1, 0), (1, last / 2), (1, last), (usize::MAX, 0)] {
         let writer = Refusing {
             bytes: Vec::new(alloc),
-            most: usize::MAX,
+            most,
             writes: 0,
-            refused: 0,
+            refused,
             error,
         };
-        check_refused(rt, print, wanted, writer, 0);
+        check_refused(rt, print, wanted, writer, refused);
     }
 }
 
-/// A tree that was made, in both layouts.
-fn check<T: Syntax + Drop>(
+fn check_layout<T: Syntax>(
     rt: &impl Abort,
     alloc: Global,
-    made: Result<T, AllocError>,
-    texts: Texts,
-) {
-    let tree = made.expect(rt, "memory");
-    let print = Serialize::new(&tree);
-    check_layout(rt, alloc, print.no_indent(), texts.0, 1);
-    check_layout(rt, alloc, print, texts.1, 1);
+    print: Serialize<'_, T>,
+    wanted: &str,
+    step: usize,
+)
+    requires { 0 < step }
+{
+    check_rooms(rt, alloc, print, wanted, step);
+    for error in REFUSALS {
+        check_writers(rt, alloc, print, wanted, error);
+    }
+}
+
+/// A tree in both layouts: that on one line is told, and the default one is that of `to_text`.
+fn check_layouts<T: Syntax>(rt: &impl Abort, alloc: Global, tree: &T, line: &str) {
+    let print = Serialize::new(tree);
+    check_layout(rt, alloc, print.no_indent(), line, 1);
+    let lines = print.to_text(alloc).expect(rt, "memory");
+    check_layout(rt, alloc, print, lines.as_str(), 1);
+}
+
+/// Into each sink, of each tree that comes.
+#[derive(Drop)]
+struct Sinks<'a, R: Abort> {
+    rt: &'a R,
+    alloc: Global,
+}
+
+impl<R: Abort> EachKind for Sinks<'_, R> {
+    fn take<T: Clone + PartialEq + Hash + Display + Syntax + Drop>(
+        &mut self,
+        made: Result<T, AllocError>,
+        line: &str,
+    ) {
+        let tree = made.expect(self.rt, "memory");
+        check_layouts(self.rt, self.alloc, &tree, line);
+    }
 }
 
 #[test]
-fn of_values_and_directives(rt: HostRuntime) {
+fn of_each_kind(rt: HostRuntime) {
     let alloc = rt.alloc();
-    check(&rt, alloc, worked::value(alloc), worked::VALUE);
-    check(&rt, alloc, worked::directive(alloc), worked::DIRECTIVE);
-    check(
-        &rt,
-        alloc,
-        worked::directive_list(alloc),
-        worked::DIRECTIVE_LIST,
-    );
-    check(&rt, alloc, worked::input_value(alloc), worked::INPUT_VALUE);
-    check(
-        &rt,
-        alloc,
-        worked::directive_definition(alloc),
-        worked::DIRECTIVE_DEFINITION,
+    let mut sinks = Sinks { rt: &rt, alloc };
+    kinds::values(alloc, &mut sinks);
+    kinds::executable(alloc, &mut sinks);
+    kinds::types(alloc, &mut sinks);
+    kinds::type_extensions(alloc, &mut sinks);
+    kinds::definitions(alloc, &mut sinks);
+    sinks.take(
+        value!(in alloc; [1, EXAMPLE, true, null]),
+        "[1, EXAMPLE, true, null]",
     );
 }
 
+/// Of a document of all definitions, with room for each seventh number of bytes.
 #[test]
-fn of_operations_and_documents(rt: HostRuntime) {
+fn of_a_document(rt: HostRuntime) {
     let alloc = rt.alloc();
-    check(&rt, alloc, worked::variable(alloc), worked::VARIABLE);
-    check(&rt, alloc, worked::spread(alloc), worked::SPREAD);
-    check(
-        &rt,
-        alloc,
-        worked::inline_fragment(alloc),
-        worked::INLINE_FRAGMENT,
-    );
-    let field = worked::field(alloc).expect(&rt, "memory");
-    check(&rt, alloc, Selection::field(alloc, field), worked::FIELD);
-    check(&rt, alloc, worked::field(alloc), worked::FIELD);
-    assert_eq!(&rt; worked::OPERATION.1.len(), 105);
-    check(&rt, alloc, worked::operation(alloc), worked::OPERATION);
-    check(&rt, alloc, worked::fragment(alloc), worked::FRAGMENT);
-    check(&rt, alloc, worked::definition(alloc), worked::OBJECT);
-    check(&rt, alloc, worked::worked_document(alloc), worked::DOCUMENT);
-}
-
-#[test]
-fn of_type_definitions(rt: HostRuntime) {
-    let alloc = rt.alloc();
-    check(
-        &rt,
-        alloc,
-        worked::field_definition(alloc),
-        worked::FIELD_DEFINITION,
-    );
-    check(&rt, alloc, worked::enum_value(alloc), worked::ENUM_VALUE);
-    check(&rt, alloc, worked::object(alloc), worked::OBJECT);
-    check(
-        &rt,
-        alloc,
-        worked_types::schema(alloc),
-        worked_types::SCHEMA,
-    );
-    check(
-        &rt,
-        alloc,
-        worked_types::scalar(alloc),
-        worked_types::SCALAR,
-    );
-    check(
-        &rt,
-        alloc,
-        worked_types::interface(alloc),
-        worked_types::INTERFACE,
-    );
-    check(&rt, alloc, worked_types::union(alloc), worked_types::UNION);
-    check(
-        &rt,
-        alloc,
-        worked_types::enumeration(alloc),
-        worked_types::ENUM,
-    );
-    check(&rt, alloc, worked_types::input(alloc), worked_types::INPUT);
-}
-
-#[test]
-fn of_extensions(rt: HostRuntime) {
-    let alloc = rt.alloc();
-    check(
-        &rt,
-        alloc,
-        worked_types::schema_extension(alloc),
-        worked_types::SCHEMA_EXTENSION,
-    );
-    check(
-        &rt,
-        alloc,
-        worked_types::scalar_extension(alloc),
-        worked_types::SCALAR_EXTENSION,
-    );
-    check(
-        &rt,
-        alloc,
-        worked_types::object_extension(alloc),
-        worked_types::OBJECT_EXTENSION,
-    );
-    check(
-        &rt,
-        alloc,
-        worked_types::interface_extension(alloc),
-        worked_types::INTERFACE_EXTENSION,
-    );
-    check(
-        &rt,
-        alloc,
-        worked_types::union_extension(alloc),
-        worked_types::UNION_EXTENSION,
-    );
-    check(
-        &rt,
-        alloc,
-        worked_types::enum_extension(alloc),
-        worked_types::ENUM_EXTENSION,
-    );
-    check(
-        &rt,
-        alloc,
-        worked_types::input_extension(alloc),
-        worked_types::INPUT_EXTENSION,
-    );
+    let document = document(alloc).expect(&rt, "memory");
+    let line = document_line(alloc).expect(&rt, "memory");
+    let print = Serialize::new(&document);
+    check_layout(&rt, alloc, print.no_indent(), line.as_str(), 7);
+    let lines = print.to_text(alloc).expect(&rt, "memory");
+    check_layout(&rt, alloc, print, lines.as_str(), 7);
 }
 
 /// The list of an enum value of so many letters and of itself, and its text on one line.

@@ -135,9 +135,9 @@ fn read_back<T: AstJson>(alloc: Global, tree: &T) -> Result<T> {
 fn act<T: Syntax + AstJson + Clone + PartialEq + Hash + Drop>(
     alloc: Global,
     action: Action,
-    trees: (T, T),
+    made: (Result<T, AllocError>, Result<T, AllocError>),
 ) -> Result<usize> {
-    let (tree, other) = trees;
+    let (tree, other) = (made.0?, made.1?);
     let mut told = 0;
     let holds = match action {
         Action::Print => {
@@ -176,7 +176,7 @@ fn act<T: Syntax + AstJson + Clone + PartialEq + Hash + Drop>(
 /// Does it with two trees that this makes.
 macro_rules! act_on {
     ($make:ident, $alloc:ident, $levels:ident, $action:ident) => {
-        act($alloc, $action, ($make($alloc, $levels)?, $make($alloc, $levels)?))
+        act($alloc, $action, ($make($alloc, $levels), $make($alloc, $levels)))
     };
 }
 

@@ -1,39 +1,38 @@
 //! Calls over a worked tree of each kind: each is whole, or the one that was refused memory.
-use crate::each_kind::{
-    check_document, check_executable, check_type_extensions, check_types, check_values,
-};
+use crate::each_kind::{Calls, check_document};
+use crate::kinds;
 use worked_trees::refused::Refused;
 
 /// Allocations: 125.
 #[test]
 fn values_and_directives(rt: HostRuntime) {
-    let mut refused = Refused::none();
-    check_values(&rt, rt.alloc(), &mut refused);
-    assert!(rt; refused.calls <= 1);
+    let mut calls = Calls::new(&rt, rt.alloc());
+    kinds::values(rt.alloc(), &mut calls);
+    assert!(&rt; calls.refused.calls <= 1);
 }
 
 /// Allocations: 301.
 #[test]
 fn operations_and_fragments(rt: HostRuntime) {
-    let mut refused = Refused::none();
-    check_executable(&rt, rt.alloc(), &mut refused);
-    assert!(rt; refused.calls <= 1);
+    let mut calls = Calls::new(&rt, rt.alloc());
+    kinds::executable(rt.alloc(), &mut calls);
+    assert!(&rt; calls.refused.calls <= 1);
 }
 
 /// Allocations: 283.
 #[test]
 fn types(rt: HostRuntime) {
-    let mut refused = Refused::none();
-    check_types(&rt, rt.alloc(), &mut refused);
-    assert!(rt; refused.calls <= 1);
+    let mut calls = Calls::new(&rt, rt.alloc());
+    kinds::types(rt.alloc(), &mut calls);
+    assert!(&rt; calls.refused.calls <= 1);
 }
 
 /// Allocations: 210.
 #[test]
 fn type_extensions(rt: HostRuntime) {
-    let mut refused = Refused::none();
-    check_type_extensions(&rt, rt.alloc(), &mut refused);
-    assert!(rt; refused.calls <= 1);
+    let mut calls = Calls::new(&rt, rt.alloc());
+    kinds::type_extensions(rt.alloc(), &mut calls);
+    assert!(&rt; calls.refused.calls <= 1);
 }
 
 /// Allocations: 382.

@@ -6,68 +6,34 @@ use graphql_ast::ast::{
     Argument, Directive, DirectiveDefinition, DirectiveList, DirectiveLocation, Document,
     EnumTypeDefinition, EnumTypeExtension, EnumValueDefinition, FieldDefinition,
     InputObjectTypeDefinition, InputValueDefinition, InterfaceTypeDefinition, ObjectTypeDefinition,
-    ObjectTypeExtension, OperationType, ScalarTypeDefinition, SchemaDefinition, Type,
-    UnionTypeDefinition, Value,
+    ObjectTypeExtension, OperationType, ScalarTypeDefinition, SchemaDefinition,
+    UnionTypeDefinition,
 };
 use graphql_ast::node::NodeStr;
-use graphql_ast::{Name, Node, name, ty, value};
+use graphql_ast::{Node, name, ty, value};
 use std::alloc::{AllocError, Global};
 
-/// One directive with one argument.
-fn directive(
-    alloc: Global,
-    name: Name,
-    argument: Name,
-    value: Value,
-) -> Result<DirectiveList, AllocError> {
-    let argument = Argument::new_node(alloc, argument, Node::new(alloc, value)?)?;
-    let arguments = vec![in alloc; argument]?;
-    let directive = Directive { name, arguments };
-    Ok(DirectiveList(vec![in alloc; Node::new(alloc, directive)?]?))
-}
-
-/// An argument or an input field.
-fn input(
-    alloc: Global,
-    name: Name,
-    ty: Type,
-    default_value: Option<Value>,
-) -> Result<Node<InputValueDefinition>, AllocError> {
-    let mut input = InputValueDefinition::new(alloc, name, Node::new(alloc, ty)?);
-    if let Some(value) = default_value {
-        input.default_value = Some(Node::new(alloc, value)?);
-    }
-    Node::new(alloc, input)
-}
-
-/// A field that is a name and a type alone.
-fn field(alloc: Global, name: Name, ty: Type) -> Result<Node<FieldDefinition>, AllocError> {
-    Node::new(alloc, FieldDefinition::new(alloc, name, ty))
-}
-
-/// A value of an enum that is a name alone.
-fn enum_value(alloc: Global, name: Name) -> Result<Node<EnumValueDefinition>, AllocError> {
-    Node::new(alloc, EnumValueDefinition::new(alloc, name))
-}
-
 fn schema(alloc: Global) -> Result<SchemaDefinition, AllocError> {
-    let url = value!(in alloc; "https://specs.example/shop")?;
+    let url = Node::new(alloc, value!(in alloc; "https://specs.example/shop")?)?;
+    let mut link = Directive::new(alloc, name!(link));
+    link.arguments = vec![in alloc; Argument::new_node(alloc, name!(url), url)?]?;
     let query = Node::new(alloc, (OperationType::Query, name!(Query)))?;
     Ok(SchemaDefinition {
         description: Some(NodeStr::new_str(alloc, "The shop")?),
-        directives: directive(alloc, name!(link), name!(url), url)?,
+        directives: DirectiveList::of(alloc, link)?,
         root_operations: vec![in alloc; query]?,
     })
 }
 
 fn auth(alloc: Global) -> Result<DirectiveDefinition, AllocError> {
-    let (user, none) = (value!(in alloc; USER)?, value!(in alloc; [])?);
+    let mut role = InputValueDefinition::new(alloc, name!(role), Node::new(alloc, ty!(Role!))?);
+    role.default_value = Some(Node::new(alloc, value!(in alloc; USER)?)?);
+    let strings = Node::new(alloc, ty!(in alloc; [String!])?)?;
+    let mut scopes = InputValueDefinition::new(alloc, name!(scopes), strings);
+    scopes.default_value = Some(Node::new(alloc, value!(in alloc; [])?)?);
     Ok(DirectiveDefinition {
         description: Some(NodeStr::new_str(alloc, "Who may ask")?),
-        arguments: vec![in alloc;
-            input(alloc, name!(role), ty!(Role!), Some(user))?,
-            input(alloc, name!(scopes), ty!(in alloc; [String!])?, Some(none))?,
-        ]?,
+        arguments: vec![in alloc; Node::new(alloc, role)?, Node::new(alloc, scopes)?]?,
         repeatable: true,
         locations: vec![in alloc;
             DirectiveLocation::Object,
@@ -79,9 +45,12 @@ fn auth(alloc: Global) -> Result<DirectiveDefinition, AllocError> {
 
 fn date_time(alloc: Global) -> Result<ScalarTypeDefinition, AllocError> {
     let url = value!(in alloc; "https://scalars.example/date-time")?;
+    let url = Node::new(alloc, url)?;
+    let mut specified_by = Directive::new(alloc, name!(specifiedBy));
+    specified_by.arguments = vec![in alloc; Argument::new_node(alloc, name!(url), url)?]?;
     Ok(ScalarTypeDefinition {
         description: Some(NodeStr::new_str(alloc, "An RFC 3339 time")?),
-        directives: directive(alloc, name!(specifiedBy), name!(url), url)?,
+        directives: DirectiveList::of(alloc, specified_by)?,
         ..ScalarTypeDefinition::new(alloc, name!(DateTime))
     })
 }
@@ -98,50 +67,64 @@ fn node(alloc: Global) -> Result<InterfaceTypeDefinition, AllocError> {
 
 /// `price(currency: Currency = EUR): Float!`
 fn price(alloc: Global) -> Result<FieldDefinition, AllocError> {
-    let euro = value!(in alloc; EUR)?;
+    let ty = Node::new(alloc, ty!(Currency))?;
+    let mut currency = InputValueDefinition::new(alloc, name!(currency), ty);
+    currency.default_value = Some(Node::new(alloc, value!(in alloc; EUR)?)?);
     let mut price = FieldDefinition::new(alloc, name!(price), ty!(Float!));
-    price.arguments = vec![in alloc; input(alloc, name!(currency), ty!(Currency), Some(euro))?]?;
+    price.arguments = vec![in alloc; Node::new(alloc, currency)?]?;
     Ok(price)
 }
 
 fn priced(alloc: Global) -> Result<InterfaceTypeDefinition, AllocError> {
-    let price = Node::new(alloc, price(alloc)?)?;
+    let id = FieldDefinition::new(alloc, name!(id), ty!(ID!));
     Ok(InterfaceTypeDefinition {
         implements_interfaces: vec![in alloc; name!(Node)]?,
-        fields: vec![in alloc; field(alloc, name!(id), ty!(ID!))?, price]?,
+        fields: vec![in alloc; Node::new(alloc, id)?, Node::new(alloc, price(alloc)?)?]?,
         ..InterfaceTypeDefinition::new(alloc, name!(Priced))
     })
 }
 
 /// `reviews(first: Int = 10, after: ID): [Review!]!`
 fn reviews(alloc: Global) -> Result<FieldDefinition, AllocError> {
-    let ten = value!(in alloc; 10)?;
+    let mut first = InputValueDefinition::new(alloc, name!(first), Node::new(alloc, ty!(Int))?);
+    first.default_value = Some(Node::new(alloc, value!(in alloc; 10)?)?);
+    let after = InputValueDefinition::new(alloc, name!(after), Node::new(alloc, ty!(ID))?);
     let mut reviews = FieldDefinition::new(alloc, name!(reviews), ty!(in alloc; [Review!]!)?);
-    reviews.arguments = vec![in alloc;
-        input(alloc, name!(first), ty!(Int), Some(ten))?,
-        input(alloc, name!(after), ty!(ID), None)?,
-    ]?;
+    reviews.arguments = vec![in alloc; Node::new(alloc, first)?, Node::new(alloc, after)?]?;
     Ok(reviews)
 }
 
+/// `oldName: String @deprecated(reason: "use `name`")`
+fn old_name(alloc: Global) -> Result<FieldDefinition, AllocError> {
+    let reason = Node::new(alloc, value!(in alloc; "use `name`")?)?;
+    let mut deprecated = Directive::new(alloc, name!(deprecated));
+    deprecated.arguments = vec![in alloc; Argument::new_node(alloc, name!(reason), reason)?]?;
+    let mut old_name = FieldDefinition::new(alloc, name!(oldName), ty!(String));
+    old_name.directives = DirectiveList::of(alloc, deprecated)?;
+    Ok(old_name)
+}
+
 fn product(alloc: Global) -> Result<ObjectTypeDefinition, AllocError> {
+    let guest = Node::new(alloc, value!(in alloc; GUEST)?)?;
+    let mut auth = Directive::new(alloc, name!(auth));
+    auth.arguments = vec![in alloc; Argument::new_node(alloc, name!(role), guest)?]?;
+    let id = FieldDefinition::new(alloc, name!(id), ty!(ID!));
+    let name = FieldDefinition::new(alloc, name!(name), ty!(String!));
+    let added = FieldDefinition::new(alloc, name!(added), ty!(DateTime));
     let taxes = "In the currency that is asked for.\nTaxes are \"in\".";
     let mut price = price(alloc)?;
     price.description = Some(NodeStr::new_str(alloc, taxes)?);
-    let reason = value!(in alloc; "use `name`")?;
-    let mut old_name = FieldDefinition::new(alloc, name!(oldName), ty!(String));
-    old_name.directives = directive(alloc, name!(deprecated), name!(reason), reason)?;
     Ok(ObjectTypeDefinition {
         description: Some(NodeStr::new_str(alloc, "What the shop sells")?),
         implements_interfaces: vec![in alloc; name!(Node), name!(Priced)]?,
-        directives: directive(alloc, name!(auth), name!(role), value!(in alloc; GUEST)?)?,
+        directives: DirectiveList::of(alloc, auth)?,
         fields: vec![in alloc;
-            field(alloc, name!(id), ty!(ID!))?,
-            field(alloc, name!(name), ty!(String!))?,
+            Node::new(alloc, id)?,
+            Node::new(alloc, name)?,
             Node::new(alloc, price)?,
             Node::new(alloc, reviews(alloc)?)?,
-            Node::new(alloc, old_name)?,
-            field(alloc, name!(added), ty!(DateTime))?,
+            Node::new(alloc, old_name(alloc)?)?,
+            Node::new(alloc, added)?,
         ]?,
         ..ObjectTypeDefinition::new(alloc, name!(Product))
     })
@@ -151,20 +134,22 @@ fn review(alloc: Global) -> Result<ObjectTypeDefinition, AllocError> {
     Ok(ObjectTypeDefinition {
         implements_interfaces: vec![in alloc; name!(Node)]?,
         fields: vec![in alloc;
-            field(alloc, name!(id), ty!(ID!))?,
-            field(alloc, name!(stars), ty!(Int!))?,
-            field(alloc, name!(text), ty!(String))?,
+            Node::new(alloc, FieldDefinition::new(alloc, name!(id), ty!(ID!)))?,
+            Node::new(alloc, FieldDefinition::new(alloc, name!(stars), ty!(Int!)))?,
+            Node::new(alloc, FieldDefinition::new(alloc, name!(text), ty!(String)))?,
         ]?,
         ..ObjectTypeDefinition::new(alloc, name!(Review))
     })
 }
 
 fn query(alloc: Global) -> Result<ObjectTypeDefinition, AllocError> {
-    let results = ty!(in alloc; [SearchResult!]!)?;
+    let id = InputValueDefinition::new(alloc, name!(id), Node::new(alloc, ty!(ID!))?);
     let mut node = FieldDefinition::new(alloc, name!(node), ty!(Node));
-    node.arguments = vec![in alloc; input(alloc, name!(id), ty!(ID!), None)?]?;
-    let mut search = FieldDefinition::new(alloc, name!(search), results);
-    search.arguments = vec![in alloc; input(alloc, name!(filter), ty!(SearchFilter!), None)?]?;
+    node.arguments = vec![in alloc; Node::new(alloc, id)?]?;
+    let ty = Node::new(alloc, ty!(SearchFilter!))?;
+    let filter = InputValueDefinition::new(alloc, name!(filter), ty);
+    let mut search = FieldDefinition::new(alloc, name!(search), ty!(in alloc; [SearchResult!]!)?);
+    search.arguments = vec![in alloc; Node::new(alloc, filter)?]?;
     let mut query = ObjectTypeDefinition::new(alloc, name!(Query));
     query.fields = vec![in alloc; Node::new(alloc, node)?, Node::new(alloc, search)?]?;
     Ok(query)
@@ -177,54 +162,63 @@ fn search_result(alloc: Global) -> Result<UnionTypeDefinition, AllocError> {
 }
 
 fn currency(alloc: Global) -> Result<EnumTypeDefinition, AllocError> {
-    let reason = value!(in alloc; "euro")?;
+    let reason = Node::new(alloc, value!(in alloc; "euro")?)?;
+    let mut deprecated = Directive::new(alloc, name!(deprecated));
+    deprecated.arguments = vec![in alloc; Argument::new_node(alloc, name!(reason), reason)?]?;
     let mark = EnumValueDefinition {
         description: Some(NodeStr::new_str(alloc, "Gone")?),
         value: name!(DEM),
-        directives: directive(alloc, name!(deprecated), name!(reason), reason)?,
+        directives: DirectiveList::of(alloc, deprecated)?,
     };
-    let (euro, dollar) = (
-        enum_value(alloc, name!(EUR))?,
-        enum_value(alloc, name!(USD))?,
-    );
     let mut currency = EnumTypeDefinition::new(alloc, name!(Currency));
-    currency.values = vec![in alloc; euro, dollar, Node::new(alloc, mark)?]?;
+    currency.values = vec![in alloc;
+        Node::new(alloc, EnumValueDefinition::new(alloc, name!(EUR)))?,
+        Node::new(alloc, EnumValueDefinition::new(alloc, name!(USD)))?,
+        Node::new(alloc, mark)?,
+    ]?;
     Ok(currency)
 }
 
 fn role(alloc: Global) -> Result<EnumTypeDefinition, AllocError> {
     let mut role = EnumTypeDefinition::new(alloc, name!(Role));
     role.values = vec![in alloc;
-        enum_value(alloc, name!(GUEST))?,
-        enum_value(alloc, name!(USER))?,
-        enum_value(alloc, name!(ADMIN))?,
+        Node::new(alloc, EnumValueDefinition::new(alloc, name!(GUEST)))?,
+        Node::new(alloc, EnumValueDefinition::new(alloc, name!(USER)))?,
+        Node::new(alloc, EnumValueDefinition::new(alloc, name!(ADMIN)))?,
     ]?;
     Ok(role)
 }
 
 fn search_filter(alloc: Global) -> Result<InputObjectTypeDefinition, AllocError> {
-    let (new, most) = (value!(in alloc; ["new"])?, value!(in alloc; 99.5)?);
-    let range = value!(in alloc; {min: 0, max: 10})?;
+    let text = InputValueDefinition::new(alloc, name!(text), Node::new(alloc, ty!(String!))?);
+    let strings = Node::new(alloc, ty!(in alloc; [String!])?)?;
+    let mut tags = InputValueDefinition::new(alloc, name!(tags), strings);
+    tags.default_value = Some(Node::new(alloc, value!(in alloc; ["new"])?)?);
+    let float = Node::new(alloc, ty!(Float))?;
+    let mut max_price = InputValueDefinition::new(alloc, name!(maxPrice), float);
+    max_price.default_value = Some(Node::new(alloc, value!(in alloc; 99.5)?)?);
+    let mut range = InputValueDefinition::new(alloc, name!(range), Node::new(alloc, ty!(Range))?);
+    range.default_value = Some(Node::new(alloc, value!(in alloc; {min: 0, max: 10})?)?);
     let mut filter = InputObjectTypeDefinition::new(alloc, name!(SearchFilter));
     filter.fields = vec![in alloc;
-        input(alloc, name!(text), ty!(String!), None)?,
-        input(alloc, name!(tags), ty!(in alloc; [String!])?, Some(new))?,
-        input(alloc, name!(maxPrice), ty!(Float), Some(most))?,
-        input(alloc, name!(range), ty!(Range), Some(range))?,
+        Node::new(alloc, text)?,
+        Node::new(alloc, tags)?,
+        Node::new(alloc, max_price)?,
+        Node::new(alloc, range)?,
     ]?;
     Ok(filter)
 }
 
 /// `extend type Query { me: Node @auth }` and `extend enum Currency { GBP }`
 fn extend(alloc: Global, document: &mut Document) -> Result<(), AllocError> {
-    let auth = Node::new(alloc, Directive::new(alloc, name!(auth)))?;
     let mut me = FieldDefinition::new(alloc, name!(me), ty!(Node));
-    me.directives = DirectiveList(vec![in alloc; auth]?);
+    me.directives = DirectiveList::of(alloc, Directive::new(alloc, name!(auth)))?;
     let mut query = ObjectTypeExtension::new(alloc, name!(Query));
     query.fields = vec![in alloc; Node::new(alloc, me)?]?;
     document.push(alloc, query)?;
     let mut currency = EnumTypeExtension::new(alloc, name!(Currency));
-    currency.values = vec![in alloc; enum_value(alloc, name!(GBP))?]?;
+    let pound = EnumValueDefinition::new(alloc, name!(GBP));
+    currency.values = vec![in alloc; Node::new(alloc, pound)?]?;
     document.push(alloc, currency)
 }
 

@@ -111,6 +111,7 @@ fn main(rt: HostRuntime) -> Result<()> {
     if let Err(error) = store.store(alloc, &Document::new(alloc)) {
         println!(rt; "{error}")?;
     }
+    store.store(alloc, &query(alloc, Some(name!(Carts)), name!(carts))?)?;
     for text in &store.texts {
         println!(rt; "{text}")?;
     }

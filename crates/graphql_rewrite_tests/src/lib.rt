@@ -3,6 +3,8 @@
 #![tactic(auto)]
 
 #[cfg(test)]
+mod each_kind;
+#[cfg(test)]
 mod growths;
 #[cfg(test)]
 mod hostile;

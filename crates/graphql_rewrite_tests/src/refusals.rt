@@ -1,4 +1,6 @@
 //! What is made, or refused: the old document is as it was either way.
+mod each_kind;
+
 use crate::made::replaced;
 use crate::samples::document;
 use crate::whole::types;

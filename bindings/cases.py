@@ -1,7 +1,9 @@
 #!/usr/bin/env python3
-"""Writes the cases of golden/data that are of documents and values in a form that C and Rust read without a reader of JSON.
+"""Writes cases of documents and values, in the form of golden/data, in a form that C and Rust read without a reader of JSON.
 
-    python3 cases.py FOLDER >CASES
+    python3 cases.py FROM.. >CASES
+
+FROM is a file, or a folder, whose files *.jsonl are read. Cases of other kinds are passed over.
 
 A case is a line of seven numbers, then the bytes of the JSON, of the prefix and of the text that is wanted, and a line feed. The numbers: the call (0
 print_json, 1 print_value_json), the status, whether there are several lines, whether what is unknown is passed over, and how many bytes the JSON, the
@@ -22,7 +24,7 @@ def print_case(case):
     if prefix is not None and prefix.strip(" \t"):
         status, text = WRONG_PREFIX, ""
     elif not case["well_formed"]:
-        status, text = ILL_FORMED, ""
+        status, text = ILL_FORMED, case.get("message", "")
     elif text is None:
         status, text = LEVEL_OVERFLOW, "indentation level overflow"
     return status, prefix, level, False, case["tree"], text
@@ -34,9 +36,14 @@ def put(out, call, status, prefix, level, pass_over, tree, text):
     out.write(" ".join(str(int(it)) for it in numbers).encode() + b"\n" + b"".join(parts) + b"\n")
 
 
+def files(words):
+    for path in map(pathlib.Path, words):
+        yield from sorted(path.glob("*.jsonl")) if path.is_dir() else [path]
+
+
 def main():
     out = sys.stdout.buffer
-    for path in sorted(pathlib.Path(sys.argv[1]).glob("*.jsonl")):
+    for path in files(sys.argv[1:]):
         for line in path.read_text(encoding="utf-8").splitlines():
             case = json.loads(line)
             call = CALLS.get(case["kind"])

@@ -1,6 +1,7 @@
 /* Tests of the calls through graphql_ast.h.
 
-       tests CASES             each case of the file, and each status by hand
+       tests CASES VECTORS     each case of both files, and each status by hand
+       tests once CASES        each case of the file, in buffers as long as its text, a byte less and a byte more
        tests loop NUMBER CASES     each call so often, for a tool that finds leaks
        tests refuse CASES      each call with each of its allocations refused in turn. It is linked with --wrap=malloc and --wrap=realloc
 
@@ -127,8 +128,8 @@ static void check_room(const struct a_case *it, const char *text, size_t length,
     free(out);
 }
 
-/* The case in a buffer of each length up to one more than it needs: where that is long, in those near both ends. */
-static void check_case(const struct a_case *it) {
+/* The case in a buffer with ample room, and in those of each length up to one byte more than it needs, or in the last three of these. */
+static void check_case(const struct a_case *it, int each_length) {
     char *whole = malloc(1 << 16);
     size_t needed, room;
     uint32_t status = call(it, whole, 1 << 16, &needed);
@@ -136,13 +137,13 @@ static void check_case(const struct a_case *it) {
     CHECK(needed > 0 && needed < 1 << 16);
     if (it->text_len)
         CHECK(needed == it->text_len && memcmp(whole, it->text, needed) == 0);
-    if (status == it->status && needed < 1 << 16)
-        for (room = 0; room <= needed + 1; room = room == 200 && needed > 400 ? needed - 200 : room + 1)
+    if (status == it->status && needed > 0 && needed < 1 << 16)
+        for (room = each_length ? 0 : needed - 1; room <= needed + 1; room++)
             check_room(it, whole, needed, room);
     free(whole);
 }
 
-static unsigned long check_cases(const char *path) {
+static unsigned long check_cases(const char *path, int each_length) {
     FILE *file = fopen(path, "rb");
     struct a_case it;
     unsigned long cases = 0;
@@ -151,11 +152,11 @@ static unsigned long check_cases(const char *path) {
         exit(2);
     }
     for (; read_case(file, &it); cases++) {
-        check_case(&it);
+        check_case(&it, each_length);
         free_case(&it);
     }
     fclose(file);
-    CHECK(cases > 800);
+    printf("%lu cases of %s\n", cases, path);
     return cases;
 }
 
@@ -169,13 +170,13 @@ static void check_answer(unsigned status, const char *json, size_t json_len, con
     struct a_case it = by_hand(status, json, json_len, prefix, prefix_len, level);
     it.text = (char *)text;
     it.text_len = strlen(text);
-    check_case(&it);
+    check_case(&it, 1);
 }
 
 #define TEXT(LITERAL) LITERAL, sizeof LITERAL - 1
 
 static void check_statuses(void) {
-    static const char nul_inside[] = "{\"kind\"\0:1}";
+    static const char nul_inside[] = "{\"kind\"\0:1}", nul_behind[] = "{\"kind\":\"Document\",\"definitions\":[]}\0";
     check_answer(GRAPHQL_AST_DONE, TEXT(QUERY), TEXT("  "), 0, "{\n  a\n}\n");
     check_answer(GRAPHQL_AST_DONE, TEXT(QUERY), TEXT("\t"), 1, "\tquery {\n\t\ta\n\t}\n");
     check_answer(GRAPHQL_AST_DONE, TEXT(FRAGMENT("f")), TEXT(""), 0, "scalar A\n\nfragment f on T {\na\n}\n");
@@ -183,6 +184,7 @@ static void check_statuses(void) {
     check_answer(GRAPHQL_AST_NOT_JSON, TEXT("{\"kind\":"), TEXT("  "), 0, "");
     check_answer(GRAPHQL_AST_NOT_JSON, TEXT("\"\xFF\""), TEXT("  "), 0, "");
     check_answer(GRAPHQL_AST_NOT_JSON, TEXT(nul_inside), TEXT("  "), 0, "");
+    check_answer(GRAPHQL_AST_NOT_JSON, TEXT(nul_behind), TEXT("  "), 0, "");
     check_answer(GRAPHQL_AST_NO_TREE, TEXT("{\"kind\":\"D\xC3\xA4\"}"), TEXT("  "), 0,
                  "at `kind`: found the kind `D\xC3\xA4` where Document was wanted");
     check_answer(GRAPHQL_AST_ILL_FORMED, TEXT(FRAGMENT("on")), TEXT("  "), 0, "at `definitions[1].name.value`: a fragment named `on`: `on`");
@@ -335,13 +337,16 @@ int main(int count, char **words) {
         loop(words[3], strtoul(words[2], NULL, 10));
     else if (count == 3 && !strcmp(words[1], "refuse"))
         refuse(words[2]);
-    else if (count == 2) {
+    else if (count == 3 && !strcmp(words[1], "once"))
+        CHECK(check_cases(words[2], 0) > 800);
+    else if (count == 3) {
         check_statuses();
         check_nul();
         check_others();
         check_long_prefix();
         check_long_json();
-        printf("%lu cases\n", check_cases(words[1]));
+        CHECK(check_cases(words[1], 1) > 800);
+        CHECK(check_cases(words[2], 1) == 12);
     } else
         return 2;
     printf("%lu checks, %lu failed\n", checks, failures);

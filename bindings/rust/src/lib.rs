@@ -76,7 +76,7 @@ mod calls {
     pub type Print =
         unsafe extern "C" fn(*const u8, usize, bool, *const u8, usize, usize, bool, *mut u8, usize, *mut usize) -> u32;
 
-    unsafe extern "C" {
+    extern "C" {
         pub fn graphql_ast_print_json(json: *const u8, json_len: usize, broken: bool, prefix: *const u8, prefix_len: usize, level: usize, pass_over: bool,
             out: *mut u8, out_len: usize, needed: *mut usize) -> u32;
         pub fn graphql_ast_print_value_json(json: *const u8, json_len: usize, broken: bool, prefix: *const u8, prefix_len: usize, level: usize, pass_over: bool,
@@ -155,4 +155,55 @@ pub fn normalize(json: &str, unknown: Unknown) -> Result<String, Error> {
 /// The version of the interface that the library has.
 pub fn version() -> u32 {
     unsafe { calls::graphql_ast_version() }
+}
+
+#[cfg(test)]
+mod tests {
+    use super::*;
+
+    const QUERY: &str = r#"{"kind":"Document","definitions":[{"kind":"OperationDefinition","operation":"query","selectionSet":{"kind":"SelectionSet","selections":[{"kind":"Field","name":{"kind":"Name","value":"a"}}]}}]}"#;
+
+    fn call(json: &str, out: &mut [u8], needed: &mut usize) -> u32 {
+        let (to, room) = (out.as_mut_ptr(), out.len());
+        unsafe { calls::graphql_ast_print_json(json.as_ptr(), json.len(), true, "\t".as_ptr(), 1, 0, false, to, room, needed) }
+    }
+
+    /// What stands in a buffer of so many bytes, and that nothing is written behind the text or the cut message, within the buffer or beyond.
+    fn check_room(json: &str, status: u32, wanted: &str, room: usize) {
+        let mut out = vec![b'#'; wanted.len() + 2];
+        let mut needed = 77;
+        let answer = call(json, &mut out[..room], &mut needed);
+        assert_eq!(needed, wanted.len());
+        if status == DONE && room < wanted.len() {
+            assert_eq!(answer, TOO_SHORT);
+            assert!(out[room..].iter().all(|byte| *byte == b'#'));
+            return;
+        }
+        assert_eq!(answer, status);
+        let kept = (0..=room.min(wanted.len())).rev().find(|end| wanted.is_char_boundary(*end)).unwrap();
+        assert_eq!(&out[..kept], &wanted.as_bytes()[..kept]);
+        assert!(out[kept..].iter().all(|byte| *byte == b'#'));
+    }
+
+    /// The call with a buffer of each length up to one byte more than it needs, and the safe call that begins with such a one.
+    fn check_each_length(json: &str, wanted: Result<&str, Error>) {
+        let (status, text) = match &wanted {
+            Ok(text) => (DONE, *text),
+            Err(error) => (if let Error::NoTree(_) = error { 3 } else { 4 }, error.message()),
+        };
+        for room in 0..=text.len() + 1 {
+            check_room(json, status, text, room);
+            assert_eq!(text_of(room, |out, needed| call(json, out, needed)).as_deref(), wanted.as_deref());
+        }
+    }
+
+    #[test]
+    fn buffers_of_each_length_are_answered() {
+        check_each_length(QUERY, Ok("{\n\ta\n}\n"));
+        check_each_length(
+            r#"{"kind":"Document","definitions":[]}"#,
+            Err(Error::IllFormed("at the root: a document without a definition".to_string())),
+        );
+        check_each_length(r#"{"kind":"Dä𝄞"}"#, Err(Error::NoTree("at `kind`: found the kind `Dä𝄞` where Document was wanted".to_string())));
+    }
 }

@@ -1,4 +1,5 @@
-//! Tests of the safe functions. `GRAPHQL_AST_CASES` names the file of cases, which ../cases.py writes.
+//! Tests of the safe functions. `GRAPHQL_AST_CASES` and `GRAPHQL_AST_VECTORS` name files of cases, which ../cases.py writes: of golden/data, and of
+//! ../vectors.jsonl.
 
 use graphql_ast::{check, normalize, print, print_value, version, Error, Layout, Unknown};
 
@@ -12,9 +13,9 @@ struct Case {
     text: String,
 }
 
-/// The cases: a line of eight numbers, and then three texts whose lengths they tell.
-fn cases() -> Vec<Case> {
-    let bytes = std::fs::read(std::env::var("GRAPHQL_AST_CASES").unwrap()).unwrap();
+/// The cases of the file that a variable names: a line of eight numbers, and then three texts whose lengths they tell.
+fn cases(variable: &str) -> Vec<Case> {
+    let bytes = std::fs::read(std::env::var(variable).unwrap()).unwrap();
     let mut rest = &bytes[..];
     let mut found = Vec::new();
     while !rest.is_empty() {
@@ -30,7 +31,6 @@ fn cases() -> Vec<Case> {
         assert_eq!(text(1), "\n");
         found.push(Case { numbers, json, prefix, text: wanted });
     }
-    assert!(found.len() > 800);
     found
 }
 
@@ -64,12 +64,22 @@ fn check_cases(cases: &[Case]) {
 
 #[test]
 fn stored_cases_are_answered() {
-    check_cases(&cases());
+    let cases = cases("GRAPHQL_AST_CASES");
+    check_cases(&cases);
+    assert!(cases.len() > 800);
+    println!("{} cases", cases.len());
+}
+
+#[test]
+fn stored_vectors_are_answered() {
+    let vectors = cases("GRAPHQL_AST_VECTORS");
+    check_cases(&vectors);
+    assert_eq!(vectors.len(), 12);
 }
 
 #[test]
 fn two_threads_share_nothing() {
-    let cases = cases();
+    let cases = cases("GRAPHQL_AST_CASES");
     std::thread::scope(|scope| {
         for _ in 0..2 {
             scope.spawn(|| check_cases(&cases));
@@ -82,7 +92,6 @@ fn each_status_has_an_error() {
     assert_eq!(print(QUERY, Layout::default(), Unknown::Refuse).unwrap(), "{\n  a\n}\n");
     assert_eq!(print(QUERY, Layout::OneLine, Unknown::Refuse).unwrap(), "{ a }");
     assert!(matches!(print("", Layout::OneLine, Unknown::Refuse), Err(Error::NotJson(_))));
-    assert!(matches!(print("\0", Layout::OneLine, Unknown::Refuse), Err(Error::NotJson(_))));
     assert_eq!(
         print("7", Layout::OneLine, Unknown::Refuse).unwrap_err().to_string(),
         "at the root: found a number where an object was wanted"
@@ -97,6 +106,19 @@ fn each_status_has_an_error() {
     let normal = normalize(QUERY, Unknown::Refuse).unwrap();
     assert_eq!(normalize(&normal, Unknown::Refuse).unwrap(), normal);
     assert_eq!(version(), 1);
+}
+
+#[test]
+fn nul_ends_no_text() {
+    let string = r#"{"kind":"StringValue","value":"a\u0000b"}"#;
+    assert_eq!(print_value(string, Layout::OneLine, Unknown::Refuse).unwrap(), r#""a\u0000b""#);
+    let name = r#"{"kind":"EnumValue","value":"a\u0000b"}"#;
+    assert!(matches!(print_value(name, Layout::OneLine, Unknown::Refuse), Err(Error::NoTree(_))));
+    for json in ["\0".to_string(), format!("{QUERY}\0"), QUERY.replace("\"a\"", "\"a\0\"")] {
+        assert!(matches!(print(&json, Layout::OneLine, Unknown::Refuse), Err(Error::NotJson(_))));
+    }
+    let wrong = Layout::Lines { prefix: " \0", level: 0 };
+    assert!(matches!(print(QUERY, wrong, Unknown::Refuse), Err(Error::WrongPrefix(_))));
 }
 
 #[test]

@@ -13,7 +13,7 @@
 # It needs, besides rt and its toolchain:
 # - gcc with its sanitizers, python3, and valgrind, by which the search for leaks is run too where it is there: `apt-get install gcc python3 valgrind` on
 #   Debian;
-# - cargo and rustc 1.63 or later: of rustup (https://rustup.rs), or `apt-get install cargo`. No crate is fetched;
+# - cargo and rustc 1.63 or later: of rustup (https://rustup.rs), or `apt-get install cargo` on Debian 12 and later. No crate is fetched;
 # - for --random node (`apt-get install nodejs`), and the program, which `rt run` builds in crates/graphql_print.
 set -u
 cd "$(dirname "$0")/.." || exit 1

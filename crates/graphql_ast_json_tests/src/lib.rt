@@ -4,9 +4,9 @@
 #[cfg(test)]
 mod calls;
 #[cfg(test)]
-mod each_kind;
-#[cfg(test)]
 mod direct;
+#[cfg(test)]
+mod each_kind;
 #[cfg(test)]
 mod either_form;
 #[cfg(test)]

@@ -2,10 +2,10 @@
 #![tactic(auto)]
 
 #[cfg(test)]
+mod each_kind;
+#[cfg(test)]
 mod nested;
 #[cfg(test)]
 mod plain;
 #[cfg(test)]
 mod refusals;
-#[cfg(test)]
-mod samples;

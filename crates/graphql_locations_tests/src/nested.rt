@@ -1,11 +1,11 @@
 //! Nodes that stand at several places, and nodes in one another.
-use crate::samples::query;
-use graphql_ast::ast::{Field, Selection, Value};
+use graphql_ast::ast::{Field, OperationDefinition, Selection, Value};
 use graphql_ast::span::{FileId, SourceSpan};
 use graphql_ast::{Node, name};
 use graphql_locations::Located;
 use std::alloc::{AllocError, Global};
 use std::process::Abort;
+use worked_trees::executable::{field_selection, operation_definition};
 
 const LEVELS: usize = 1000;
 
@@ -19,13 +19,21 @@ fn check_plain(rt: &impl Abort, selection: Option<&mut Selection>) {
     }
 }
 
+/// An operation in which one field stands twice.
+fn shared(alloc: Global) -> Result<OperationDefinition, AllocError> {
+    let field = field_selection(alloc)?;
+    let mut operation = operation_definition(alloc)?;
+    operation.selection_set = vec![in alloc; field.clone()?, field]?;
+    Ok(operation)
+}
+
 /// The node that stands at two places is made twice, and shared with none.
 #[test]
 fn a_shared_node_is_made_at_each_place(rt: HostRuntime) {
     let alloc = rt.alloc();
-    let query = query(alloc).expect(&rt, "memory");
-    let mut made = query.without_locations(alloc).expect(&rt, "memory");
-    assert!(rt; made == query);
+    let operation = shared(alloc).expect(&rt, "memory");
+    let mut made = operation.without_locations(alloc).expect(&rt, "memory");
+    assert!(rt; made == operation);
     check_plain(&rt, made.selection_set.first_mut());
     check_plain(&rt, made.selection_set.last_mut());
 }

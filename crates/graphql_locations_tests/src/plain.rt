@@ -1,37 +1,63 @@
 //! What is made.
-use crate::samples::{document, placed};
 use graphql_ast::ast::{Document, Value};
 use graphql_ast::node::NodeStr;
 use graphql_ast::span::{FileId, SourceSpan};
-use graphql_ast::{Name, name};
+use graphql_ast::{Name, name, value};
 use graphql_ast_json::AstJson;
 use graphql_locations::{Located, strip_locations};
-use std::alloc::Global;
+use std::alloc::{AllocError, Global};
 use std::process::Abort;
+use worked_trees::definitions::document;
+use worked_trees::parts::{FILE, located, node};
 
-/// Those of `document`, counted by hand: in each of its 26 lists 7, and 152 more. AST JSON has none for the name that an enum
-/// value is.
-const LOCATED: usize = 334;
-
-/// How many nodes, names and descriptions of the document have a location, as its AST JSON tells.
-fn located(rt: &impl Abort, alloc: Global, document: &Document) -> usize {
-    let json = document.to_ast_json(alloc).expect(rt, "memory");
+/// How many of its nodes, names and descriptions have a location, as its AST JSON tells.
+fn located_parts<T: AstJson>(rt: &impl Abort, alloc: Global, tree: &T) -> usize {
+    let json = tree.to_ast_json(alloc).expect(rt, "memory");
     let text = json.to_string(alloc).expect(rt, "memory");
     text.as_str().matches("\"loc\":").count()
 }
+
+/// Those of the document of all definitions, counted by hand: 198 in the definitions, and 115 in the extensions.
+const OF_DOCUMENT: usize = 313;
 
 #[test]
 fn nothing_has_a_location_and_all_else_stays(rt: HostRuntime) {
     let alloc = rt.alloc();
     let document = document(alloc).expect(&rt, "memory");
     let copy = document.clone().expect(&rt, "memory");
-    assert_eq!(rt; located(&rt, alloc, &document), LOCATED);
+    assert_eq!(rt; located_parts(&rt, alloc, &document), OF_DOCUMENT);
     let made = strip_locations(alloc, &document).expect(&rt, "memory");
-    assert_eq!(rt; located(&rt, alloc, &made), 0);
+    assert_eq!(rt; located_parts(&rt, alloc, &made), 0);
     assert!(rt; made == document && document == copy);
     assert!(rt; made.sources.is_empty());
-    assert!(rt; document.sources.get(&FileId::new(5)).is_some());
-    assert_eq!(rt; located(&rt, alloc, &document), LOCATED);
+    assert!(rt; document.sources.get(&FileId::new(FILE)).is_some());
+    assert_eq!(rt; located_parts(&rt, alloc, &document), OF_DOCUMENT);
+}
+
+/// `[$v, {z: E}, "s"]`, of which each part has a location.
+fn list(alloc: Global) -> Result<Value, AllocError> {
+    let member = (
+        located(name!(z)),
+        node(alloc, Value::Enum(located(name!(E))))?,
+    );
+    let items = vec![in alloc;
+        node(alloc, Value::Variable(located(name!(v))))?,
+        node(alloc, Value::Object(vec![in alloc; member]?))?,
+        node(alloc, value!(in alloc; "s")?)?,
+    ]?;
+    Ok(Value::List(items))
+}
+
+/// AST JSON has no location for the name that an enum value is: four nodes and two names have one.
+#[test]
+fn values_of_values_have_no_location(rt: HostRuntime) {
+    let alloc = rt.alloc();
+    let list = list(alloc).expect(&rt, "memory");
+    assert_eq!(rt; located_parts(&rt, alloc, &list), 6);
+    let made = list.without_locations(alloc).expect(&rt, "memory");
+    assert_eq!(rt; located_parts(&rt, alloc, &made), 0);
+    assert!(rt; made == list);
+    assert_eq!(rt; located_parts(&rt, alloc, &list), 6);
 }
 
 #[test]
@@ -56,12 +82,12 @@ fn check_name(rt: &impl Abort, alloc: Global, name: Name) {
 #[test]
 fn texts_keep_their_forms(rt: HostRuntime) {
     let alloc = rt.alloc();
-    check_name(&rt, alloc, placed(name!(abc)));
+    check_name(&rt, alloc, located(name!(abc)));
     let shared = Name::new(alloc, "abc").expect(&rt, "a name");
-    check_name(&rt, alloc, placed(shared));
+    check_name(&rt, alloc, located(shared));
     let in_place = Name::compact(alloc, "abc").expect(&rt, "a name");
-    check_name(&rt, alloc, placed(in_place));
-    let value = Value::Enum(placed(name!(E)));
+    check_name(&rt, alloc, located(in_place));
+    let value = Value::Enum(located(name!(E)));
     let made = value.without_locations(alloc).expect(&rt, "memory");
     match &made {
         Value::Enum(name) => assert!(rt; name.location().is_none()),

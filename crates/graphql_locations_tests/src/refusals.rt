@@ -1,7 +1,10 @@
 //! What is made, or refused: the old document is as it was either way.
-use crate::samples::document;
+use crate::each_kind::check_definitions;
 use graphql_locations::strip_locations;
+use worked_trees::definitions::document;
+use worked_trees::refused::Refused;
 
+/// Allocations: 686.
 #[test]
 fn locations_are_taken_out_or_memory_is_refused(rt: HostRuntime) {
     let alloc = rt.alloc();
@@ -13,4 +16,12 @@ fn locations_are_taken_out_or_memory_is_refused(rt: HostRuntime) {
             assert!(rt; document == copy);
         }
     }
+}
+
+/// Allocations: 668.
+#[test]
+fn definitions_lose_their_locations_or_memory_is_refused(rt: HostRuntime) {
+    let mut refused = Refused::none();
+    check_definitions(&rt, rt.alloc(), &mut refused);
+    assert!(rt; refused.calls <= 1);
 }

@@ -9,6 +9,7 @@ const ROW: &str =
     "(Document;'definitions':[(ScalarTypeExtension;'name':<A>),(ScalarTypeDefinition;'name':<B>,@)])";
 
 /// Either all flaws are found, or memory was refused.
+/// Allocations: 66.
 #[test]
 fn flaws_are_found_or_memory_is_refused(rt: HostRuntime) {
     let alloc = rt.alloc();

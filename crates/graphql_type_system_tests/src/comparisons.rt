@@ -1,10 +1,8 @@
 //! How trees that differ in locations compare and hash.
-use crate::samples::{field, object};
+use crate::samples::{directives, field, object};
 use graphql_base::name;
 use graphql_base::node::Node;
 use graphql_base::span::{FileId, SourceSpan};
-use graphql_values::directive::Directive;
-use graphql_values::directive_list::DirectiveList;
 use std::collections::HashSet;
 
 #[test]
@@ -21,7 +19,6 @@ fn locations_are_not_compared(rt: HostRuntime) {
     let mut seen = HashSet::new(alloc);
     assert!(rt; seen.insert(one).is_ok());
     assert!(rt; seen.contains(&other));
-    let directives = DirectiveList::of(alloc, Directive::new(alloc, name!(e)));
-    other.directives = directives.expect(&rt, "memory");
+    other.directives = directives(alloc, name!(e)).expect(&rt, "memory");
     assert!(rt; !seen.contains(&other));
 }

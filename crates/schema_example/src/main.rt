@@ -6,165 +6,148 @@ use graphql_ast::ast::{
     Argument, Directive, DirectiveDefinition, DirectiveList, DirectiveLocation, Document,
     EnumTypeDefinition, EnumTypeExtension, EnumValueDefinition, FieldDefinition,
     InputObjectTypeDefinition, InputValueDefinition, InterfaceTypeDefinition, ObjectTypeDefinition,
-    ObjectTypeExtension, OperationType, ScalarTypeDefinition, SchemaDefinition, Type,
-    UnionTypeDefinition, Value,
+    ObjectTypeExtension, OperationType, ScalarTypeDefinition, SchemaDefinition,
+    UnionTypeDefinition,
 };
 use graphql_ast::node::NodeStr;
-use graphql_ast::{Name, Node, name, ty, value};
+use graphql_ast::{Node, name, ty, value};
 use std::alloc::{AllocError, Global};
 
-/// One directive with one argument.
-fn directive(
-    alloc: Global,
-    name: Name,
-    argument: Name,
-    value: Value,
-) -> Result<DirectiveList, AllocError> {
-    let argument = Argument::new_node(alloc, argument, Node::new(alloc, value)?)?;
-    let arguments = vec![in alloc; argument]?;
-    let directive = Directive { name, arguments };
-    Ok(DirectiveList(vec![in alloc; Node::new(alloc, directive)?]?))
-}
-
-/// An argument or an input field.
-fn input(
-    alloc: Global,
-    name: Name,
-    ty: Type,
-    default_value: Option<Value>,
-) -> Result<Node<InputValueDefinition>, AllocError> {
-    let mut input = InputValueDefinition::new(alloc, name, Node::new(alloc, ty)?);
-    if let Some(value) = default_value {
-        input.default_value = Some(Node::new(alloc, value)?);
-    }
-    Node::new(alloc, input)
-}
-
-/// A field that is a name and a type alone.
-fn field(alloc: Global, name: Name, ty: Type) -> Result<Node<FieldDefinition>, AllocError> {
-    Node::new(alloc, FieldDefinition::new(alloc, name, ty))
-}
-
-/// A value of an enum that is a name alone.
-fn enum_value(alloc: Global, name: Name) -> Result<Node<EnumValueDefinition>, AllocError> {
-    Node::new(alloc, EnumValueDefinition::new(alloc, name))
-}
-
 fn schema(alloc: Global) -> Result<SchemaDefinition, AllocError> {
-    let url = value!(in alloc; "https://specs.example/shop")?;
+    let url = Node::new(alloc, value!(in alloc; "https://specs.example/shop")?)?;
+    let mut link = Directive::new(alloc, name!(link));
+    link.arguments = vec![in alloc; Argument::new_node(alloc, name!(url), url)?]?;
     let query = Node::new(alloc, (OperationType::Query, name!(Query)))?;
     Ok(SchemaDefinition {
         description: Some(NodeStr::new_str(alloc, "The shop")?),
-        directives: directive(alloc, name!(link), name!(url), url)?,
+        directives: DirectiveList::of(alloc, link)?,
         root_operations: vec![in alloc; query]?,
     })
 }
 
 fn auth(alloc: Global) -> Result<DirectiveDefinition, AllocError> {
-    let (user, none) = (value!(in alloc; USER)?, value!(in alloc; [])?);
-    Ok(DirectiveDefinition {
-        description: Some(NodeStr::new_str(alloc, "Who may ask")?),
-        arguments: vec![in alloc;
-            input(alloc, name!(role), ty!(Role!), Some(user))?,
-            input(alloc, name!(scopes), ty!(in alloc; [String!])?, Some(none))?,
-        ]?,
-        repeatable: true,
-        locations: vec![in alloc;
-            DirectiveLocation::Object,
-            DirectiveLocation::FieldDefinition,
-        ]?,
-        ..DirectiveDefinition::new(alloc, name!(auth))
-    })
+    let mut role = InputValueDefinition::new(alloc, name!(role), Node::new(alloc, ty!(Role!))?);
+    role.default_value = Some(Node::new(alloc, value!(in alloc; USER)?)?);
+    let strings = Node::new(alloc, ty!(in alloc; [String!])?)?;
+    let mut scopes = InputValueDefinition::new(alloc, name!(scopes), strings);
+    scopes.default_value = Some(Node::new(alloc, value!(in alloc; [])?)?);
+    let mut auth = DirectiveDefinition::new(alloc, name!(auth));
+    auth.description = Some(NodeStr::new_str(alloc, "Who may ask")?);
+    auth.arguments = vec![in alloc; Node::new(alloc, role)?, Node::new(alloc, scopes)?]?;
+    auth.repeatable = true;
+    auth.locations = vec![in alloc;
+        DirectiveLocation::Object,
+        DirectiveLocation::FieldDefinition,
+    ]?;
+    Ok(auth)
 }
 
 fn date_time(alloc: Global) -> Result<ScalarTypeDefinition, AllocError> {
     let url = value!(in alloc; "https://scalars.example/date-time")?;
-    Ok(ScalarTypeDefinition {
-        description: Some(NodeStr::new_str(alloc, "An RFC 3339 time")?),
-        directives: directive(alloc, name!(specifiedBy), name!(url), url)?,
-        ..ScalarTypeDefinition::new(alloc, name!(DateTime))
-    })
+    let url = Node::new(alloc, url)?;
+    let mut specified_by = Directive::new(alloc, name!(specifiedBy));
+    specified_by.arguments = vec![in alloc; Argument::new_node(alloc, name!(url), url)?]?;
+    let mut date_time = ScalarTypeDefinition::new(alloc, name!(DateTime));
+    date_time.description = Some(NodeStr::new_str(alloc, "An RFC 3339 time")?);
+    date_time.directives = DirectiveList::of(alloc, specified_by)?;
+    Ok(date_time)
 }
 
 fn node(alloc: Global) -> Result<InterfaceTypeDefinition, AllocError> {
     let mut id = FieldDefinition::new(alloc, name!(id), ty!(ID!));
     id.description = Some(NodeStr::new_str(alloc, "Unique")?);
-    Ok(InterfaceTypeDefinition {
-        description: Some(NodeStr::new_str(alloc, "What has an id")?),
-        fields: vec![in alloc; Node::new(alloc, id)?]?,
-        ..InterfaceTypeDefinition::new(alloc, name!(Node))
-    })
+    let mut node = InterfaceTypeDefinition::new(alloc, name!(Node));
+    node.description = Some(NodeStr::new_str(alloc, "What has an id")?);
+    node.fields = vec![in alloc; Node::new(alloc, id)?]?;
+    Ok(node)
 }
 
 /// `price(currency: Currency = EUR): Float!`
 fn price(alloc: Global) -> Result<FieldDefinition, AllocError> {
-    let euro = value!(in alloc; EUR)?;
+    let ty = Node::new(alloc, ty!(Currency))?;
+    let mut currency = InputValueDefinition::new(alloc, name!(currency), ty);
+    currency.default_value = Some(Node::new(alloc, value!(in alloc; EUR)?)?);
     let mut price = FieldDefinition::new(alloc, name!(price), ty!(Float!));
-    price.arguments = vec![in alloc; input(alloc, name!(currency), ty!(Currency), Some(euro))?]?;
+    price.arguments = vec![in alloc; Node::new(alloc, currency)?]?;
     Ok(price)
 }
 
 fn priced(alloc: Global) -> Result<InterfaceTypeDefinition, AllocError> {
-    let price = Node::new(alloc, price(alloc)?)?;
-    Ok(InterfaceTypeDefinition {
-        implements_interfaces: vec![in alloc; name!(Node)]?,
-        fields: vec![in alloc; field(alloc, name!(id), ty!(ID!))?, price]?,
-        ..InterfaceTypeDefinition::new(alloc, name!(Priced))
-    })
+    let id = FieldDefinition::new(alloc, name!(id), ty!(ID!));
+    let mut priced = InterfaceTypeDefinition::new(alloc, name!(Priced));
+    priced.implements_interfaces = vec![in alloc; name!(Node)]?;
+    priced.fields = vec![in alloc; Node::new(alloc, id)?, Node::new(alloc, price(alloc)?)?]?;
+    Ok(priced)
 }
 
 /// `reviews(first: Int = 10, after: ID): [Review!]!`
 fn reviews(alloc: Global) -> Result<FieldDefinition, AllocError> {
-    let ten = value!(in alloc; 10)?;
+    let mut first = InputValueDefinition::new(alloc, name!(first), Node::new(alloc, ty!(Int))?);
+    first.default_value = Some(Node::new(alloc, value!(in alloc; 10)?)?);
+    let after = InputValueDefinition::new(alloc, name!(after), Node::new(alloc, ty!(ID))?);
     let mut reviews = FieldDefinition::new(alloc, name!(reviews), ty!(in alloc; [Review!]!)?);
-    reviews.arguments = vec![in alloc;
-        input(alloc, name!(first), ty!(Int), Some(ten))?,
-        input(alloc, name!(after), ty!(ID), None)?,
-    ]?;
+    reviews.arguments = vec![in alloc; Node::new(alloc, first)?, Node::new(alloc, after)?]?;
     Ok(reviews)
 }
 
-fn product(alloc: Global) -> Result<ObjectTypeDefinition, AllocError> {
+/// `oldName: String @deprecated(reason: "use `name`")`
+fn old_name(alloc: Global) -> Result<FieldDefinition, AllocError> {
+    let reason = Node::new(alloc, value!(in alloc; "use `name`")?)?;
+    let mut deprecated = Directive::new(alloc, name!(deprecated));
+    deprecated.arguments = vec![in alloc; Argument::new_node(alloc, name!(reason), reason)?]?;
+    let mut old_name = FieldDefinition::new(alloc, name!(oldName), ty!(String));
+    old_name.directives = DirectiveList::of(alloc, deprecated)?;
+    Ok(old_name)
+}
+
+fn product_fields(alloc: Global) -> Result<Vec<Node<FieldDefinition>>, AllocError> {
     let taxes = "In the currency that is asked for.\nTaxes are \"in\".";
     let mut price = price(alloc)?;
     price.description = Some(NodeStr::new_str(alloc, taxes)?);
-    let reason = value!(in alloc; "use `name`")?;
-    let mut old_name = FieldDefinition::new(alloc, name!(oldName), ty!(String));
-    old_name.directives = directive(alloc, name!(deprecated), name!(reason), reason)?;
-    Ok(ObjectTypeDefinition {
-        description: Some(NodeStr::new_str(alloc, "What the shop sells")?),
-        implements_interfaces: vec![in alloc; name!(Node), name!(Priced)]?,
-        directives: directive(alloc, name!(auth), name!(role), value!(in alloc; GUEST)?)?,
-        fields: vec![in alloc;
-            field(alloc, name!(id), ty!(ID!))?,
-            field(alloc, name!(name), ty!(String!))?,
-            Node::new(alloc, price)?,
-            Node::new(alloc, reviews(alloc)?)?,
-            Node::new(alloc, old_name)?,
-            field(alloc, name!(added), ty!(DateTime))?,
-        ]?,
-        ..ObjectTypeDefinition::new(alloc, name!(Product))
-    })
+    let name = FieldDefinition::new(alloc, name!(name), ty!(String!));
+    let added = FieldDefinition::new(alloc, name!(added), ty!(DateTime));
+    let fields = vec![in alloc;
+        Node::new(alloc, FieldDefinition::new(alloc, name!(id), ty!(ID!)))?,
+        Node::new(alloc, name)?,
+        Node::new(alloc, price)?,
+        Node::new(alloc, reviews(alloc)?)?,
+        Node::new(alloc, old_name(alloc)?)?,
+        Node::new(alloc, added)?,
+    ]?;
+    Ok(fields)
+}
+
+fn product(alloc: Global) -> Result<ObjectTypeDefinition, AllocError> {
+    let guest = Node::new(alloc, value!(in alloc; GUEST)?)?;
+    let mut auth = Directive::new(alloc, name!(auth));
+    auth.arguments = vec![in alloc; Argument::new_node(alloc, name!(role), guest)?]?;
+    let mut product = ObjectTypeDefinition::new(alloc, name!(Product));
+    product.description = Some(NodeStr::new_str(alloc, "What the shop sells")?);
+    product.implements_interfaces = vec![in alloc; name!(Node), name!(Priced)]?;
+    product.directives = DirectiveList::of(alloc, auth)?;
+    product.fields = product_fields(alloc)?;
+    Ok(product)
 }
 
 fn review(alloc: Global) -> Result<ObjectTypeDefinition, AllocError> {
-    Ok(ObjectTypeDefinition {
-        implements_interfaces: vec![in alloc; name!(Node)]?,
-        fields: vec![in alloc;
-            field(alloc, name!(id), ty!(ID!))?,
-            field(alloc, name!(stars), ty!(Int!))?,
-            field(alloc, name!(text), ty!(String))?,
-        ]?,
-        ..ObjectTypeDefinition::new(alloc, name!(Review))
-    })
+    let mut review = ObjectTypeDefinition::new(alloc, name!(Review));
+    review.implements_interfaces = vec![in alloc; name!(Node)]?;
+    review.fields = vec![in alloc;
+        Node::new(alloc, FieldDefinition::new(alloc, name!(id), ty!(ID!)))?,
+        Node::new(alloc, FieldDefinition::new(alloc, name!(stars), ty!(Int!)))?,
+        Node::new(alloc, FieldDefinition::new(alloc, name!(text), ty!(String)))?,
+    ]?;
+    Ok(review)
 }
 
 fn query(alloc: Global) -> Result<ObjectTypeDefinition, AllocError> {
-    let results = ty!(in alloc; [SearchResult!]!)?;
+    let id = InputValueDefinition::new(alloc, name!(id), Node::new(alloc, ty!(ID!))?);
     let mut node = FieldDefinition::new(alloc, name!(node), ty!(Node));
-    node.arguments = vec![in alloc; input(alloc, name!(id), ty!(ID!), None)?]?;
-    let mut search = FieldDefinition::new(alloc, name!(search), results);
-    search.arguments = vec![in alloc; input(alloc, name!(filter), ty!(SearchFilter!), None)?]?;
+    node.arguments = vec![in alloc; Node::new(alloc, id)?]?;
+    let ty = Node::new(alloc, ty!(SearchFilter!))?;
+    let filter = InputValueDefinition::new(alloc, name!(filter), ty);
+    let mut search = FieldDefinition::new(alloc, name!(search), ty!(in alloc; [SearchResult!]!)?);
+    search.arguments = vec![in alloc; Node::new(alloc, filter)?]?;
     let mut query = ObjectTypeDefinition::new(alloc, name!(Query));
     query.fields = vec![in alloc; Node::new(alloc, node)?, Node::new(alloc, search)?]?;
     Ok(query)
@@ -177,54 +160,71 @@ fn search_result(alloc: Global) -> Result<UnionTypeDefinition, AllocError> {
 }
 
 fn currency(alloc: Global) -> Result<EnumTypeDefinition, AllocError> {
-    let reason = value!(in alloc; "euro")?;
-    let mark = EnumValueDefinition {
-        description: Some(NodeStr::new_str(alloc, "Gone")?),
-        value: name!(DEM),
-        directives: directive(alloc, name!(deprecated), name!(reason), reason)?,
-    };
-    let (euro, dollar) = (
-        enum_value(alloc, name!(EUR))?,
-        enum_value(alloc, name!(USD))?,
-    );
+    let reason = Node::new(alloc, value!(in alloc; "euro")?)?;
+    let mut deprecated = Directive::new(alloc, name!(deprecated));
+    deprecated.arguments = vec![in alloc; Argument::new_node(alloc, name!(reason), reason)?]?;
+    let mut mark = EnumValueDefinition::new(alloc, name!(DEM));
+    mark.description = Some(NodeStr::new_str(alloc, "Gone")?);
+    mark.directives = DirectiveList::of(alloc, deprecated)?;
     let mut currency = EnumTypeDefinition::new(alloc, name!(Currency));
-    currency.values = vec![in alloc; euro, dollar, Node::new(alloc, mark)?]?;
+    currency.values = vec![in alloc;
+        Node::new(alloc, EnumValueDefinition::new(alloc, name!(EUR)))?,
+        Node::new(alloc, EnumValueDefinition::new(alloc, name!(USD)))?,
+        Node::new(alloc, mark)?,
+    ]?;
     Ok(currency)
 }
 
 fn role(alloc: Global) -> Result<EnumTypeDefinition, AllocError> {
     let mut role = EnumTypeDefinition::new(alloc, name!(Role));
     role.values = vec![in alloc;
-        enum_value(alloc, name!(GUEST))?,
-        enum_value(alloc, name!(USER))?,
-        enum_value(alloc, name!(ADMIN))?,
+        Node::new(alloc, EnumValueDefinition::new(alloc, name!(GUEST)))?,
+        Node::new(alloc, EnumValueDefinition::new(alloc, name!(USER)))?,
+        Node::new(alloc, EnumValueDefinition::new(alloc, name!(ADMIN)))?,
     ]?;
     Ok(role)
 }
 
+/// `tags: [String!] = ["new"]`
+fn tags(alloc: Global) -> Result<Node<InputValueDefinition>, AllocError> {
+    let strings = Node::new(alloc, ty!(in alloc; [String!])?)?;
+    let mut tags = InputValueDefinition::new(alloc, name!(tags), strings);
+    tags.default_value = Some(Node::new(alloc, value!(in alloc; ["new"])?)?);
+    Node::new(alloc, tags)
+}
+
+/// `maxPrice: Float = 99.5`
+fn max_price(alloc: Global) -> Result<Node<InputValueDefinition>, AllocError> {
+    let mut max = InputValueDefinition::new(alloc, name!(maxPrice), Node::new(alloc, ty!(Float))?);
+    max.default_value = Some(Node::new(alloc, value!(in alloc; 99.5)?)?);
+    Node::new(alloc, max)
+}
+
+/// `range: Range = {min: 0, max: 10}`
+fn range(alloc: Global) -> Result<Node<InputValueDefinition>, AllocError> {
+    let mut range = InputValueDefinition::new(alloc, name!(range), Node::new(alloc, ty!(Range))?);
+    range.default_value = Some(Node::new(alloc, value!(in alloc; {min: 0, max: 10})?)?);
+    Node::new(alloc, range)
+}
+
 fn search_filter(alloc: Global) -> Result<InputObjectTypeDefinition, AllocError> {
-    let (new, most) = (value!(in alloc; ["new"])?, value!(in alloc; 99.5)?);
-    let range = value!(in alloc; {min: 0, max: 10})?;
+    let text = InputValueDefinition::new(alloc, name!(text), Node::new(alloc, ty!(String!))?);
+    let text = Node::new(alloc, text)?;
     let mut filter = InputObjectTypeDefinition::new(alloc, name!(SearchFilter));
-    filter.fields = vec![in alloc;
-        input(alloc, name!(text), ty!(String!), None)?,
-        input(alloc, name!(tags), ty!(in alloc; [String!])?, Some(new))?,
-        input(alloc, name!(maxPrice), ty!(Float), Some(most))?,
-        input(alloc, name!(range), ty!(Range), Some(range))?,
-    ]?;
+    filter.fields = vec![in alloc; text, tags(alloc)?, max_price(alloc)?, range(alloc)?]?;
     Ok(filter)
 }
 
 /// `extend type Query { me: Node @auth }` and `extend enum Currency { GBP }`
 fn extend(alloc: Global, document: &mut Document) -> Result<(), AllocError> {
-    let auth = Node::new(alloc, Directive::new(alloc, name!(auth)))?;
     let mut me = FieldDefinition::new(alloc, name!(me), ty!(Node));
-    me.directives = DirectiveList(vec![in alloc; auth]?);
+    me.directives = DirectiveList::of(alloc, Directive::new(alloc, name!(auth)))?;
     let mut query = ObjectTypeExtension::new(alloc, name!(Query));
     query.fields = vec![in alloc; Node::new(alloc, me)?]?;
     document.push(alloc, query)?;
     let mut currency = EnumTypeExtension::new(alloc, name!(Currency));
-    currency.values = vec![in alloc; enum_value(alloc, name!(GBP))?]?;
+    let pound = EnumValueDefinition::new(alloc, name!(GBP));
+    currency.values = vec![in alloc; Node::new(alloc, pound)?]?;
     document.push(alloc, currency)
 }
 

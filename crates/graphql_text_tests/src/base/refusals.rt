@@ -54,7 +54,7 @@ fn make_mut_changes_one_node_or_none(rt: HostRuntime) {
     check_placed(&rt, &alone, "");
 }
 
-/// Allocations: 6.
+/// Allocations: 7.
 #[test]
 fn nodes_are_made_or_refused(rt: HostRuntime) {
     let alloc = rt.alloc();
@@ -64,6 +64,9 @@ fn nodes_are_made_or_refused(rt: HostRuntime) {
     if let Ok(beside) = node.same_location(alloc, 1u8) {
         assert_eq!(rt; *beside, 1);
         assert_eq!(rt; beside.location(), node.location());
+    }
+    if let Ok(beside) = Node::new_at(alloc, 2u8, node.location()) {
+        assert_eq!(rt; (*beside, beside.location()), (2, node.location()));
     }
     if let Ok(text) = NodeStr::new_str(alloc, "text") {
         if let Ok(copy) = text.to_text(alloc) {

@@ -266,6 +266,9 @@ pub fn from_ast_json_str<T: AstJson>(
 ) -> Result<T, AstJsonError>
     ensures ok { IfOk result (λ value.
         (json : Data) × (read text.now ≡ Some json) × T.is_json_of Refuse (T.tree value) json) }
+    ensures stands { IfOk result (λ value.
+        (json : Data) × (read text.now ≡ Some json) × T.stands value json) }
+    ensures file { IfOk result (λ value. IsInFile source (T.location value)) }
     ensures err { IfErr result (λ error. ¬ IsMemory error
         → (json : Data) → read text.now ≡ Some json
         → (tree : T.Tree) → ¬ T.is_json_of Refuse tree json) }
@@ -289,6 +292,10 @@ fn read_parsed<T: AstJson>(
     ensures parsed { IfOk result (λ found. is_some found ≡ is_some (read text.now)) }
     ensures ok { IfOk result (λ found. IfSome found (λ value.
         (json : Data) × (read text.now ≡ Some json) × T.is_json_of Refuse (T.tree value) json)) }
+    ensures stands { IfOk result (λ found. IfSome found (λ value.
+        (json : Data) × (read text.now ≡ Some json) × T.stands value json)) }
+    ensures file { IfOk result (λ found. IfSome found (λ value.
+        IsInFile source (T.location value))) }
     ensures err { IfErr result (λ error. ¬ IsMemory error
         → (json : Data) → read text.now ≡ Some json
         → (tree : T.Tree) → ¬ T.is_json_of Refuse tree json) }
@@ -309,6 +316,9 @@ fn read_parsed<T: AstJson>(
 fn read_otherwise<T: AstJson>(alloc: Global, text: &str, source: FileId) -> Result<T, AstJsonError>
     ensures ok { IfOk result (λ value.
         (json : Data) × (read text.now ≡ Some json) × T.is_json_of Refuse (T.tree value) json) }
+    ensures stands { IfOk result (λ value.
+        (json : Data) × (read text.now ≡ Some json) × T.stands value json) }
+    ensures file { IfOk result (λ value. IsInFile source (T.location value)) }
     ensures err { IfErr result (λ error. ¬ IsMemory error
         → (json : Data) → read text.now ≡ Some json
         → (tree : T.Tree) → ¬ T.is_json_of Refuse tree json) }

@@ -198,6 +198,9 @@ pub fn from_well_formed_ast_json_str<T: AstJson + SyntaxTree + Drop>(
 ) -> Result<T, WellFormedError>
     ensures ok { IfOk result (λ value. (json : Data)
         × (read text.now ≡ Some json) × T.is_json_of Refuse (T.AstJson.tree value) json) }
+    ensures stands { IfOk result (λ value. (json : Data)
+        × (read text.now ≡ Some json) × T.stands value json) }
+    ensures file { IfOk result (λ value. IsInFile source (T.location value)) }
     ensures well_formed { IfOk result (λ value.
         IsTrue (T.kind.obeys (T.SyntaxTree.tree value))) }
     ensures err { IfErr result (λ error. IfNotRead error (λ refusal. ¬ IsMemory refusal
@@ -227,6 +230,10 @@ fn read_parsed<T: AstJson + SyntaxTree + Drop>(
     ensures parsed { IfOk result (λ found. is_some found ≡ is_some (read text.now)) }
     ensures ok { IfOk result (λ found. IfSome found (λ value. (json : Data)
         × (read text.now ≡ Some json) × T.is_json_of Refuse (T.AstJson.tree value) json)) }
+    ensures stands { IfOk result (λ found. IfSome found (λ value. (json : Data)
+        × (read text.now ≡ Some json) × T.stands value json)) }
+    ensures file { IfOk result (λ found. IfSome found (λ value.
+        IsInFile source (T.location value))) }
     ensures well_formed { IfOk result (λ found. IfSome found (λ value.
         IsTrue (T.kind.obeys (T.SyntaxTree.tree value)))) }
     ensures err { IfErr result (λ error. IfNotRead error (λ refusal. ¬ IsMemory refusal
@@ -257,6 +264,9 @@ fn read_otherwise<T: AstJson + SyntaxTree + Drop>(
 ) -> Result<T, WellFormedError>
     ensures ok { IfOk result (λ value. (json : Data)
         × (read text.now ≡ Some json) × T.is_json_of Refuse (T.AstJson.tree value) json) }
+    ensures stands { IfOk result (λ value. (json : Data)
+        × (read text.now ≡ Some json) × T.stands value json) }
+    ensures file { IfOk result (λ value. IsInFile source (T.location value)) }
     ensures well_formed { IfOk result (λ value.
         IsTrue (T.kind.obeys (T.SyntaxTree.tree value))) }
     ensures err { IfErr result (λ error. IfNotRead error (λ refusal. ¬ IsMemory refusal

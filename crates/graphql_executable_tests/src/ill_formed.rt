@@ -99,17 +99,6 @@ fn at(start: u32, end: u32) -> Option<SourceSpan> {
     SourceSpan::new(FileId::new(7), start, end)
 }
 
-fn node<T: Drop>(
-    alloc: Global,
-    value: T,
-    location: Option<SourceSpan>,
-) -> Result<Node<T>, AllocError> {
-    match location {
-        Some(span) => Node::new_parsed(alloc, value, span),
-        None => Node::new(alloc, value),
-    }
-}
-
 /// The name `on`, with a location.
 fn placed_on() -> Name {
     match SourceSpan::new(FileId::new(7), 20, 22) {
@@ -124,7 +113,7 @@ fn spread_at(
     name: Name,
     location: Option<SourceSpan>,
 ) -> Result<Selection, AllocError> {
-    let spread = node(alloc, FragmentSpread::new(alloc, name), location)?;
+    let spread = Node::new_at(alloc, FragmentSpread::new(alloc, name), location)?;
     Ok(Selection::FragmentSpread(spread))
 }
 
@@ -140,14 +129,14 @@ fn inline_at(
         selection_set,
         ..InlineFragment::new(alloc)
     };
-    Ok(Selection::InlineFragment(node(alloc, fragment, location)?))
+    Ok(Selection::InlineFragment(Node::new_at(alloc, fragment, location)?))
 }
 
 /// `a(a: 1, a: [true])`, at a location, where `true` is an enum value.
 fn field_at(alloc: Global, location: Option<SourceSpan>) -> Result<Selection, AllocError> {
     let mut field = Field::new(alloc, name!(a));
     field.arguments = arguments(alloc, reserved())?;
-    Ok(Selection::Field(node(alloc, field, location)?))
+    Ok(Selection::Field(Node::new_at(alloc, field, location)?))
 }
 
 /// `... @d(a: 1, a: [true]) { a }`, at a location, where `true` is an enum value.
@@ -156,7 +145,7 @@ fn directed_inline_at(
     location: Option<SourceSpan>,
 ) -> Result<Selection, AllocError> {
     let fragment = inline(alloc, None, reserved(), vec![in alloc; a(alloc)?]?)?;
-    Ok(Selection::InlineFragment(node(alloc, fragment, location)?))
+    Ok(Selection::InlineFragment(Node::new_at(alloc, fragment, location)?))
 }
 
 /// `{ a { SELECTION } }`, where the field stands at a location.
@@ -167,7 +156,7 @@ fn within(
 ) -> Result<OperationDefinition, AllocError> {
     let mut field = Field::new(alloc, name!(a));
     field.selection_set = vec![in alloc; selection]?;
-    let outer = Selection::Field(node(alloc, field, location)?);
+    let outer = Selection::Field(Node::new_at(alloc, field, location)?);
     Ok(query(alloc, vec![in alloc; outer]?))
 }
 
@@ -244,11 +233,11 @@ fn placed_head(
     let mut operation = query_of_a(alloc)?;
     if let Some(location) = variable {
         let variable = variable_of(alloc, variable_v(), false)?;
-        operation.variables = vec![in alloc; node(alloc, variable, location)?]?;
+        operation.variables = vec![in alloc; Node::new_at(alloc, variable, location)?]?;
     }
     let mut flawed = Directive::new(alloc, name!(d));
     flawed.arguments = arguments(alloc, reserved())?;
-    operation.directives = DirectiveList(vec![in alloc; node(alloc, flawed, directive)?]?);
+    operation.directives = DirectiveList(vec![in alloc; Node::new_at(alloc, flawed, directive)?]?);
     Ok(operation)
 }
 

@@ -1,8 +1,10 @@
 //! How trees that differ in locations compare and hash.
-use crate::samples::{directives, field, object};
+use crate::samples::{field, object};
 use graphql_base::name;
 use graphql_base::node::Node;
 use graphql_base::span::{FileId, SourceSpan};
+use graphql_values::directive::Directive;
+use graphql_values::directive_list::DirectiveList;
 use std::collections::HashSet;
 
 #[test]
@@ -19,6 +21,7 @@ fn locations_are_not_compared(rt: HostRuntime) {
     let mut seen = HashSet::new(alloc);
     assert!(rt; seen.insert(one).is_ok());
     assert!(rt; seen.contains(&other));
-    other.directives = directives(alloc, name!(e)).expect(&rt, "memory");
+    let directives = DirectiveList::of(alloc, Directive::new(alloc, name!(e)));
+    other.directives = directives.expect(&rt, "memory");
     assert!(rt; !seen.contains(&other));
 }

@@ -1,6 +1,6 @@
 //! Why definitions and extensions of the type system aren't well formed, and where.
 use crate::checks::{Flaw, check_flaws};
-use crate::samples::{directives, field, object};
+use crate::samples::object;
 use graphql_base::name;
 use graphql_base::name::Name;
 use graphql_base::node::Node;
@@ -94,17 +94,6 @@ fn at(start: u32, end: u32) -> Option<SourceSpan> {
     SourceSpan::new(FileId::new(7), start, end)
 }
 
-fn node<T: Drop>(
-    alloc: Global,
-    value: T,
-    location: Option<SourceSpan>,
-) -> Result<Node<T>, AllocError> {
-    match location {
-        Some(span) => Node::new_parsed(alloc, value, span),
-        None => Node::new(alloc, value),
-    }
-}
-
 /// The name `null`, with a location.
 fn placed_null() -> Name {
     match SourceSpan::new(FileId::new(7), 20, 24) {
@@ -119,7 +108,7 @@ fn placed_enum(
     name: Name,
     location: Option<SourceSpan>,
 ) -> Result<EnumTypeDefinition, AllocError> {
-    let value = node(alloc, EnumValueDefinition::new(alloc, name), location)?;
+    let value = Node::new_at(alloc, EnumValueDefinition::new(alloc, name), location)?;
     Ok(enum_of(alloc, DirectiveList::new(alloc), vec![in alloc; value]?))
 }
 
@@ -151,10 +140,10 @@ fn placed_object(
     inner: Option<SourceSpan>,
 ) -> Result<ObjectTypeDefinition, AllocError> {
     let mut input = flawed_input(alloc)?;
-    input.default_value = Some(node(alloc, Value::Variable(name!(w)), inner)?);
+    input.default_value = Some(Node::new_at(alloc, Value::Variable(name!(w)), inner)?);
     let mut field = FieldDefinition::new(alloc, name!(f), ty!(Int));
-    field.arguments = vec![in alloc; node(alloc, input, middle)?]?;
-    let fields = vec![in alloc; node(alloc, field, outer)?]?;
+    field.arguments = vec![in alloc; Node::new_at(alloc, input, middle)?]?;
+    let fields = vec![in alloc; Node::new_at(alloc, field, outer)?]?;
     object_of(alloc, DirectiveList::new(alloc), fields)
 }
 

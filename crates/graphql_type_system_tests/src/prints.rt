@@ -1,7 +1,7 @@
 //! Prints of each kind, a definition and an extension each, where memory is ample. How trees are laid out further is
 //! told by the cases of another program.
 use crate::checks::{check_both, check_displayed};
-use crate::samples::{directives, field, int_input, object};
+use crate::samples::{field, object};
 use graphql_base::name;
 use graphql_base::node::{Node, NodeStr};
 use graphql_type_system::enum_type::{EnumTypeDefinition, EnumTypeExtension};
@@ -13,14 +13,17 @@ use graphql_type_system::object_type::ObjectTypeExtension;
 use graphql_type_system::scalar_type::{ScalarTypeDefinition, ScalarTypeExtension};
 use graphql_type_system::schema::{SchemaDefinition, SchemaExtension};
 use graphql_type_system::union_type::{UnionTypeDefinition, UnionTypeExtension};
+use graphql_values::directive::Directive;
+use graphql_values::directive_list::DirectiveList;
+use graphql_values::input_value_definition::InputValueDefinition;
 use graphql_values::operation_type::OperationType;
-use graphql_values::ty;
+use graphql_values::{ty, value};
 use std::alloc::{AllocError, Global};
 
 fn schema(alloc: Global) -> Result<SchemaDefinition, AllocError> {
     Ok(SchemaDefinition {
         description: Some(NodeStr::new_str(alloc, "S")?),
-        directives: directives(alloc, name!(d))?,
+        directives: DirectiveList::of(alloc, Directive::new(alloc, name!(d)))?,
         root_operations: vec![in alloc;
             Node::new(alloc, (OperationType::Query, name!(Q)))?,
             Node::new(alloc, (OperationType::Mutation, name!(M)))?,
@@ -59,9 +62,9 @@ fn of_schemas_and_fields(rt: HostRuntime) {
 #[test]
 fn of_scalar_types(rt: HostRuntime) {
     let alloc = rt.alloc();
-    let directives = directives(alloc, name!(d)).expect(&rt, "memory");
+    let directives = DirectiveList::of(alloc, Directive::new(alloc, name!(d)));
     let extension = ScalarTypeExtension {
-        directives,
+        directives: directives.expect(&rt, "memory"),
         ..ScalarTypeExtension::new(alloc, name!(A))
     };
     assert!(rt; extension.is_well_formed());
@@ -98,6 +101,16 @@ fn of_object_types(rt: HostRuntime) {
     check_both(&rt, alloc, &extension, line, &extension.serialize(), line);
 }
 
+/// `input I { a: Int = 1 }`
+fn input_object(alloc: Global) -> Result<InputObjectTypeDefinition, AllocError> {
+    let mut a = InputValueDefinition::new(alloc, name!(a), Node::new(alloc, ty!(Int))?);
+    a.default_value = Some(Node::new(alloc, value!(in alloc; 1)?)?);
+    Ok(InputObjectTypeDefinition {
+        fields: vec![in alloc; Node::new(alloc, a)?]?,
+        ..InputObjectTypeDefinition::new(alloc, name!(I))
+    })
+}
+
 #[test]
 fn of_interface_and_input_object_types(rt: HostRuntime) {
     let alloc = rt.alloc();
@@ -118,11 +131,7 @@ fn of_interface_and_input_object_types(rt: HostRuntime) {
     let line = "extend interface N { f: Int }";
     let wanted = "extend interface N {\n  f: Int\n}";
     check_both(&rt, alloc, &extension, line, &extension, wanted);
-    let field = int_input(alloc, name!(a), true).expect(&rt, "memory");
-    let input = InputObjectTypeDefinition {
-        fields: vec![in alloc; field].expect(&rt, "memory"),
-        ..InputObjectTypeDefinition::new(alloc, name!(I))
-    };
+    let input = input_object(alloc).expect(&rt, "memory");
     assert!(rt; input.is_well_formed());
     let (line, wanted) = ("input I { a: Int = 1 }", "input I {\n  a: Int = 1\n}");
     check_both(&rt, alloc, &input, line, &input.serialize(), wanted);
@@ -140,7 +149,7 @@ fn of_interface_and_input_object_types(rt: HostRuntime) {
 fn of_union_and_enum_types(rt: HostRuntime) {
     let alloc = rt.alloc();
     let union_type = UnionTypeDefinition {
-        directives: directives(alloc, name!(d)).expect(&rt, "memory"),
+        directives: DirectiveList::of(alloc, Directive::new(alloc, name!(d))).expect(&rt, "memory"),
         members: vec![in alloc; name!(A), name!(B)].expect(&rt, "memory"),
         ..UnionTypeDefinition::new(alloc, name!(U))
     };
@@ -166,7 +175,7 @@ fn of_union_and_enum_types(rt: HostRuntime) {
     let (line, wanted) = ("enum E { A }", "enum E {\n  A\n}");
     check_both(&rt, alloc, &enum_type, line, &enum_type.serialize(), wanted);
     let extension = EnumTypeExtension {
-        directives: directives(alloc, name!(d)).expect(&rt, "memory"),
+        directives: DirectiveList::of(alloc, Directive::new(alloc, name!(d))).expect(&rt, "memory"),
         ..EnumTypeExtension::new(alloc, name!(E))
     };
     assert!(rt; extension.is_well_formed());

@@ -1,6 +1,5 @@
 //! What is looked up by name, and what each definition and extension is as it is new.
 use crate::checks::{check_displayed, check_line};
-use crate::samples::{directives, int_input};
 use graphql_base::name;
 use graphql_base::node::Node;
 use graphql_type_system::enum_type::{EnumTypeDefinition, EnumTypeExtension};
@@ -12,8 +11,10 @@ use graphql_type_system::object_type::{ObjectTypeDefinition, ObjectTypeExtension
 use graphql_type_system::scalar_type::{ScalarTypeDefinition, ScalarTypeExtension};
 use graphql_type_system::schema::{SchemaDefinition, SchemaExtension};
 use graphql_type_system::union_type::{UnionTypeDefinition, UnionTypeExtension};
+use graphql_values::directive::Directive;
+use graphql_values::directive_list::DirectiveList;
 use graphql_values::input_value_definition::InputValueDefinition;
-use graphql_values::ty;
+use graphql_values::{ty, value};
 use std::alloc::{AllocError, Global};
 
 #[test]
@@ -78,8 +79,9 @@ fn told(field: Option<&Node<FieldDefinition>>) -> Option<usize> {
 
 /// `x(a: Int): Int`, `y: Int`, `x: Int`
 fn fields(alloc: Global) -> Result<Vec<Node<FieldDefinition>>, AllocError> {
+    let a = InputValueDefinition::new(alloc, name!(a), Node::new(alloc, ty!(Int))?);
     let first = FieldDefinition {
-        arguments: vec![in alloc; int_input(alloc, name!(a), false)?]?,
+        arguments: vec![in alloc; Node::new(alloc, a)?]?,
         ..FieldDefinition::new(alloc, name!(x), ty!(Int))
     };
     let fields = vec![in alloc;
@@ -125,7 +127,7 @@ fn told_of_value(value: Option<&Node<EnumValueDefinition>>) -> Option<usize> {
 /// `x @d`, `y`, `x`
 fn values(alloc: Global) -> Result<Vec<Node<EnumValueDefinition>>, AllocError> {
     let first = EnumValueDefinition {
-        directives: directives(alloc, name!(d))?,
+        directives: DirectiveList::of(alloc, Directive::new(alloc, name!(d)))?,
         ..EnumValueDefinition::new(alloc, name!(x))
     };
     let values = vec![in alloc;
@@ -162,10 +164,14 @@ fn told_of_input(input: Option<&Node<InputValueDefinition>>) -> Option<usize> {
 
 /// `x: Int = 1`, `y: Int`, `x: Int`
 fn inputs(alloc: Global) -> Result<Vec<Node<InputValueDefinition>>, AllocError> {
+    let mut first = InputValueDefinition::new(alloc, name!(x), Node::new(alloc, ty!(Int))?);
+    first.default_value = Some(Node::new(alloc, value!(in alloc; 1)?)?);
+    let second = InputValueDefinition::new(alloc, name!(y), Node::new(alloc, ty!(Int))?);
+    let third = InputValueDefinition::new(alloc, name!(x), Node::new(alloc, ty!(Int))?);
     let inputs = vec![in alloc;
-        int_input(alloc, name!(x), true)?,
-        int_input(alloc, name!(y), false)?,
-        int_input(alloc, name!(x), false)?,
+        Node::new(alloc, first)?,
+        Node::new(alloc, second)?,
+        Node::new(alloc, third)?,
     ]?;
     Ok(inputs)
 }

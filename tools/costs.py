@@ -42,7 +42,7 @@ def run(counter, words, stdin=None):
     found = pattern.search(done.stderr)
     if done.returncode != 0 or not found:
         sys.exit(f"{' '.join(map(str, words))} ended with status {done.returncode}:\n{done.stderr[-800:]}")
-    return int(found[1].replace(",", "")), int(done.stdout)
+    return int(found[1].replace(",", "")), int(done.stdout.split()[0])
 
 
 def round_of(counter, words_of, stdin=None):

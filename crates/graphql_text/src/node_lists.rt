@@ -1,6 +1,6 @@
 //! Trees of one kind that are the parts of another, each a node: what is asked of them before they are written.
 ghost use Rattle.std.specs.Prelude.{◌≡◌, map};
-ghost use Rattle.std.specs.List.{flat_map};
+ghost use Rattle.std.specs.List.{flat_map, list_all};
 ghost use Rattle.graphql_text.specs.code.IllFormed.{IsFirstFlaw};
 ghost use Rattle.graphql_text.specs.parts.Greatest.{greatest};
 ghost use Rattle.graphql_text.specs.trees.Leaves.{node_trees};
@@ -11,6 +11,18 @@ use crate::depths::Depths;
 use crate::engine::SyntaxTree;
 use crate::ill_formed::IllFormed;
 use graphql_base::node::Node;
+
+/// Whether each part is well formed.
+pub fn are_parts_well_formed<P: SyntaxTree>(parts: &[Node<P>]) -> bool
+    ensures { result ≡ list_all P.kind.obeys (node_trees P.tree parts.now) }
+{
+    for part in parts {
+        if !part.is_well_formed() {
+            return false;
+        }
+    }
+    true
+}
 
 /// Where the parts aren't well formed: the first of their flaws.
 pub fn find_ill_formed_part<P: SyntaxTree>(parts: &[Node<P>]) -> Option<IllFormed<'_>>

@@ -15,7 +15,7 @@ pub use crate::block_string::can_be_block;
 use crate::breaks::{comma_break, indent, line_break, ready_comma_break};
 pub use crate::depths::Depths;
 pub use crate::ill_formed::ill_formed_unless;
-pub use crate::node_lists::{find_ill_formed_part, find_parts_depths};
+pub use crate::node_lists::{are_parts_well_formed, find_ill_formed_part, find_parts_depths};
 pub use crate::padded::Padded;
 pub use crate::place::{Place, Start};
 pub use crate::ready_breaks::ReadyCommaBreak;

@@ -5,15 +5,27 @@ ghost use Rattle.graphql_text.specs.layout.Levels.{IsCount};
 ghost use Rattle.graphql_text.specs.code.Place.{breaks};
 ghost use Rattle.graphql_text.specs.code.Stack.{CanWrite, IsKept};
 ghost use Rattle.graphql_text.specs.code.Writing.{Writes};
-ghost use Rattle.graphql_values.specs.kinds.DefaultValues.{default_value_flaws, default_value_nesting, default_value_shape};
+ghost use Rattle.graphql_values.specs.kinds.DefaultValues.{default_value_flaws, default_value_nesting, default_value_obeys, default_value_shape};
 ghost use Rattle.graphql_values.specs.trees.ValueTrees.{default_value_tree};
 
 use crate::constness::Constness;
 use crate::value::Value;
-use crate::value::print::{ValueEntry, find_ill_formed_value, find_value_nesting, write_value};
+use crate::value::print::{
+    ValueEntry, find_ill_formed_value, find_value_nesting, is_value_well_formed, write_value,
+};
 use graphql_base::node::Node;
 use graphql_text::ill_formed::IllFormed;
 use graphql_text::writers::{Place, Stack, Target, write_words};
+
+/// Whether a default value, if there is one, is well formed in its const context.
+pub fn is_default_value_well_formed(default_value: Option<&Node<Value>>) -> bool
+    ensures { result ≡ default_value_obeys (default_value_tree default_value.entry) }
+{
+    match default_value {
+        Some(value) => is_value_well_formed(value, Constness::Const),
+        None => true,
+    }
+}
 
 /// Where a default value isn't well formed in its const context. `None` also without one.
 pub fn find_ill_formed_default_value<'a>(

@@ -59,7 +59,25 @@ impl Definition {
     pub fn is_well_formed(&self) -> bool
         ensures { result ≡ definition_kind.obeys (definition_tree self.now) }
     {
-        SyntaxTree::is_well_formed(self)
+        match self {
+            Definition::OperationDefinition(operation) => operation.is_well_formed(),
+            Definition::FragmentDefinition(fragment) => fragment.is_well_formed(),
+            Definition::DirectiveDefinition(directive) => directive.is_well_formed(),
+            Definition::SchemaDefinition(schema) => schema.is_well_formed(),
+            Definition::ScalarTypeDefinition(scalar) => scalar.is_well_formed(),
+            Definition::ObjectTypeDefinition(object) => object.is_well_formed(),
+            Definition::InterfaceTypeDefinition(interface) => interface.is_well_formed(),
+            Definition::UnionTypeDefinition(union_type) => union_type.is_well_formed(),
+            Definition::EnumTypeDefinition(enum_type) => enum_type.is_well_formed(),
+            Definition::InputObjectTypeDefinition(input) => input.is_well_formed(),
+            Definition::SchemaExtension(schema) => schema.is_well_formed(),
+            Definition::ScalarTypeExtension(scalar) => scalar.is_well_formed(),
+            Definition::ObjectTypeExtension(object) => object.is_well_formed(),
+            Definition::InterfaceTypeExtension(interface) => interface.is_well_formed(),
+            Definition::UnionTypeExtension(union_type) => union_type.is_well_formed(),
+            Definition::EnumTypeExtension(enum_type) => enum_type.is_well_formed(),
+            Definition::InputObjectTypeExtension(input) => input.is_well_formed(),
+        }
     }
 }
 
@@ -74,6 +92,10 @@ impl SyntaxTree for Definition {
 
     fn find_ill_formed(&self) -> Option<IllFormed<'_>> {
         Definition::find_ill_formed(self)
+    }
+
+    fn is_well_formed(&self) -> bool {
+        Definition::is_well_formed(self)
     }
 
     fn find_depths(&self) -> Option<Depths> {

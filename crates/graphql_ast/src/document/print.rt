@@ -1,6 +1,6 @@
 //! Documents are printed: the writer of definitions in a row, and the `Syntax` of a document.
 ghost use Rattle.std.specs.Prelude.{◌≡◌, ◌≤◌, if◌then◌else◌, IfOk, IsOk, Some};
-ghost use Rattle.std.specs.List.{flat_map, list_any, position};
+ghost use Rattle.std.specs.List.{flat_map, list_all, list_any, position};
 ghost use Rattle.graphql_text.specs.code.IllFormed.{IsFirstFlaw};
 ghost use Rattle.graphql_text.specs.parts.Greatest.{greatest};
 ghost use Rattle.graphql_text.specs.layout.Layout.{is_front};
@@ -29,6 +29,18 @@ use graphql_text::writers::{
 use graphql_values::writers::Stacks;
 use std::alloc::{AllocError, Global};
 use std::fmt;
+
+/// Whether each definition is well formed.
+fn are_definitions_well_formed(definitions: &[Definition]) -> bool
+    ensures { result ≡ list_all definition_kind.obeys (definition_trees definitions.now) }
+{
+    for definition in definitions {
+        if !definition.is_well_formed() {
+            return false;
+        }
+    }
+    true
+}
 
 /// Where definitions aren't well formed: the first of their flaws.
 fn find_ill_formed_definition(definitions: &[Definition]) -> Option<IllFormed<'_>>
@@ -160,7 +172,7 @@ impl Document {
     pub fn is_well_formed(&self) -> bool
         ensures { result ≡ document_kind.obeys (document_tree self.now) }
     {
-        SyntaxTree::is_well_formed(self)
+        !self.definitions.is_empty() && are_definitions_well_formed(&self.definitions)
     }
 }
 
@@ -175,6 +187,10 @@ impl SyntaxTree for Document {
 
     fn find_ill_formed(&self) -> Option<IllFormed<'_>> {
         Document::find_ill_formed(self)
+    }
+
+    fn is_well_formed(&self) -> bool {
+        Document::is_well_formed(self)
     }
 
     fn find_depths(&self) -> Option<Depths> {

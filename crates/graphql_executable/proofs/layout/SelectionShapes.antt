@@ -1,5 +1,5 @@
 -- The trees of selections, fields and inline fragments, and what their nesting and their side conditions are.
-use Rattle.std.proofs.Common.{arith, ◌≡◌, ◌==◌, max, not, List, [], ◌∷◌, ◌++◌, false, length, refl, ap, sym, append-nil, ◌∙◌}
+use Rattle.std.proofs.Common.{arith, ◌≡◌, ◌==◌, ◌&&◌, max, not, List, [], ◌∷◌, ◌++◌, false, length, refl, ap, sym, append-nil, ◌∙◌}
 use Rattle.std.proofs.lemmas.Bool.{true≢false}
 use Rattle.std.proofs.Math.Dec.{eqb-suc-zero}
 use Rattle.std.specs.Option.{option_map}
@@ -17,13 +17,13 @@ use Rattle.graphql_executable.specs.trees.ExecutableTrees.{inline_fragment_tree_
 use Rattle.graphql_executable.specs.kinds.Fields.{FieldTree, field_kind, selection_of_field}
 use Rattle.graphql_executable.specs.kinds.FragmentSpreads.{fragment_spread_kind, fragment_spread_shape}
 use Rattle.graphql_executable.specs.kinds.InlineFragments.{InlineFragmentTree, inline_fragment_kind, selection_of_inline_fragment}
-use Rattle.graphql_executable.specs.kinds.SelectionHeads.{FieldHeadTree, InlineFragmentHeadTree, field_head_nesting}
-use Rattle.graphql_executable.specs.kinds.SelectionHeads.{field_head_shape, inline_fragment_head_nesting}
+use Rattle.graphql_executable.specs.kinds.SelectionHeads.{FieldHeadTree, InlineFragmentHeadTree, field_head_nesting, field_head_obeys}
+use Rattle.graphql_executable.specs.kinds.SelectionHeads.{field_head_shape, inline_fragment_head_nesting, inline_fragment_head_obeys}
 use Rattle.graphql_executable.specs.kinds.SelectionHeads.{inline_fragment_head_shape}
 use Rattle.graphql_executable.specs.code.SelectionWalk.{has_set}
 use Rattle.graphql_executable.specs.kinds.Selections.{SelectionTree, SelectionTrees, field_selection, has_selections, inline_selection}
-use Rattle.graphql_executable.specs.kinds.Selections.{more_selections, no_selections, selection_flaws, selection_nesting, selection_shape}
-use Rattle.graphql_executable.specs.kinds.Selections.{selection_set_nesting, spread_selection}
+use Rattle.graphql_executable.specs.kinds.Selections.{more_selections, no_selections, selection_flaws, selection_nesting, selection_obeys, selection_shape}
+use Rattle.graphql_executable.specs.kinds.Selections.{selection_set_nesting, selection_set_obeys, selections_obey, spread_selection}
 use Rattle.graphql_executable.specs.declared.field.Field.{Field, fold_out-Field}
 use Rattle.graphql_executable.specs.declared.fragment_spread.FragmentSpread.{FragmentSpread}
 use Rattle.graphql_executable.specs.declared.inline_fragment.InlineFragment.{InlineFragment, fold_out-InlineFragment}
@@ -132,6 +132,25 @@ plain_spread_nesting n d = nesting_spread n ∙ spread_without n.value.directive
 
 pub ruleset plain_selection_steps = (plain_field_nesting, plain_spread_nesting)
 
+pub obeys_field : (n : Node Field) →
+    selection_obeys (selection_tree (variant.Field n))
+    ≡ (field_head_obeys (field_tree n.value).head && selections_obey (selection_trees n.value.selection_set.items))
+obeys_field n =
+    ap selection_obeys (selection_is_field n)
+    ∙ ap (λ set. field_head_obeys (field_tree n.value).head && selections_obey set) (field_selections_are n.value)
+
+pub obeys_spread : (n : Node FragmentSpread) →
+    selection_obeys (selection_tree (variant.FragmentSpread n)) ≡ fragment_spread_kind.obeys (fragment_spread_tree n.value)
+obeys_spread n = ap selection_obeys (selection_is_spread n)
+
+pub obeys_inline : (n : Node InlineFragment) →
+    selection_obeys (selection_tree (variant.InlineFragment n))
+    ≡ (inline_fragment_head_obeys (inline_fragment_tree n.value).head
+    && selection_set_obeys (selection_trees n.value.selection_set.items))
+obeys_inline n =
+    ap selection_obeys (selection_is_inline n)
+    ∙ ap (λ set. inline_fragment_head_obeys (inline_fragment_tree n.value).head && selection_set_obeys set) (inline_selections_are n.value)
+
 pub flaws_field : (n : Node Field) → selection_flaws (selection_tree (variant.Field n)) ≡ field_kind.flaws (field_tree n.value)
 flaws_field n = ap selection_flaws (selection_is_field n)
 
@@ -189,6 +208,8 @@ empty_inline_shape n none =
     ∙ empty_inline (inline_fragment_tree n.value).head (inline_fragment_tree n.value).selections (rw (selection_is_inline n) at none)
 
 -- what the walk over selections cites
+pub ruleset selection_obeys_steps = (obeys_field, obeys_spread, obeys_inline)
+
 pub ruleset selection_flaws_steps = (flaws_field, flaws_spread, flaws_inline)
 
 pub ruleset inline_fragment_steps = (inline_selections_are, inline_fragment_head_is)

@@ -11,13 +11,14 @@ ghost use Rattle.graphql_text.specs.code.Stack.{CanWrite, IsKept};
 ghost use Rattle.graphql_text.specs.code.Writing.{Writes, WritesAnywhere};
 ghost use Rattle.graphql_executable.specs.trees.ExecutableTrees.{field_tree};
 ghost use Rattle.graphql_executable.specs.kinds.Fields.{field_kind};
-ghost use Rattle.graphql_executable.specs.kinds.SelectionHeads.{alias_shape, field_head_nesting, field_head_flaws, field_head_shape};
+ghost use Rattle.graphql_executable.specs.kinds.SelectionHeads.{alias_shape, field_head_nesting, field_head_flaws, field_head_shape, field_head_obeys};
 ghost use Rattle.graphql_executable.specs.lemmas.Selections.{field_laws};
 
 use crate::field::Field;
 use crate::optional_parts::{write_optional_arguments, write_optional_directives};
 use crate::selection::print::{
-    find_ill_formed_in_field, find_selection_set_nesting, finish_sets, open_field,
+    are_selections_well_formed, find_ill_formed_in_field, find_selection_set_nesting, finish_sets,
+    open_field,
 };
 use crate::stacks::ExecutableStacks;
 use graphql_base::name::Name;
@@ -27,11 +28,21 @@ use graphql_text::writers::{
     Depths, Place, Stack, Start, Target, Written, write_name, write_name_then, write_whole,
 };
 use graphql_values::writers::{
-    Constness, ValueEntry, find_arguments_nesting, find_directives_nesting,
-    find_ill_formed_argument, find_ill_formed_directive,
+    Constness, ValueEntry, are_arguments_well_formed, are_directives_well_formed,
+    find_arguments_nesting, find_directives_nesting, find_ill_formed_argument,
+    find_ill_formed_directive,
 };
 use std::alloc::AllocError;
 use std::fmt;
+
+/// Whether the arguments and the directives of a field are well formed.
+#[tactic(auto, using(crate::proofs::layout::SelectionShapes::field_head_is))]
+pub(crate) fn is_field_head_well_formed(field: &Field) -> bool
+    ensures { result ≡ field_head_obeys (field_tree field.now).head }
+{
+    are_arguments_well_formed(&field.arguments, Constness::NonConst)
+        && are_directives_well_formed(&field.directives, Constness::NonConst)
+}
 
 /// Where the arguments and the directives of a field aren't well formed.
 #[tactic(auto, using(crate::proofs::layout::SelectionShapes::field_head_is, graphql_text::proofs::kinds::FlawsTold::flaw_steps))]
@@ -109,10 +120,11 @@ impl Field {
 
     /// Whether no fragment spread in it is named `on`, each inline fragment in it has a selection, and no enum value in
     /// its arguments and directives is `true`, `false` or `null`. Variables are allowed.
+    #[tactic(auto, using(crate::proofs::layout::SelectionShapes::field_selections_are))]
     pub fn is_well_formed(&self) -> bool
         ensures { result ≡ field_kind.obeys (field_tree self.now) }
     {
-        SyntaxTree::is_well_formed(self)
+        is_field_head_well_formed(self) && are_selections_well_formed(&self.selection_set)
     }
 }
 
@@ -127,6 +139,10 @@ impl SyntaxTree for Field {
 
     fn find_ill_formed(&self) -> Option<IllFormed<'_>> {
         Field::find_ill_formed(self)
+    }
+
+    fn is_well_formed(&self) -> bool {
+        Field::is_well_formed(self)
     }
 
     #[tactic(auto, using(crate::proofs::layout::SelectionShapes::field_selections_are))]

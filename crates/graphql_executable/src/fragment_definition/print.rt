@@ -10,7 +10,8 @@ ghost use Rattle.graphql_executable.specs.lemmas.Definitions.{fragment_definitio
 use crate::fragment_definition::FragmentDefinition;
 use crate::fragment_spread::print::is_fragment_name;
 use crate::selection::print::{
-    find_ill_formed_set, find_selection_set_nesting, write_selection_set,
+    find_ill_formed_set, find_selection_set_nesting, is_selection_set_well_formed,
+    write_selection_set,
 };
 use crate::stacks::ExecutableStacks;
 use graphql_text::engine::{Serialize, Syntax, SyntaxTree};
@@ -19,7 +20,9 @@ use graphql_text::writers::{
     Depths, Place, Start, Target, Written, ill_formed_unless, write_leading_description,
     write_name, write_whole, write_words,
 };
-use graphql_values::writers::{Constness, find_directives_nesting, find_ill_formed_directive};
+use graphql_values::writers::{
+    Constness, are_directives_well_formed, find_directives_nesting, find_ill_formed_directive,
+};
 use std::alloc::AllocError;
 use std::fmt;
 
@@ -54,7 +57,9 @@ impl FragmentDefinition {
     pub fn is_well_formed(&self) -> bool
         ensures { result ≡ fragment_definition_kind.obeys (fragment_definition_tree self.now) }
     {
-        SyntaxTree::is_well_formed(self)
+        is_fragment_name(self.name.as_str())
+            && are_directives_well_formed(&self.directives, Constness::NonConst)
+            && is_selection_set_well_formed(&self.selection_set)
     }
 }
 
@@ -69,6 +74,10 @@ impl SyntaxTree for FragmentDefinition {
 
     fn find_ill_formed(&self) -> Option<IllFormed<'_>> {
         FragmentDefinition::find_ill_formed(self)
+    }
+
+    fn is_well_formed(&self) -> bool {
+        FragmentDefinition::is_well_formed(self)
     }
 
     fn find_depths(&self) -> Option<Depths> {

@@ -16,7 +16,9 @@ use graphql_text::writers::{
     Depths, Place, Stack, Start, Target, Written, ill_formed_unless, write_name, write_whole,
     write_words,
 };
-use graphql_values::writers::{Constness, ValueEntry, find_ill_formed_directive};
+use graphql_values::writers::{
+    Constness, ValueEntry, are_directives_well_formed, find_ill_formed_directive,
+};
 use std::alloc::AllocError;
 use std::fmt;
 
@@ -53,7 +55,8 @@ impl FragmentSpread {
     pub fn is_well_formed(&self) -> bool
         ensures { result ≡ fragment_spread_kind.obeys (fragment_spread_tree self.now) }
     {
-        SyntaxTree::is_well_formed(self)
+        is_fragment_name(self.fragment_name.as_str())
+            && are_directives_well_formed(&self.directives, Constness::NonConst)
     }
 }
 
@@ -68,6 +71,10 @@ impl SyntaxTree for FragmentSpread {
 
     fn find_ill_formed(&self) -> Option<IllFormed<'_>> {
         FragmentSpread::find_ill_formed(self)
+    }
+
+    fn is_well_formed(&self) -> bool {
+        FragmentSpread::is_well_formed(self)
     }
 
     fn find_depths(&self) -> Option<Depths> {

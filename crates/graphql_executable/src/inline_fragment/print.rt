@@ -12,14 +12,14 @@ ghost use Rattle.graphql_text.specs.code.Writing.{Writes, WritesAnywhere};
 ghost use Rattle.graphql_executable.specs.trees.ExecutableTrees.{inline_fragment_tree};
 ghost use Rattle.graphql_executable.specs.kinds.FragmentNames.{type_condition_shape};
 ghost use Rattle.graphql_executable.specs.kinds.InlineFragments.{inline_fragment_kind};
-ghost use Rattle.graphql_executable.specs.kinds.SelectionHeads.{inline_fragment_head_nesting, inline_fragment_head_flaws, inline_fragment_head_shape};
+ghost use Rattle.graphql_executable.specs.kinds.SelectionHeads.{inline_fragment_head_nesting, inline_fragment_head_flaws, inline_fragment_head_shape, inline_fragment_head_obeys};
 ghost use Rattle.graphql_executable.specs.lemmas.Selections.{inline_fragment_laws};
 
 use crate::inline_fragment::InlineFragment;
 use crate::optional_parts::write_optional_directives;
 use crate::selection::print::{
     find_ill_formed_in_inline_fragment, find_selection_set_nesting, finish_sets,
-    open_inline_fragment,
+    is_selection_set_well_formed, open_inline_fragment,
 };
 use crate::stacks::ExecutableStacks;
 use graphql_base::name::NamedType;
@@ -29,10 +29,19 @@ use graphql_text::writers::{
     Depths, Place, Stack, Start, Target, Written, write_name, write_whole, write_words,
 };
 use graphql_values::writers::{
-    Constness, ValueEntry, find_directives_nesting, find_ill_formed_directive,
+    Constness, ValueEntry, are_directives_well_formed, find_directives_nesting,
+    find_ill_formed_directive,
 };
 use std::alloc::AllocError;
 use std::fmt;
+
+/// Whether the directives of an inline fragment are well formed.
+#[tactic(auto, using(crate::proofs::layout::SelectionShapes::inline_fragment_head_is))]
+pub(crate) fn is_inline_fragment_head_well_formed(fragment: &InlineFragment) -> bool
+    ensures { result ≡ inline_fragment_head_obeys (inline_fragment_tree fragment.now).head }
+{
+    are_directives_well_formed(&fragment.directives, Constness::NonConst)
+}
 
 /// Where the directives of an inline fragment aren't well formed.
 #[tactic(auto, using(crate::proofs::layout::SelectionShapes::inline_fragment_head_is))]
@@ -108,10 +117,12 @@ impl InlineFragment {
 
     /// Whether it has a selection, and so has each inline fragment in it; no fragment spread in it is named `on`; and
     /// no enum value in its arguments and directives is `true`, `false` or `null`. Variables are allowed.
+    #[tactic(auto, using(crate::proofs::layout::SelectionShapes::inline_selections_are))]
     pub fn is_well_formed(&self) -> bool
         ensures { result ≡ inline_fragment_kind.obeys (inline_fragment_tree self.now) }
     {
-        SyntaxTree::is_well_formed(self)
+        is_inline_fragment_head_well_formed(self)
+            && is_selection_set_well_formed(&self.selection_set)
     }
 }
 
@@ -126,6 +137,10 @@ impl SyntaxTree for InlineFragment {
 
     fn find_ill_formed(&self) -> Option<IllFormed<'_>> {
         InlineFragment::find_ill_formed(self)
+    }
+
+    fn is_well_formed(&self) -> bool {
+        InlineFragment::is_well_formed(self)
     }
 
     #[tactic(auto, using(crate::proofs::layout::SelectionShapes::inline_selections_are))]

@@ -17,7 +17,8 @@ ghost use Rattle.graphql_executable.specs.lemmas.Definitions.{operation_definiti
 use crate::operation_definition::OperationDefinition;
 use crate::optional_parts::write_optional_directives;
 use crate::selection::print::{
-    find_ill_formed_set, find_selection_set_nesting, write_selection_set,
+    find_ill_formed_set, find_selection_set_nesting, is_selection_set_well_formed,
+    write_selection_set,
 };
 use crate::stacks::ExecutableStacks;
 use crate::variable_definition::print::some_variables_want_lines;
@@ -25,12 +26,13 @@ use graphql_base::name::Name;
 use graphql_text::engine::{Serialize, Syntax, SyntaxTree};
 use graphql_text::ill_formed::IllFormed;
 use graphql_text::writers::{
-    Depths, Place, Start, Target, Written, find_ill_formed_part, find_parts_depths,
-    write_first_indent, write_leading_description, write_name, write_words,
+    Depths, Place, Start, Target, Written, are_parts_well_formed, find_ill_formed_part,
+    find_parts_depths, write_first_indent, write_leading_description, write_name, write_words,
 };
 use graphql_values::operation_type::OperationType;
 use graphql_values::writers::{
-    Constness, find_directives_nesting, find_ill_formed_directive, write_parameters,
+    Constness, are_directives_well_formed, find_directives_nesting, find_ill_formed_directive,
+    write_parameters,
 };
 use std::alloc::AllocError;
 use std::fmt;
@@ -130,7 +132,9 @@ impl OperationDefinition {
     pub fn is_well_formed(&self) -> bool
         ensures { result ≡ operation_definition_kind.obeys (operation_definition_tree self.now) }
     {
-        SyntaxTree::is_well_formed(self)
+        are_parts_well_formed(&self.variables)
+            && are_directives_well_formed(&self.directives, Constness::NonConst)
+            && is_selection_set_well_formed(&self.selection_set)
     }
 }
 
@@ -145,6 +149,10 @@ impl SyntaxTree for OperationDefinition {
 
     fn find_ill_formed(&self) -> Option<IllFormed<'_>> {
         OperationDefinition::find_ill_formed(self)
+    }
+
+    fn is_well_formed(&self) -> bool {
+        OperationDefinition::is_well_formed(self)
     }
 
     fn find_depths(&self) -> Option<Depths> {

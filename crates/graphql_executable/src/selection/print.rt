@@ -16,15 +16,18 @@ ghost use Rattle.graphql_executable.specs.trees.ExecutableTrees.{field_tree, inl
 ghost use Rattle.graphql_executable.specs.kinds.Fields.{field_kind, selection_of_field};
 ghost use Rattle.graphql_executable.specs.kinds.InlineFragments.{inline_fragment_kind, selection_of_inline_fragment};
 ghost use Rattle.graphql_executable.specs.code.SelectionWalk.{CanFinish, CanGoOn, CanOpen, Finishes, GoesOn, LoseNoRoom, Opens, OpensSelection, has_set, need_with, set_level, stack_items};
-ghost use Rattle.graphql_executable.specs.kinds.Selections.{optional_braced_shape, selection_flaws, selection_kind, selection_nesting, selection_set_flaws, selection_set_nesting, selection_set_shape, selection_shape, selections_flaws, selections_shapes};
+ghost use Rattle.graphql_executable.specs.kinds.Selections.{optional_braced_shape, selection_flaws, selection_kind, selection_nesting, selection_obeys, selection_set_flaws, selection_set_nesting, selection_set_obeys, selection_set_shape, selection_shape, selections_flaws, selections_obey, selections_shapes};
 ghost use Rattle.graphql_executable.specs.lemmas.Selections.{selection_laws};
 
 use crate::field::Field;
-use crate::field::print::{find_field_head_nesting, find_ill_formed_field_head, write_field_head};
+use crate::field::print::{
+    find_field_head_nesting, find_ill_formed_field_head, is_field_head_well_formed,
+    write_field_head,
+};
 use crate::inline_fragment::InlineFragment;
 use crate::inline_fragment::print::{
     find_ill_formed_inline_fragment_head, find_inline_fragment_head_nesting,
-    write_inline_fragment_head,
+    is_inline_fragment_head_well_formed, write_inline_fragment_head,
 };
 use crate::selection::Selection;
 use crate::stacks::{ExecutableStacks, SelectionEntry};
@@ -38,6 +41,44 @@ use graphql_text::writers::{
 use graphql_values::writers::{ValueEntry, find_directives_nesting};
 use std::alloc::{AllocError, Global};
 use std::fmt;
+
+/// Whether a selection is well formed: no fragment spread in it is named `on`, each inline fragment in it has a
+/// selection, and no enum value in its arguments and directives is `true`, `false` or `null`.
+#[cycle(selection_is_well_formed)]
+#[tactic(auto, using(crate::proofs::layout::SelectionShapes::selection_obeys_steps))]
+fn is_selection_well_formed(selection: &Selection) -> bool
+    ensures { result ≡ selection_obeys (selection_tree selection.now) }
+{
+    match selection {
+        Selection::Field(field) => is_field_head_well_formed(field)
+            && are_selections_well_formed(&field.selection_set),
+        Selection::FragmentSpread(spread) => spread.is_well_formed(),
+        Selection::InlineFragment(fragment) => is_inline_fragment_head_well_formed(fragment)
+            && is_selection_set_well_formed(&fragment.selection_set),
+    }
+}
+
+/// Whether each selection is well formed.
+#[cycle(selection_is_well_formed)]
+pub(crate) fn are_selections_well_formed(selections: &[Selection]) -> bool
+    ensures { result ≡ selections_obey (selection_trees selections.now) }
+{
+    for selection in selections {
+        if !is_selection_well_formed(selection) {
+            return false;
+        }
+    }
+    true
+}
+
+/// Whether there is a selection, and each is well formed.
+#[cycle(selection_is_well_formed)]
+#[tactic(auto, using(crate::proofs::layout::SelectionShapes::has_selections_is))]
+pub(crate) fn is_selection_set_well_formed(selections: &[Selection]) -> bool
+    ensures { result ≡ selection_set_obeys (selection_trees selections.now) }
+{
+    !selections.is_empty() && are_selections_well_formed(selections)
+}
 
 /// Where a selection isn't well formed: a fragment spread in it is named `on`, an inline fragment in it has no
 /// selection, or an enum value in its arguments and directives is `true`, `false` or `null`.
@@ -470,7 +511,7 @@ impl Selection {
     pub fn is_well_formed(&self) -> bool
         ensures { result ≡ selection_kind.obeys (selection_tree self.now) }
     {
-        SyntaxTree::is_well_formed(self)
+        is_selection_well_formed(self)
     }
 
     /// The allocator of its directives.
@@ -494,6 +535,10 @@ impl SyntaxTree for Selection {
 
     fn find_ill_formed(&self) -> Option<IllFormed<'_>> {
         Selection::find_ill_formed(self)
+    }
+
+    fn is_well_formed(&self) -> bool {
+        Selection::is_well_formed(self)
     }
 
     fn find_depths(&self) -> Option<Depths> {

@@ -18,9 +18,9 @@ use graphql_text::writers::{
     write_words,
 };
 use graphql_values::writers::{
-    Constness, Stacks, find_default_value_nesting, find_directives_nesting,
-    find_ill_formed_default_value, find_ill_formed_directive, find_list_depth, write_default_value,
-    write_type,
+    Constness, Stacks, are_directives_well_formed, find_default_value_nesting,
+    find_directives_nesting, find_ill_formed_default_value, find_ill_formed_directive,
+    find_list_depth, is_default_value_well_formed, write_default_value, write_type,
 };
 use std::alloc::AllocError;
 use std::fmt;
@@ -65,7 +65,8 @@ impl VariableDefinition {
     pub fn is_well_formed(&self) -> bool
         ensures { result ≡ variable_definition_kind.obeys (variable_definition_tree self.now) }
     {
-        SyntaxTree::is_well_formed(self)
+        is_default_value_well_formed(self.default_value.as_ref())
+            && are_directives_well_formed(&self.directives, Constness::Const)
     }
 }
 
@@ -80,6 +81,10 @@ impl SyntaxTree for VariableDefinition {
 
     fn find_ill_formed(&self) -> Option<IllFormed<'_>> {
         VariableDefinition::find_ill_formed(self)
+    }
+
+    fn is_well_formed(&self) -> bool {
+        VariableDefinition::is_well_formed(self)
     }
 
     fn find_depths(&self) -> Option<Depths> {

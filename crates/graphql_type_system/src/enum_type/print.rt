@@ -12,10 +12,13 @@ use crate::members::write_directives_and_members;
 use graphql_text::engine::{Serialize, Syntax, SyntaxTree};
 use graphql_text::ill_formed::{IllFormed, SideCondition};
 use graphql_text::writers::{
-    Depths, Place, Start, Target, Written, find_ill_formed_part, find_parts_depths,
-    ill_formed_unless, write_leading_description, write_name, write_whole, write_words,
+    Depths, Place, Start, Target, Written, are_parts_well_formed, find_ill_formed_part,
+    find_parts_depths, ill_formed_unless, write_leading_description, write_name, write_whole,
+    write_words,
 };
-use graphql_values::writers::{Constness, Stacks, find_ill_formed_directive};
+use graphql_values::writers::{
+    Constness, Stacks, are_directives_well_formed, find_ill_formed_directive,
+};
 use std::alloc::AllocError;
 use std::fmt;
 
@@ -44,7 +47,8 @@ impl EnumTypeDefinition {
     pub fn is_well_formed(&self) -> bool
         ensures { result ≡ enum_type_definition_kind.obeys (enum_type_definition_tree self.now) }
     {
-        SyntaxTree::is_well_formed(self)
+        are_directives_well_formed(&self.directives, Constness::Const)
+            && are_parts_well_formed(&self.values)
     }
 }
 
@@ -59,6 +63,10 @@ impl SyntaxTree for EnumTypeDefinition {
 
     fn find_ill_formed(&self) -> Option<IllFormed<'_>> {
         EnumTypeDefinition::find_ill_formed(self)
+    }
+
+    fn is_well_formed(&self) -> bool {
+        EnumTypeDefinition::is_well_formed(self)
     }
 
     #[tactic(auto, using(crate::proofs::CanWriteWithoutTypes::no_lists))]
@@ -132,7 +140,9 @@ impl EnumTypeExtension {
     pub fn is_well_formed(&self) -> bool
         ensures { result ≡ enum_type_extension_kind.obeys (enum_type_extension_tree self.now) }
     {
-        SyntaxTree::is_well_formed(self)
+        (!self.directives.is_empty() || !self.values.is_empty())
+            && are_directives_well_formed(&self.directives, Constness::Const)
+            && are_parts_well_formed(&self.values)
     }
 }
 
@@ -147,6 +157,10 @@ impl SyntaxTree for EnumTypeExtension {
 
     fn find_ill_formed(&self) -> Option<IllFormed<'_>> {
         EnumTypeExtension::find_ill_formed(self)
+    }
+
+    fn is_well_formed(&self) -> bool {
+        EnumTypeExtension::is_well_formed(self)
     }
 
     #[tactic(auto, using(crate::proofs::CanWriteWithoutTypes::no_lists))]

@@ -14,7 +14,9 @@ use graphql_text::writers::{
     Depths, Place, Start, Target, Written, ill_formed_unless, write_leading_description,
     write_name, write_whole,
 };
-use graphql_values::writers::{Constness, Stacks, find_ill_formed_directive, is_enum_name};
+use graphql_values::writers::{
+    Constness, Stacks, are_directives_well_formed, find_ill_formed_directive, is_enum_name,
+};
 use std::alloc::AllocError;
 use std::fmt;
 
@@ -45,7 +47,8 @@ impl EnumValueDefinition {
     pub fn is_well_formed(&self) -> bool
         ensures { result ≡ enum_value_definition_kind.obeys (enum_value_definition_tree self.now) }
     {
-        SyntaxTree::is_well_formed(self)
+        is_enum_name(self.value.as_str())
+            && are_directives_well_formed(&self.directives, Constness::Const)
     }
 }
 
@@ -60,6 +63,10 @@ impl SyntaxTree for EnumValueDefinition {
 
     fn find_ill_formed(&self) -> Option<IllFormed<'_>> {
         EnumValueDefinition::find_ill_formed(self)
+    }
+
+    fn is_well_formed(&self) -> bool {
+        EnumValueDefinition::is_well_formed(self)
     }
 
     fn find_depths(&self) -> Option<Depths> {

@@ -10,12 +10,12 @@ use crate::field_definition::FieldDefinition;
 use graphql_text::engine::{Serialize, Syntax, SyntaxTree};
 use graphql_text::ill_formed::IllFormed;
 use graphql_text::writers::{
-    Depths, Place, Start, Target, Written, find_ill_formed_part, find_parts_depths,
-    write_leading_description, write_name, write_whole, write_words,
+    Depths, Place, Start, Target, Written, are_parts_well_formed, find_ill_formed_part,
+    find_parts_depths, write_leading_description, write_name, write_whole, write_words,
 };
 use graphql_values::writers::{
-    Constness, Stacks, find_directives_nesting, find_ill_formed_directive, find_list_depth,
-    some_want_lines, write_parameters, write_type,
+    Constness, Stacks, are_directives_well_formed, find_directives_nesting,
+    find_ill_formed_directive, find_list_depth, some_want_lines, write_parameters, write_type,
 };
 use std::alloc::AllocError;
 use std::fmt;
@@ -46,7 +46,8 @@ impl FieldDefinition {
     pub fn is_well_formed(&self) -> bool
         ensures { result ≡ field_definition_kind.obeys (field_definition_tree self.now) }
     {
-        SyntaxTree::is_well_formed(self)
+        are_parts_well_formed(&self.arguments)
+            && are_directives_well_formed(&self.directives, Constness::Const)
     }
 }
 
@@ -61,6 +62,10 @@ impl SyntaxTree for FieldDefinition {
 
     fn find_ill_formed(&self) -> Option<IllFormed<'_>> {
         FieldDefinition::find_ill_formed(self)
+    }
+
+    fn is_well_formed(&self) -> bool {
+        FieldDefinition::is_well_formed(self)
     }
 
     fn find_depths(&self) -> Option<Depths> {

@@ -14,10 +14,13 @@ use crate::members::write_directives_and_members;
 use graphql_text::engine::{Serialize, Syntax, SyntaxTree};
 use graphql_text::ill_formed::{IllFormed, SideCondition};
 use graphql_text::writers::{
-    Depths, Place, Start, Target, Written, find_ill_formed_part, find_parts_depths,
-    ill_formed_unless, write_leading_description, write_name, write_whole, write_words,
+    Depths, Place, Start, Target, Written, are_parts_well_formed, find_ill_formed_part,
+    find_parts_depths, ill_formed_unless, write_leading_description, write_name, write_whole,
+    write_words,
 };
-use graphql_values::writers::{Constness, Stacks, find_ill_formed_directive};
+use graphql_values::writers::{
+    Constness, Stacks, are_directives_well_formed, find_ill_formed_directive,
+};
 use std::alloc::AllocError;
 use std::fmt;
 
@@ -48,7 +51,8 @@ impl InputObjectTypeDefinition {
         ensures { result
             ≡ input_object_type_definition_kind.obeys (input_object_type_definition_tree self.now) }
     {
-        SyntaxTree::is_well_formed(self)
+        are_directives_well_formed(&self.directives, Constness::Const)
+            && are_parts_well_formed(&self.fields)
     }
 }
 
@@ -63,6 +67,10 @@ impl SyntaxTree for InputObjectTypeDefinition {
 
     fn find_ill_formed(&self) -> Option<IllFormed<'_>> {
         InputObjectTypeDefinition::find_ill_formed(self)
+    }
+
+    fn is_well_formed(&self) -> bool {
+        InputObjectTypeDefinition::is_well_formed(self)
     }
 
     fn find_depths(&self) -> Option<Depths> {
@@ -145,7 +153,9 @@ impl InputObjectTypeExtension {
         ensures { result
             ≡ input_object_type_extension_kind.obeys (input_object_type_extension_tree self.now) }
     {
-        SyntaxTree::is_well_formed(self)
+        (!self.directives.is_empty() || !self.fields.is_empty())
+            && are_directives_well_formed(&self.directives, Constness::Const)
+            && are_parts_well_formed(&self.fields)
     }
 }
 
@@ -160,6 +170,10 @@ impl SyntaxTree for InputObjectTypeExtension {
 
     fn find_ill_formed(&self) -> Option<IllFormed<'_>> {
         InputObjectTypeExtension::find_ill_formed(self)
+    }
+
+    fn is_well_formed(&self) -> bool {
+        InputObjectTypeExtension::is_well_formed(self)
     }
 
     fn find_depths(&self) -> Option<Depths> {

@@ -13,10 +13,13 @@ use crate::members::write_directives_and_members;
 use graphql_text::engine::{Serialize, Syntax, SyntaxTree};
 use graphql_text::ill_formed::{IllFormed, SideCondition};
 use graphql_text::writers::{
-    Depths, Place, Start, Target, Written, find_ill_formed_part, find_parts_depths,
-    ill_formed_unless, write_leading_description, write_name, write_whole, write_words,
+    Depths, Place, Start, Target, Written, are_parts_well_formed, find_ill_formed_part,
+    find_parts_depths, ill_formed_unless, write_leading_description, write_name, write_whole,
+    write_words,
 };
-use graphql_values::writers::{Constness, Stacks, find_ill_formed_directive};
+use graphql_values::writers::{
+    Constness, Stacks, are_directives_well_formed, find_ill_formed_directive,
+};
 use std::alloc::AllocError;
 use std::fmt;
 
@@ -47,7 +50,8 @@ impl InterfaceTypeDefinition {
         ensures { result
             ≡ interface_type_definition_kind.obeys (interface_type_definition_tree self.now) }
     {
-        SyntaxTree::is_well_formed(self)
+        are_directives_well_formed(&self.directives, Constness::Const)
+            && are_parts_well_formed(&self.fields)
     }
 }
 
@@ -62,6 +66,10 @@ impl SyntaxTree for InterfaceTypeDefinition {
 
     fn find_ill_formed(&self) -> Option<IllFormed<'_>> {
         InterfaceTypeDefinition::find_ill_formed(self)
+    }
+
+    fn is_well_formed(&self) -> bool {
+        InterfaceTypeDefinition::is_well_formed(self)
     }
 
     fn find_depths(&self) -> Option<Depths> {
@@ -140,7 +148,11 @@ impl InterfaceTypeExtension {
         ensures { result
             ≡ interface_type_extension_kind.obeys (interface_type_extension_tree self.now) }
     {
-        SyntaxTree::is_well_formed(self)
+        (!self.implements_interfaces.is_empty()
+            || !self.directives.is_empty()
+            || !self.fields.is_empty())
+            && are_directives_well_formed(&self.directives, Constness::Const)
+            && are_parts_well_formed(&self.fields)
     }
 }
 
@@ -155,6 +167,10 @@ impl SyntaxTree for InterfaceTypeExtension {
 
     fn find_ill_formed(&self) -> Option<IllFormed<'_>> {
         InterfaceTypeExtension::find_ill_formed(self)
+    }
+
+    fn is_well_formed(&self) -> bool {
+        InterfaceTypeExtension::is_well_formed(self)
     }
 
     fn find_depths(&self) -> Option<Depths> {

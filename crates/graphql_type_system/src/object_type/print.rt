@@ -13,10 +13,13 @@ use crate::object_type::{ObjectTypeDefinition, ObjectTypeExtension};
 use graphql_text::engine::{Serialize, Syntax, SyntaxTree};
 use graphql_text::ill_formed::{IllFormed, SideCondition};
 use graphql_text::writers::{
-    Depths, Place, Start, Target, Written, find_ill_formed_part, find_parts_depths,
-    ill_formed_unless, write_leading_description, write_name, write_whole, write_words,
+    Depths, Place, Start, Target, Written, are_parts_well_formed, find_ill_formed_part,
+    find_parts_depths, ill_formed_unless, write_leading_description, write_name, write_whole,
+    write_words,
 };
-use graphql_values::writers::{Constness, Stacks, find_ill_formed_directive};
+use graphql_values::writers::{
+    Constness, Stacks, are_directives_well_formed, find_ill_formed_directive,
+};
 use std::alloc::AllocError;
 use std::fmt;
 
@@ -46,7 +49,8 @@ impl ObjectTypeDefinition {
         ensures { result
             ≡ object_type_definition_kind.obeys (object_type_definition_tree self.now) }
     {
-        SyntaxTree::is_well_formed(self)
+        are_directives_well_formed(&self.directives, Constness::Const)
+            && are_parts_well_formed(&self.fields)
     }
 }
 
@@ -61,6 +65,10 @@ impl SyntaxTree for ObjectTypeDefinition {
 
     fn find_ill_formed(&self) -> Option<IllFormed<'_>> {
         ObjectTypeDefinition::find_ill_formed(self)
+    }
+
+    fn is_well_formed(&self) -> bool {
+        ObjectTypeDefinition::is_well_formed(self)
     }
 
     fn find_depths(&self) -> Option<Depths> {
@@ -137,7 +145,11 @@ impl ObjectTypeExtension {
     pub fn is_well_formed(&self) -> bool
         ensures { result ≡ object_type_extension_kind.obeys (object_type_extension_tree self.now) }
     {
-        SyntaxTree::is_well_formed(self)
+        (!self.implements_interfaces.is_empty()
+            || !self.directives.is_empty()
+            || !self.fields.is_empty())
+            && are_directives_well_formed(&self.directives, Constness::Const)
+            && are_parts_well_formed(&self.fields)
     }
 }
 
@@ -152,6 +164,10 @@ impl SyntaxTree for ObjectTypeExtension {
 
     fn find_ill_formed(&self) -> Option<IllFormed<'_>> {
         ObjectTypeExtension::find_ill_formed(self)
+    }
+
+    fn is_well_formed(&self) -> bool {
+        ObjectTypeExtension::is_well_formed(self)
     }
 
     fn find_depths(&self) -> Option<Depths> {

@@ -14,7 +14,9 @@ use graphql_text::writers::{
     Depths, Place, Start, Target, Written, ill_formed_unless, write_leading_description,
     write_name, write_whole, write_words,
 };
-use graphql_values::writers::{Constness, Stacks, find_ill_formed_directive};
+use graphql_values::writers::{
+    Constness, Stacks, are_directives_well_formed, find_ill_formed_directive,
+};
 use std::alloc::AllocError;
 use std::fmt;
 
@@ -40,7 +42,7 @@ impl ScalarTypeDefinition {
         ensures { result
             ≡ scalar_type_definition_kind.obeys (scalar_type_definition_tree self.now) }
     {
-        SyntaxTree::is_well_formed(self)
+        are_directives_well_formed(&self.directives, Constness::Const)
     }
 }
 
@@ -55,6 +57,10 @@ impl SyntaxTree for ScalarTypeDefinition {
 
     fn find_ill_formed(&self) -> Option<IllFormed<'_>> {
         ScalarTypeDefinition::find_ill_formed(self)
+    }
+
+    fn is_well_formed(&self) -> bool {
+        ScalarTypeDefinition::is_well_formed(self)
     }
 
     fn find_depths(&self) -> Option<Depths> {
@@ -123,7 +129,8 @@ impl ScalarTypeExtension {
     pub fn is_well_formed(&self) -> bool
         ensures { result ≡ scalar_type_extension_kind.obeys (scalar_type_extension_tree self.now) }
     {
-        SyntaxTree::is_well_formed(self)
+        !self.directives.is_empty()
+            && are_directives_well_formed(&self.directives, Constness::Const)
     }
 }
 
@@ -138,6 +145,10 @@ impl SyntaxTree for ScalarTypeExtension {
 
     fn find_ill_formed(&self) -> Option<IllFormed<'_>> {
         ScalarTypeExtension::find_ill_formed(self)
+    }
+
+    fn is_well_formed(&self) -> bool {
+        ScalarTypeExtension::is_well_formed(self)
     }
 
     fn find_depths(&self) -> Option<Depths> {

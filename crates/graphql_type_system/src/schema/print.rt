@@ -17,7 +17,8 @@ use graphql_text::writers::{
     write_whole, write_words,
 };
 use graphql_values::writers::{
-    Constness, Stacks, find_directives_nesting, find_ill_formed_directive,
+    Constness, Stacks, are_directives_well_formed, find_directives_nesting,
+    find_ill_formed_directive,
 };
 use std::alloc::AllocError;
 use std::fmt;
@@ -50,7 +51,8 @@ impl SchemaDefinition {
     pub fn is_well_formed(&self) -> bool
         ensures { result ≡ schema_definition_kind.obeys (schema_definition_tree self.now) }
     {
-        SyntaxTree::is_well_formed(self)
+        !self.root_operations.is_empty()
+            && are_directives_well_formed(&self.directives, Constness::Const)
     }
 }
 
@@ -65,6 +67,10 @@ impl SyntaxTree for SchemaDefinition {
 
     fn find_ill_formed(&self) -> Option<IllFormed<'_>> {
         SchemaDefinition::find_ill_formed(self)
+    }
+
+    fn is_well_formed(&self) -> bool {
+        SchemaDefinition::is_well_formed(self)
     }
 
     fn find_depths(&self) -> Option<Depths> {
@@ -135,7 +141,8 @@ impl SchemaExtension {
     pub fn is_well_formed(&self) -> bool
         ensures { result ≡ schema_extension_kind.obeys (schema_extension_tree self.now) }
     {
-        SyntaxTree::is_well_formed(self)
+        (!self.directives.is_empty() || !self.root_operations.is_empty())
+            && are_directives_well_formed(&self.directives, Constness::Const)
     }
 }
 
@@ -150,6 +157,10 @@ impl SyntaxTree for SchemaExtension {
 
     fn find_ill_formed(&self) -> Option<IllFormed<'_>> {
         SchemaExtension::find_ill_formed(self)
+    }
+
+    fn is_well_formed(&self) -> bool {
+        SchemaExtension::is_well_formed(self)
     }
 
     fn find_depths(&self) -> Option<Depths> {

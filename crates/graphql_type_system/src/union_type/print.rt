@@ -15,7 +15,9 @@ use graphql_text::writers::{
     Depths, Place, Start, Target, Written, ill_formed_unless, write_leading_description,
     write_name, write_whole, write_words,
 };
-use graphql_values::writers::{Constness, Stacks, find_ill_formed_directive};
+use graphql_values::writers::{
+    Constness, Stacks, are_directives_well_formed, find_ill_formed_directive,
+};
 use std::alloc::AllocError;
 use std::fmt;
 
@@ -40,7 +42,7 @@ impl UnionTypeDefinition {
     pub fn is_well_formed(&self) -> bool
         ensures { result ≡ union_type_definition_kind.obeys (union_type_definition_tree self.now) }
     {
-        SyntaxTree::is_well_formed(self)
+        are_directives_well_formed(&self.directives, Constness::Const)
     }
 }
 
@@ -55,6 +57,10 @@ impl SyntaxTree for UnionTypeDefinition {
 
     fn find_ill_formed(&self) -> Option<IllFormed<'_>> {
         UnionTypeDefinition::find_ill_formed(self)
+    }
+
+    fn is_well_formed(&self) -> bool {
+        UnionTypeDefinition::is_well_formed(self)
     }
 
     fn find_depths(&self) -> Option<Depths> {
@@ -125,7 +131,8 @@ impl UnionTypeExtension {
     pub fn is_well_formed(&self) -> bool
         ensures { result ≡ union_type_extension_kind.obeys (union_type_extension_tree self.now) }
     {
-        SyntaxTree::is_well_formed(self)
+        (!self.directives.is_empty() || !self.members.is_empty())
+            && are_directives_well_formed(&self.directives, Constness::Const)
     }
 }
 
@@ -140,6 +147,10 @@ impl SyntaxTree for UnionTypeExtension {
 
     fn find_ill_formed(&self) -> Option<IllFormed<'_>> {
         UnionTypeExtension::find_ill_formed(self)
+    }
+
+    fn is_well_formed(&self) -> bool {
+        UnionTypeExtension::is_well_formed(self)
     }
 
     fn find_depths(&self) -> Option<Depths> {

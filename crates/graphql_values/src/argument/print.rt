@@ -4,17 +4,31 @@ ghost use Rattle.graphql_text.specs.code.IllFormed.{IsFirstFlaw};
 ghost use Rattle.graphql_text.specs.layout.Levels.{IsCount};
 ghost use Rattle.graphql_text.specs.code.Stack.{CanWrite, IsKept};
 ghost use Rattle.graphql_text.specs.code.Writing.{Writes, WritesItems};
-ghost use Rattle.graphql_values.specs.kinds.Arguments.{argument_items, arguments_flaws, arguments_nesting, arguments_shape};
+ghost use Rattle.graphql_values.specs.kinds.Arguments.{argument_items, arguments_flaws, arguments_nesting, arguments_obey, arguments_shape};
 ghost use Rattle.graphql_values.specs.trees.DirectiveTrees.{argument_tree, argument_trees};
 ghost use Rattle.graphql_values.specs.trees.ValueTrees.{constness_of};
 ghost use Rattle.graphql_values.specs.kinds.Values.{value_nesting};
 
 use crate::argument::Argument;
 use crate::constness::Constness;
-use crate::value::print::{ValueEntry, find_ill_formed_value, find_value_nesting, write_value};
+use crate::value::print::{
+    ValueEntry, find_ill_formed_value, find_value_nesting, is_value_well_formed, write_value,
+};
 use graphql_base::node::Node;
 use graphql_text::ill_formed::IllFormed;
 use graphql_text::writers::{Place, Stack, Target, write_name_then, write_words};
+
+/// Whether each argument's value is well formed in the context.
+pub fn are_arguments_well_formed(arguments: &[Node<Argument>], constness: Constness) -> bool
+    ensures { result ≡ arguments_obey (constness_of constness) (argument_trees arguments.now) }
+{
+    for argument in arguments {
+        if !is_value_well_formed(&argument.value, constness) {
+            return false;
+        }
+    }
+    true
+}
 
 /// Where the value of an argument isn't well formed in the context.
 pub fn find_ill_formed_argument(

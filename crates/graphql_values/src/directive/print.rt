@@ -7,7 +7,9 @@ ghost use Rattle.graphql_values.specs.trees.DirectiveTrees.{directive_tree};
 ghost use Rattle.graphql_values.specs.kinds.Directives.{directive_kind};
 ghost use Rattle.graphql_values.specs.lemmas.Directives.{directive_laws};
 
-use crate::argument::print::{find_arguments_nesting, find_ill_formed_argument, write_arguments};
+use crate::argument::print::{
+    are_arguments_well_formed, find_arguments_nesting, find_ill_formed_argument, write_arguments,
+};
 use crate::constness::Constness;
 use crate::directive::Directive;
 use crate::value::print::ValueEntry;
@@ -38,7 +40,7 @@ impl Directive {
     pub fn is_well_formed(&self) -> bool
         ensures { result ≡ directive_kind.obeys (directive_tree self.now) }
     {
-        SyntaxTree::is_well_formed(self)
+        are_arguments_well_formed(&self.arguments, Constness::NonConst)
     }
 }
 
@@ -53,6 +55,10 @@ impl SyntaxTree for Directive {
 
     fn find_ill_formed(&self) -> Option<IllFormed<'_>> {
         Directive::find_ill_formed(self)
+    }
+
+    fn is_well_formed(&self) -> bool {
+        Directive::is_well_formed(self)
     }
 
     fn find_depths(&self) -> Option<Depths> {

@@ -17,8 +17,9 @@ use crate::stacks::Stacks;
 use graphql_text::engine::{Serialize, Syntax, SyntaxTree};
 use graphql_text::ill_formed::{IllFormed, SideCondition};
 use graphql_text::writers::{
-    Depths, Place, Start, Target, Written, find_ill_formed_part, find_parts_depths,
-    ill_formed_unless, write_leading_description, write_name, write_whole, write_words,
+    Depths, Place, Start, Target, Written, are_parts_well_formed, find_ill_formed_part,
+    find_parts_depths, ill_formed_unless, write_leading_description, write_name, write_whole,
+    write_words,
 };
 use std::alloc::AllocError;
 use std::fmt;
@@ -77,7 +78,7 @@ impl DirectiveDefinition {
     pub fn is_well_formed(&self) -> bool
         ensures { result ≡ directive_definition_kind.obeys (directive_definition_tree self.now) }
     {
-        SyntaxTree::is_well_formed(self)
+        !self.locations.is_empty() && are_parts_well_formed(&self.arguments)
     }
 }
 
@@ -92,6 +93,10 @@ impl SyntaxTree for DirectiveDefinition {
 
     fn find_ill_formed(&self) -> Option<IllFormed<'_>> {
         DirectiveDefinition::find_ill_formed(self)
+    }
+
+    fn is_well_formed(&self) -> bool {
+        DirectiveDefinition::is_well_formed(self)
     }
 
     fn find_depths(&self) -> Option<Depths> {

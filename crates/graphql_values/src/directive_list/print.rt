@@ -7,11 +7,13 @@ ghost use Rattle.graphql_text.specs.kinds.Printing.{IsDefaultPrint, default_byte
 ghost use Rattle.graphql_text.specs.code.Stack.{CanWrite, IsKept};
 ghost use Rattle.graphql_text.specs.code.Writing.{Writes};
 ghost use Rattle.graphql_values.specs.trees.DirectiveTrees.{directive_node_trees, directive_trees};
-ghost use Rattle.graphql_values.specs.kinds.Directives.{directives_flaws, directives_kind, directives_nesting, directives_shape};
+ghost use Rattle.graphql_values.specs.kinds.Directives.{directives_flaws, directives_kind, directives_nesting, directives_obey, directives_shape};
 ghost use Rattle.graphql_values.specs.trees.ValueTrees.{constness_of};
 ghost use Rattle.graphql_values.specs.lemmas.Directives.{directives_laws};
 
-use crate::argument::print::{find_arguments_nesting, find_ill_formed_argument};
+use crate::argument::print::{
+    are_arguments_well_formed, find_arguments_nesting, find_ill_formed_argument,
+};
 use crate::constness::Constness;
 use crate::directive::Directive;
 use crate::directive_list::DirectiveList;
@@ -24,6 +26,19 @@ use graphql_text::writers::{
 };
 use std::alloc::AllocError;
 use std::fmt;
+
+/// Whether the arguments of each directive are well formed in a constant context or another.
+pub fn are_directives_well_formed(directives: &DirectiveList, constness: Constness) -> bool
+    ensures { result ≡ directives_obey (constness_of constness) (directive_trees directives.now) }
+{
+    let nodes = directives.0.as_slice();
+    for directive in nodes {
+        if !are_arguments_well_formed(&directive.arguments, constness) {
+            return false;
+        }
+    }
+    true
+}
 
 /// Where the arguments of the directives aren't well formed in a constant context or another.
 pub fn find_ill_formed_directive(
@@ -97,7 +112,7 @@ impl DirectiveList {
     pub fn is_well_formed(&self) -> bool
         ensures { result ≡ directives_kind.obeys (directive_trees self.now) }
     {
-        SyntaxTree::is_well_formed(self)
+        are_directives_well_formed(self, Constness::NonConst)
     }
 }
 
@@ -112,6 +127,10 @@ impl SyntaxTree for DirectiveList {
 
     fn find_ill_formed(&self) -> Option<IllFormed<'_>> {
         DirectiveList::find_ill_formed(self)
+    }
+
+    fn is_well_formed(&self) -> bool {
+        DirectiveList::is_well_formed(self)
     }
 
     fn find_depths(&self) -> Option<Depths> {

@@ -11,9 +11,12 @@ ghost use Rattle.graphql_values.specs.lemmas.InputValueDefinitions.{input_value_
 
 use crate::constness::Constness;
 use crate::default_value::{
-    find_default_value_nesting, find_ill_formed_default_value, write_default_value,
+    find_default_value_nesting, find_ill_formed_default_value, is_default_value_well_formed,
+    write_default_value,
 };
-use crate::directive_list::print::{find_directives_nesting, find_ill_formed_directive};
+use crate::directive_list::print::{
+    are_directives_well_formed, find_directives_nesting, find_ill_formed_directive,
+};
 use crate::input_value_definition::InputValueDefinition;
 use crate::stacks::Stacks;
 use crate::types::print::{find_list_depth, write_type};
@@ -67,7 +70,8 @@ impl InputValueDefinition {
         ensures { result
             ≡ input_value_definition_kind.obeys (input_value_definition_tree self.now) }
     {
-        SyntaxTree::is_well_formed(self)
+        is_default_value_well_formed(self.default_value.as_ref())
+            && are_directives_well_formed(&self.directives, Constness::Const)
     }
 }
 
@@ -82,6 +86,10 @@ impl SyntaxTree for InputValueDefinition {
 
     fn find_ill_formed(&self) -> Option<IllFormed<'_>> {
         InputValueDefinition::find_ill_formed(self)
+    }
+
+    fn is_well_formed(&self) -> bool {
+        InputValueDefinition::is_well_formed(self)
     }
 
     fn find_depths(&self) -> Option<Depths> {

@@ -9,7 +9,7 @@ ghost use Rattle.graphql_text.specs.kinds.PrintedKinds.{no_types};
 ghost use Rattle.graphql_text.specs.kinds.Printing.{IsDefaultPrint, default_bytes};
 ghost use Rattle.graphql_text.specs.code.Stack.{CanWrite, IsKept, stack_entries, stack_room};
 ghost use Rattle.graphql_text.specs.code.Writing.{IsCommaLead, Writes, WritesAnywhere, WritesToLevel, fixed_text};
-ghost use Rattle.graphql_values.specs.kinds.Values.{boolean_value, is_enum_name, object_fields_flaws, object_fields_nesting, value_flaws, value_kind, value_nesting, value_shape, values_flaws, values_nesting};
+ghost use Rattle.graphql_values.specs.kinds.Values.{boolean_value, is_enum_name, object_fields_flaws, object_fields_nesting, object_fields_obey, value_flaws, value_kind, value_nesting, value_obeys, value_shape, values_flaws, values_nesting, values_obey};
 ghost use Rattle.graphql_values.specs.trees.Literals.{float_text, int_text};
 ghost use Rattle.graphql_values.specs.trees.ValueTrees.{constness_of, object_field_trees, value_tree, value_trees};
 ghost use Rattle.graphql_values.specs.code.ValueWalk.{CanGoOn, GoesOn, OpensValue, need_with, opened_level, opening, opening_word, stack_items, stack_need};
@@ -36,6 +36,46 @@ pub fn is_enum_name(name: &str) -> bool
     ensures { result ≡ is_enum_name name.now }
 {
     name != "true" && name != "false" && name != "null"
+}
+
+/// Whether no enum value in the value is `true`, `false` or `null`, and no variable stands in it where the context is
+/// constant.
+#[cycle(value_is_well_formed)]
+pub fn is_value_well_formed(value: &Value, constness: Constness) -> bool
+    ensures { result ≡ value_obeys (constness_of constness) (value_tree value.now) }
+{
+    match value {
+        Value::Enum(name) => is_enum_name(name.as_str()),
+        Value::Variable(_) => constness.admits_variables(),
+        Value::List(items) => are_items_well_formed(items, constness),
+        Value::Object(fields) => are_fields_well_formed(fields, constness),
+        Value::Null | Value::String(_) | Value::Float(_) | Value::Int(_) | Value::Boolean(_) =>
+            true,
+    }
+}
+
+#[cycle(value_is_well_formed)]
+fn are_items_well_formed(items: &[Node<Value>], constness: Constness) -> bool
+    ensures { result ≡ values_obey (constness_of constness) (value_trees items.now) }
+{
+    for item in items {
+        if !is_value_well_formed(item, constness) {
+            return false;
+        }
+    }
+    true
+}
+
+#[cycle(value_is_well_formed)]
+fn are_fields_well_formed(fields: &[(Name, Node<Value>)], constness: Constness) -> bool
+    ensures { result ≡ object_fields_obey (constness_of constness) (object_field_trees fields.now) }
+{
+    for field in fields {
+        if !is_value_well_formed(&field.1, constness) {
+            return false;
+        }
+    }
+    true
 }
 
 /// Where a value isn't well formed: the first enum value in it that is `true`, `false` or `null`, or variable where the
@@ -502,7 +542,7 @@ impl Value {
     pub fn is_well_formed(&self) -> bool
         ensures { result ≡ value_kind.obeys (value_tree self.now) }
     {
-        SyntaxTree::is_well_formed(self)
+        is_value_well_formed(self, Constness::NonConst)
     }
 
     /// The allocator of a list or an object.
@@ -534,6 +574,10 @@ impl SyntaxTree for Value {
 
     fn find_ill_formed(&self) -> Option<IllFormed<'_>> {
         Value::find_ill_formed(self)
+    }
+
+    fn is_well_formed(&self) -> bool {
+        Value::is_well_formed(self)
     }
 
     fn find_depths(&self) -> Option<Depths> {

@@ -115,6 +115,20 @@ fn escape(byte: u8) -> &'static str
     }
 }
 
+/// Writes the escape of a byte that has one. Most are of these three, and a text of a known length costs least to copy.
+#[inline(always)]
+fn write_escape<O: Target>(out: &mut O, byte: u8)
+    requires { IsTrue (nat_lt 1 (length (quoted_character byte))) }
+    ensures { O.wrote out.old (quoted_character byte) out.new }
+{
+    match byte {
+        b'"' => out.text("\\\""),
+        b'\\' => out.text("\\\\"),
+        b'\n' => out.text("\\n"),
+        _ => out.text(escape(byte)),
+    }
+}
+
 /// Writes the string characters of a text: each run of plain characters as one piece.
 fn write_runs<O: Target>(out: &mut O, text: &str)
     ensures { O.wrote out.old (flat_map quoted_character text.now) out.new }
@@ -126,7 +140,7 @@ fn write_runs<O: Target>(out: &mut O, text: &str)
                 return;
             }
             write_piece(out, &text[from..i]);
-            out.text(escape(*byte));
+            write_escape(out, *byte);
             from = i + 1;
         }
     }

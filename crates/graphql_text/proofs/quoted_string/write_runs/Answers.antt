@@ -24,15 +24,15 @@ loop-i-preserved g c =
     elim c.if-needs_escape.branch [
       | then-needs_escape+else-is_stopped w ↦
           let ascii = rw c.as_bytes-byte-items.ensures.value at (c.needs_escape.ensures.ascii w.if-needs_escape.true) in
-          let is = rw c.as_bytes-byte-items.ensures.value at w.escape.ensures in
           rw (w.from-is, w.out-is) (record {
             order = omega arith;
             boundary = IsCharBoundary-after_ascii t i c.utf8.text within ascii;
             plain = run_restart quoted_character t (i + 1);
             wrote =
-                rw (← run_escape quoted_character t w.escape.result.now c.loop-i.from i within is I.plain)
+                rw (← run_escape quoted_character t (quoted_character (get_or t i 0)) c.loop-i.from i within refl I.plain)
                 (g.met.O.Target.more _ _ _ _ _
-                (g.met.O.Target.more _ _ _ _ _ I.wrote (rw w.range.ensures.value at w.write_piece.ensures)) w.text.ensures);
+                (g.met.O.Target.more _ _ _ _ _ I.wrote (rw w.range.ensures.value at w.write_piece.ensures))
+                (rw c.as_bytes-byte-items.ensures.value at w.write_escape.ensures));
           })
       | else-needs_escape w ↦
           let unescaped = sym c.needs_escape.ensures.escaped ∙ w.if-needs_escape.false in

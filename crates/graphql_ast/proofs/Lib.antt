@@ -4,8 +4,8 @@
 pub mod AstEquality
 -- of Documents: the layout of documents, and the room that it needs on the stacks
 pub mod DocumentShapes
--- of Definitions: what is no operation looks alike at the front of a print and behind something else
-pub mod FirstDefinition
+-- of Definitions: what is asked of a definition under each variant; what is no operation looks alike at the front of a print and behind something else
+pub mod DefinitionFacts
 -- lists that are filtered hold no more than before
 pub mod FilteredLengths
 -- of LinesAndColumns: what one character more changes

@@ -39,21 +39,21 @@ IsStartPosition files span position = IsStartIn (source_file_of (span_file span)
 
 -- the position in a source text, without its path
 abbrev pub line_column_of : SourcePosition → LineColumn
-line_column_of place = place.position
+line_column_of position = position.position
 
 -- the path is that of the source file, if there is that one
 abbrev pub IsPathIn : Option SourceFile → SourcePosition → Type 0
-IsPathIn file place = IfSome file (λ found. place.path.now ≡ string_bytes found.path)
+IsPathIn file position = IfSome file (λ found. position.path.now ≡ string_bytes found.path)
 
 -- what is answered for a span with the path of its source file
 abbrev pub IsSourcePosition : List (FileId × SourceFile) → SourceSpan → Option SourcePosition → Type 0
-IsSourcePosition files span place =
-    IsStartPosition files span (option_map line_column_of place) × IfSome place (IsPathIn (source_file_of (span_file span) files))
+IsSourcePosition files span position =
+    IsStartPosition files span (option_map line_column_of position) × IfSome position (IsPathIn (source_file_of (span_file span) files))
 
 -- what is answered for a location: none where there is no location
-abbrev pub IsPlaceOf : List (FileId × SourceFile) → Option SourceSpan → Option SourcePosition → Type 0
-IsPlaceOf files (Some span) place = IsSourcePosition files span place
-IsPlaceOf files None place = place ≡ None
+abbrev pub IsPositionOf : List (FileId × SourceFile) → Option SourceSpan → Option SourcePosition → Type 0
+IsPositionOf files (Some span) position = IsSourcePosition files span position
+IsPositionOf files None position = position ≡ None
 
 -- the flaw, wherever it stands
 abbrev pub found_of : PlacedFlaw → IllFormed

@@ -4,7 +4,6 @@ ghost use Rattle.graphql_ast.specs.DefinitionQueries.{definition_description, de
 ghost use Rattle.graphql_ast.specs.DefinitionQueries.{directive_definition_of, enum_type_definition_of, enum_type_extension_of, fragment_definition_of, input_object_type_definition_of, input_object_type_extension_of, interface_type_definition_of, interface_type_extension_of, object_type_definition_of, object_type_extension_of, operation_definition_of, scalar_type_definition_of, scalar_type_extension_of, schema_definition_of, schema_extension_of, union_type_definition_of, union_type_extension_of};
 
 pub(crate) mod print;
-pub(crate) mod write;
 
 use graphql_base::name::Name;
 use graphql_base::node::{Node, NodeStr};
@@ -116,7 +115,7 @@ impl Definition {
         )
     }
 
-    /// The place where it stands in a source text: that of its node.
+    /// The source location: that of its node.
     pub fn location(&self) -> Option<SourceSpan>
         ensures { result ≡ definition_location self.now }
     {

@@ -14,7 +14,5 @@ pub use crate::directive_list::print::{
 pub use crate::input_value_definition::print::some_want_lines;
 pub use crate::parameters::write_parameters;
 pub use crate::stacks::Stacks;
-pub use crate::types::print::{TypeEntry, find_list_depth, type_allocator, write_type};
-pub use crate::value::print::{
-    ValueEntry, find_ill_formed_value, find_value_nesting, is_enum_name,
-};
+pub use crate::types::print::{find_list_depth, write_type};
+pub use crate::value::print::{ValueEntry, is_enum_name};

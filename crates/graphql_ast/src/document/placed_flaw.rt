@@ -4,7 +4,7 @@ ghost use Rattle.std.specs.Option.{option_map};
 ghost use Rattle.graphql_text.specs.code.IllFormed.{IsFirstFlaw, location_of};
 ghost use Rattle.graphql_ast.specs.AstTrees.{document_tree};
 ghost use Rattle.graphql_ast.specs.Documents.{document_kind};
-ghost use Rattle.graphql_ast.specs.LinesAndColumns.{IsPlaceOf, IsSourcePosition, found_of};
+ghost use Rattle.graphql_ast.specs.LinesAndColumns.{IsPositionOf, IsSourcePosition, found_of};
 
 use crate::document::Document;
 use crate::document::lines_and_columns::LineColumn;
@@ -49,13 +49,13 @@ pub struct PlacedFlaw<'a> {
     /// What is wrong.
     pub found: IllFormed<'a>,
     /// Where its location begins, if it has one, in a source text that the document has.
-    pub place: Option<SourcePosition<'a>>,
+    pub position: Option<SourcePosition<'a>>,
 }
 
 impl Display for PlacedFlaw<'_> {
     fn fmt<W: Write>(&self, f: &mut Formatter<W>) -> fmt::Result {
-        match self.place {
-            Some(place) => write!(f, "{place}: {}", self.found),
+        match self.position {
+            Some(position) => write!(f, "{position}: {}", self.found),
             None => write!(f, "{}", self.found),
         }
     }
@@ -69,7 +69,7 @@ impl Document {
     /// `None` exactly where `line_column` returns `None`.
     ///
     /// ```
-    /// let place = document.source_position(node.location()?)?; // a.graphql:3:1
+    /// let position = document.source_position(node.location()?)?; // a.graphql:3:1
     /// ```
     pub fn source_position(&self, span: SourceSpan) -> Option<SourcePosition<'_>>
         ensures { IsSourcePosition self.now.sources.entries span result }
@@ -93,14 +93,14 @@ impl Document {
     pub fn find_placed_flaw(&self) -> Option<PlacedFlaw<'_>>
         ensures flaw { IsFirstFlaw (document_kind.flaws (document_tree self.now))
             (option_map found_of result) }
-        ensures place { IfSome result (λ flaw.
-            IsPlaceOf self.now.sources.entries (location_of flaw.found) flaw.place) }
+        ensures position { IfSome result (λ flaw.
+            IsPositionOf self.now.sources.entries (location_of flaw.found) flaw.position) }
     {
         let found = self.find_ill_formed()?;
-        let place = match found.location() {
+        let position = match found.location() {
             Some(span) => self.source_position(span),
             None => None,
         };
-        Some(PlacedFlaw { found, place })
+        Some(PlacedFlaw { found, position })
     }
 }

@@ -17,7 +17,7 @@ ghost use Rattle.graphql_ast.specs.Documents.{document_kind, document_shape};
 ghost use Rattle.graphql_ast.specs.lemmas.Documents.{document_laws};
 
 use crate::definition::Definition;
-use crate::definition::write::{has_selections, write_definition, write_first_definition};
+use crate::definition::print::{has_selections, write_definition, write_first_definition};
 use crate::document::Document;
 use graphql_executable::writers::ExecutableStacks;
 use graphql_text::engine::{Serialize, Syntax, SyntaxTree};

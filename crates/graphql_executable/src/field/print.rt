@@ -17,7 +17,7 @@ ghost use Rattle.graphql_executable.specs.lemmas.Selections.{field_laws};
 use crate::field::Field;
 use crate::optional_parts::{write_optional_arguments, write_optional_directives};
 use crate::selection::print::{
-    are_selections_well_formed, find_ill_formed_in_field, find_selection_set_nesting, finish_sets,
+    are_selections_well_formed, find_ill_formed_selection, find_selection_set_nesting, finish_sets,
     open_field,
 };
 use crate::stacks::ExecutableStacks;
@@ -46,7 +46,7 @@ pub(crate) fn is_field_head_well_formed(field: &Field) -> bool
 
 /// Where the arguments and the directives of a field aren't well formed.
 #[tactic(auto, using(crate::proofs::layout::SelectionShapes::field_head_is, graphql_text::proofs::kinds::FlawsTold::flaw_steps))]
-pub(crate) fn find_ill_formed_field_head(field: &Field) -> Option<IllFormed<'_>>
+fn find_ill_formed_field_head(field: &Field) -> Option<IllFormed<'_>>
     ensures { IsFirstFlaw (field_head_flaws (field_tree field.now).head) result }
 {
     let found = find_ill_formed_argument(&field.arguments, Constness::NonConst);
@@ -112,10 +112,16 @@ impl Field {
     }
 
     /// The first flaw of its arguments, its directives or its selections. Variables are allowed.
+    #[cycle(find_ill_formed_selection)]
+    #[tactic(auto, using(crate::proofs::layout::SelectionShapes::field_selections_are, graphql_text::proofs::kinds::FlawsTold::flaw_steps))]
     pub fn find_ill_formed(&self) -> Option<IllFormed<'_>>
         ensures { IsFirstFlaw (field_kind.flaws (field_tree self.now)) result }
     {
-        find_ill_formed_in_field(self)
+        let found = find_ill_formed_field_head(self);
+        if found.is_some() {
+            return found;
+        }
+        find_ill_formed_selection(&self.selection_set)
     }
 
     /// Whether no fragment spread in it is named `on`, each inline fragment in it has a selection, and no enum value in

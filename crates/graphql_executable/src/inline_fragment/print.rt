@@ -18,8 +18,8 @@ ghost use Rattle.graphql_executable.specs.lemmas.Selections.{inline_fragment_law
 use crate::inline_fragment::InlineFragment;
 use crate::optional_parts::write_optional_directives;
 use crate::selection::print::{
-    find_ill_formed_in_inline_fragment, find_selection_set_nesting, finish_sets,
-    is_selection_set_well_formed, open_inline_fragment,
+    find_ill_formed_set, find_selection_set_nesting, finish_sets, is_selection_set_well_formed,
+    open_inline_fragment,
 };
 use crate::stacks::ExecutableStacks;
 use graphql_base::name::NamedType;
@@ -45,9 +45,7 @@ pub(crate) fn is_inline_fragment_head_well_formed(fragment: &InlineFragment) -> 
 
 /// Where the directives of an inline fragment aren't well formed.
 #[tactic(auto, using(crate::proofs::layout::SelectionShapes::inline_fragment_head_is))]
-pub(crate) fn find_ill_formed_inline_fragment_head(
-    fragment: &InlineFragment,
-) -> Option<IllFormed<'_>>
+fn find_ill_formed_inline_fragment_head(fragment: &InlineFragment) -> Option<IllFormed<'_>>
     ensures { IsFirstFlaw
         (inline_fragment_head_flaws (inline_fragment_tree fragment.now).head) result }
 {
@@ -109,10 +107,16 @@ impl InlineFragment {
 
     /// The first flaw of its directives, or else that it has no selection, or the first flaw of its selections.
     /// Variables are allowed.
+    #[cycle(find_ill_formed_selection)]
+    #[tactic(auto, using(crate::proofs::layout::SelectionShapes::inline_fragment_steps, graphql_text::proofs::kinds::FlawsTold::flaw_steps))]
     pub fn find_ill_formed(&self) -> Option<IllFormed<'_>>
         ensures { IsFirstFlaw (inline_fragment_kind.flaws (inline_fragment_tree self.now)) result }
     {
-        find_ill_formed_in_inline_fragment(self)
+        let found = find_ill_formed_inline_fragment_head(self);
+        if found.is_some() {
+            return found;
+        }
+        find_ill_formed_set(self.type_condition.as_ref(), &self.selection_set)
     }
 
     /// Whether it has a selection, and so has each inline fragment in it; no fragment spread in it is named `on`; and

@@ -13,21 +13,18 @@ ghost use Rattle.graphql_text.specs.code.Writing.{Writes, WritesBeginning};
 ghost use Rattle.graphql_text.specs.trees.Leaves.{name_tree};
 ghost use Rattle.graphql_executable.specs.code.ExecutableStacks.{AreAllKept, CanWriteExecutable};
 ghost use Rattle.graphql_executable.specs.trees.ExecutableTrees.{field_tree, inline_fragment_tree, selection_tree, selection_trees};
-ghost use Rattle.graphql_executable.specs.kinds.Fields.{field_kind, selection_of_field};
-ghost use Rattle.graphql_executable.specs.kinds.InlineFragments.{inline_fragment_kind, selection_of_inline_fragment};
+ghost use Rattle.graphql_executable.specs.kinds.Fields.{selection_of_field};
+ghost use Rattle.graphql_executable.specs.kinds.InlineFragments.{selection_of_inline_fragment};
 ghost use Rattle.graphql_executable.specs.code.SelectionWalk.{CanFinish, CanGoOn, CanOpen, Finishes, GoesOn, LoseNoRoom, Opens, OpensSelection, has_set, need_with, set_level, stack_items};
-ghost use Rattle.graphql_executable.specs.kinds.Selections.{optional_braced_shape, selection_flaws, selection_kind, selection_nesting, selection_obeys, selection_set_flaws, selection_set_nesting, selection_set_obeys, selection_set_shape, selection_shape, selections_flaws, selections_obey, selections_shapes};
+ghost use Rattle.graphql_executable.specs.kinds.Selections.{optional_braced_shape, selection_kind, selection_nesting, selection_set_flaws, selection_set_nesting, selection_set_obeys, selection_set_shape, selection_shape, selections_flaws, selections_obey, selections_shapes};
 ghost use Rattle.graphql_executable.specs.lemmas.Selections.{selection_laws};
 
 use crate::field::Field;
-use crate::field::print::{
-    find_field_head_nesting, find_ill_formed_field_head, is_field_head_well_formed,
-    write_field_head,
-};
+use crate::field::print::{find_field_head_nesting, is_field_head_well_formed, write_field_head};
 use crate::inline_fragment::InlineFragment;
 use crate::inline_fragment::print::{
-    find_ill_formed_inline_fragment_head, find_inline_fragment_head_nesting,
-    is_inline_fragment_head_well_formed, write_inline_fragment_head,
+    find_inline_fragment_head_nesting, is_inline_fragment_head_well_formed,
+    write_inline_fragment_head,
 };
 use crate::selection::Selection;
 use crate::stacks::{ExecutableStacks, SelectionEntry};
@@ -42,29 +39,13 @@ use graphql_values::writers::{ValueEntry, find_directives_nesting};
 use std::alloc::{AllocError, Global};
 use std::fmt;
 
-/// Whether a selection is well formed: no fragment spread in it is named `on`, each inline fragment in it has a
-/// selection, and no enum value in its arguments and directives is `true`, `false` or `null`.
-#[cycle(selection_is_well_formed)]
-#[tactic(auto, using(crate::proofs::layout::SelectionShapes::selection_obeys_steps))]
-fn is_selection_well_formed(selection: &Selection) -> bool
-    ensures { result ≡ selection_obeys (selection_tree selection.now) }
-{
-    match selection {
-        Selection::Field(field) => is_field_head_well_formed(field)
-            && are_selections_well_formed(&field.selection_set),
-        Selection::FragmentSpread(spread) => spread.is_well_formed(),
-        Selection::InlineFragment(fragment) => is_inline_fragment_head_well_formed(fragment)
-            && is_selection_set_well_formed(&fragment.selection_set),
-    }
-}
-
 /// Whether each selection is well formed.
 #[cycle(selection_is_well_formed)]
 pub(crate) fn are_selections_well_formed(selections: &[Selection]) -> bool
     ensures { result ≡ selections_obey (selection_trees selections.now) }
 {
     for selection in selections {
-        if !is_selection_well_formed(selection) {
+        if !selection.is_well_formed() {
             return false;
         }
     }
@@ -80,47 +61,6 @@ pub(crate) fn is_selection_set_well_formed(selections: &[Selection]) -> bool
     !selections.is_empty() && are_selections_well_formed(selections)
 }
 
-/// Where a selection isn't well formed: a fragment spread in it is named `on`, an inline fragment in it has no
-/// selection, or an enum value in its arguments and directives is `true`, `false` or `null`.
-#[cycle(find_ill_formed_selection)]
-#[tactic(auto, using(crate::proofs::layout::SelectionShapes::selection_flaws_steps))]
-fn find_ill_formed_in(selection: &Selection) -> Option<IllFormed<'_>>
-    ensures { IsFirstFlaw (selection_flaws (selection_tree selection.now)) result }
-{
-    let found = match selection {
-        Selection::Field(field) => find_ill_formed_in_field(field),
-        Selection::FragmentSpread(spread) => spread.find_ill_formed(),
-        Selection::InlineFragment(fragment) => find_ill_formed_in_inline_fragment(fragment),
-    };
-    Some(found?.within(selection.location()))
-}
-
-/// Where a field isn't well formed: the first flaw of its arguments, its directives or its selections.
-#[cycle(find_ill_formed_selection)]
-#[tactic(auto, using(crate::proofs::layout::SelectionShapes::field_selections_are, graphql_text::proofs::kinds::FlawsTold::flaw_steps))]
-pub(crate) fn find_ill_formed_in_field(field: &Field) -> Option<IllFormed<'_>>
-    ensures { IsFirstFlaw (field_kind.flaws (field_tree field.now)) result }
-{
-    let found = find_ill_formed_field_head(field);
-    if found.is_some() {
-        return found;
-    }
-    find_ill_formed_selection(&field.selection_set)
-}
-
-/// Where an inline fragment isn't well formed: the first flaw of its directives, or else of its selection set.
-#[cycle(find_ill_formed_selection)]
-#[tactic(auto, using(crate::proofs::layout::SelectionShapes::inline_fragment_steps, graphql_text::proofs::kinds::FlawsTold::flaw_steps))]
-pub(crate) fn find_ill_formed_in_inline_fragment(fragment: &InlineFragment) -> Option<IllFormed<'_>>
-    ensures { IsFirstFlaw (inline_fragment_kind.flaws (inline_fragment_tree fragment.now)) result }
-{
-    let found = find_ill_formed_inline_fragment_head(fragment);
-    if found.is_some() {
-        return found;
-    }
-    find_ill_formed_set(fragment.type_condition.as_ref(), &fragment.selection_set)
-}
-
 /// Where selections aren't well formed: the first of their flaws.
 #[cycle(find_ill_formed_selection)]
 #[tactic(auto, using(graphql_text::proofs::kinds::FlawsTold::flaw_steps))]
@@ -128,7 +68,7 @@ pub(crate) fn find_ill_formed_selection(selections: &[Selection]) -> Option<IllF
     ensures { IsFirstFlaw (selections_flaws (selection_trees selections.now)) result }
 {
     for selection in selections {
-        let found = find_ill_formed_in(selection);
+        let found = selection.find_ill_formed();
         if found.is_some() {
             return found;
         }
@@ -500,18 +440,33 @@ impl Selection {
 
     /// The first fragment spread in it that is named `on`, inline fragment that has no selection, or enum value in its
     /// arguments and directives that is `true`, `false` or `null`. Variables are allowed.
+    #[cycle(find_ill_formed_selection)]
+    #[tactic(auto, using(crate::proofs::layout::SelectionShapes::selection_flaws_steps))]
     pub fn find_ill_formed(&self) -> Option<IllFormed<'_>>
         ensures { IsFirstFlaw (selection_kind.flaws (selection_tree self.now)) result }
     {
-        find_ill_formed_in(self)
+        let found = match self {
+            Selection::Field(field) => field.find_ill_formed(),
+            Selection::FragmentSpread(spread) => spread.find_ill_formed(),
+            Selection::InlineFragment(fragment) => fragment.find_ill_formed(),
+        };
+        Some(found?.within(self.location()))
     }
 
     /// Whether no fragment spread in it is named `on`, each inline fragment in it has a selection, and no enum value in
     /// its arguments and directives is `true`, `false` or `null`. Variables are allowed.
+    #[cycle(selection_is_well_formed)]
+    #[tactic(auto, using(crate::proofs::layout::SelectionShapes::selection_obeys_steps))]
     pub fn is_well_formed(&self) -> bool
         ensures { result ≡ selection_kind.obeys (selection_tree self.now) }
     {
-        is_selection_well_formed(self)
+        match self {
+            Selection::Field(field) => is_field_head_well_formed(field)
+                && are_selections_well_formed(&field.selection_set),
+            Selection::FragmentSpread(spread) => spread.is_well_formed(),
+            Selection::InlineFragment(fragment) => is_inline_fragment_head_well_formed(fragment)
+                && is_selection_set_well_formed(&fragment.selection_set),
+        }
     }
 
     /// The allocator of its directives.

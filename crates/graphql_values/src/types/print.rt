@@ -41,7 +41,7 @@ pub fn find_list_depth(ty: &Type) -> usize
 }
 
 /// The allocator of a list, for the stack that it is written with. A named type has none, and needs no stack.
-pub fn type_allocator(ty: &Type) -> Option<Global>
+pub(crate) fn type_allocator(ty: &Type) -> Option<Global>
     ensures { IsNone result → list_depth (type_tree ty.now) ≡ 0 }
 {
     match ty {

@@ -81,7 +81,7 @@ fn are_fields_well_formed(fields: &[(Name, Node<Value>)], constness: Constness) 
 /// Where a value isn't well formed: the first enum value in it that is `true`, `false` or `null`, or variable where the
 /// context is constant.
 #[cycle(find_ill_formed_value)]
-pub fn find_ill_formed_value(value: &Value, constness: Constness) -> Option<IllFormed<'_>>
+pub(crate) fn find_ill_formed_value(value: &Value, constness: Constness) -> Option<IllFormed<'_>>
     ensures { IsFirstFlaw (value_flaws (constness_of constness) (value_tree value.now)) result }
 {
     match value {
@@ -143,7 +143,7 @@ pub enum ValueEntry<'a> {
 #[cycle(nesting)]
 #[inline(always)]
 #[tactic(auto, using(crate::proofs::layout::ValueShapes::value_nesting_steps))]
-pub fn find_value_nesting(value: &Value) -> Option<usize>
+pub(crate) fn find_value_nesting(value: &Value) -> Option<usize>
     ensures { IsCount result (value_nesting (value_tree value.now)) }
 {
     match value {

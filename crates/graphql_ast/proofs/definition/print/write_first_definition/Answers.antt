@@ -1,7 +1,7 @@
 use Rattle.graphql_text.specs.layout.Layout.{is_broken, is_front}
 use Rattle.graphql_text.specs.code.Place.{mode_of}
-use Rattle.graphql_ast.proofs.FirstDefinition.{same_behind}
-use Rattle.graphql_ast.proofs.definition.write.write_first_definition.Goals as goal
+use Rattle.graphql_ast.proofs.DefinitionFacts.{same_behind}
+use Rattle.graphql_ast.proofs.definition.print.write_first_definition.Goals as goal
 
 pub write_first_operation_definition-requires : goal.write_first_operation_definition-requires
 write_first_operation_definition-requires g c =

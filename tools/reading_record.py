@@ -173,26 +173,26 @@ def around(kind, inner, before=0):
     return inner
 
 
-def place_all(tree, share=1.0, rand=random):
+def locate_all(tree, share=1.0, rand=random):
     """The tree, with a location in nodes that have none, each with this probability."""
     if isinstance(tree, list):
-        return [place_all(item, share, rand) for item in tree]
+        return [locate_all(item, share, rand) for item in tree]
     if not isinstance(tree, dict):
         return tree
-    made = {name: place_all(value, share, rand) for name, value in tree.items()}
+    made = {name: locate_all(value, share, rand) for name, value in tree.items()}
     if "kind" in tree and "loc" not in tree and rand.random() < share:
         start = rand.randint(0, 50)
         made["loc"] = {"start": start, "end": start + rand.randint(0, 9)}
     return made
 
 
-def place_outer(tree, chosen, depth=0):
+def locate_outer(tree, chosen, depth=0):
     """The tree, with a location in the nodes of these depths below one another."""
     if isinstance(tree, list):
-        return [place_outer(item, chosen, depth) for item in tree]
+        return [locate_outer(item, chosen, depth) for item in tree]
     if not isinstance(tree, dict):
         return tree
-    made = {name: place_outer(value, chosen, depth + 1) for name, value in tree.items()}
+    made = {name: locate_outer(value, chosen, depth + 1) for name, value in tree.items()}
     if "kind" in tree and "loc" not in tree and depth in chosen:
         made["loc"] = {"start": depth, "end": depth + 10}
     return made
@@ -204,7 +204,7 @@ def compact(tree):
 
 def told(tree, turn):
     """The JSON of a tree with no location, with one in each node, or with one in some, by turns."""
-    return compact(place_outer(tree, [(), range(99), (0,), (1, 2)][turn % 4]))
+    return compact(locate_outer(tree, [(), range(99), (0,), (1, 2)][turn % 4]))
 
 
 # The texts that follow the table
@@ -425,7 +425,7 @@ def two_faults():
             holder = rand.choice([value for _, value in walk(tree) if isinstance(value, dict) and "kind" in value])
             name = rand.choice([*holder, "loc", "zz"])
             holder[name] = copy.deepcopy(rand.choice([rand.choice(JUNK), TYPES[rand.choice(list(TYPES))], {"start": 9, "end": 1}]))
-        yield compact(place_all(tree, rand.choice([0, 0, 0.5]), rand))
+        yield compact(locate_all(tree, rand.choice([0, 0, 0.5]), rand))
 
 
 # Texts by hand
@@ -715,7 +715,7 @@ class Maker:
             tree = self.tree(root, 0)
             if len(compact(tree)) > 2000:
                 continue
-            tree = place_all(tree, rand.choice([0, 0, 0.2, 1]), rand)
+            tree = locate_all(tree, rand.choice([0, 0, 0.2, 1]), rand)
             for _ in range(rand.choice([0, 0, 1, 1, 1, 2, 3])):
                 self.change(tree)
             text = self.written(tree, rand.choice([0, 0, 0.02]))

@@ -19,7 +19,7 @@ pub mod NodeLists
 -- what stands inside of JSON nests less deep than the JSON
 pub mod JsonDepths
 -- of Nodes and NodeReading: where a name stands
-pub mod NamePlaces
+pub mod NameLocations
 -- of ToldErrors: what is told where a member is no text
 pub mod ToldTexts
 -- of ToldErrors: what is told of a member, and of the first item that is of no tree

@@ -5,7 +5,7 @@ ghost use Rattle.serde_json.specs.Read.{read};
 ghost use Rattle.serde_json.specs.View.{view};
 ghost use Rattle.graphql_base.specs.Node.{node_location, node_value};
 ghost use Rattle.graphql_base.specs.declared.span.SourceSpan.{SourceSpan};
-ghost use Rattle.graphql_ast_json.specs.code.Drafts.{place_of};
+ghost use Rattle.graphql_ast_json.specs.code.Drafts.{location_of};
 ghost use Rattle.graphql_ast_json.specs.code.Errors.{IsMemory};
 ghost use Rattle.graphql_ast_json.specs.code.JsonNodes.{IsFromNone, IsReadFrom, node_data};
 ghost use Rattle.graphql_ast_json.specs.code.NodeReading.{IsInFile, IsOfNone, IsReadAs, StandsAt, node_json};
@@ -154,7 +154,7 @@ pub trait AstNode: Sized {
     fn write_node(&self, node: NodeWriter) -> Result<Json, AllocError>
         ensures ok { IfOk result (λ json. (unknown : Unknown)
             → is_node unknown (tree self.now) (view json)) }
-        ensures stands { IfOk result (λ json. StandsAt (place_of node) (view json)) };
+        ensures stands { IfOk result (λ json. StandsAt (location_of node) (view json)) };
 
     /// The tree as JSON, at a location if there is one. `AllocError` if an allocation fails.
     final fn to_ast_json_at(

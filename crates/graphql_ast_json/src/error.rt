@@ -220,11 +220,11 @@ pub enum AstJsonError {
     /// The nesting depth of arrays and objects of the text is above 127.
     #[error("arrays and objects stand in one another more than 127 deep")]
     TooDeep,
-    /// The JSON is of no such tree, because of this problem at this position, in a node that tells this place.
-    #[error("at {path}{place}: {problem}")]
+    /// The JSON is of no such tree, because of this problem at this position, in a node that tells this location.
+    #[error("at {path}{location}: {problem}")]
     Invalid {
         path: JsonPath,
-        place: NodePlace,
+        location: NodeLocation,
         problem: AstJsonProblem,
     },
 }
@@ -235,12 +235,12 @@ pub enum AstJsonError {
 ///
 /// ```
 /// let span = SourceSpan::new(FileId::new(1), 4, 9).context("start is after end")?;
-/// println!(rt; "at `value`{}", NodePlace(Some(span)))?; // at `value`, in a node from 4 to 9
+/// println!(rt; "at `value`{}", NodeLocation(Some(span)))?; // at `value`, in a node from 4 to 9
 /// ```
 #[derive(Clone, Copy, Debug, PartialEq, Eq)]
-pub struct NodePlace(pub Option<SourceSpan>);
+pub struct NodeLocation(pub Option<SourceSpan>);
 
-impl Display for NodePlace {
+impl Display for NodeLocation {
     fn fmt<W: Write>(&self, f: &mut Formatter<W>) -> fmt::Result {
         match self.0 {
             Some(span) => write!(f, ", in a node from {} to {}", span.start(), span.end()),
@@ -266,20 +266,20 @@ impl AstJsonError {
     /// A problem of the JSON itself that is read.
     pub(crate) fn here(
         alloc: Global,
-        place: Option<SourceSpan>,
+        location: Option<SourceSpan>,
         problem: AstJsonProblem,
     ) -> AstJsonError
-        ensures { IsInvalidAnd (λ told told_place told_problem. (path_text told ≡ [])
-            × (told_place.0 ≡ place) × (told_problem ≡ problem)) result }
+        ensures { IsInvalidAnd (λ told told_location told_problem. (path_text told ≡ [])
+            × (told_location.0 ≡ location) × (told_problem ≡ problem)) result }
     {
         AstJsonError::Invalid {
             path: JsonPath::root(alloc),
-            place: NodePlace(place),
+            location: NodeLocation(location),
             problem,
         }
     }
 
-    /// The error, told from the object that has the position in this member and perhaps tells its own place.
+    /// The error, told from the object that has the position in this member and perhaps tells its own location.
     pub(crate) fn in_member(
         self,
         alloc: Global,
@@ -288,17 +288,17 @@ impl AstJsonError {
     ) -> AstJsonError
         ensures memory { IsMemory self → IsMemory result }
         ensures told { IsToldFrom name.now
-            (λ place told. told.0 ≡ option_or place.0 outer) self result }
+            (λ location told. told.0 ≡ option_or location.0 outer) self result }
     {
         match self {
             AstJsonError::Invalid {
                 path,
-                place,
+                location,
                 problem,
             } => match path.in_member(alloc, name) {
                 Ok(path) => AstJsonError::Invalid {
                     path,
-                    place: NodePlace(place.0.or(outer)),
+                    location: NodeLocation(location.0.or(outer)),
                     problem,
                 },
                 Err(_) => AstJsonError::Memory,
@@ -310,17 +310,18 @@ impl AstJsonError {
     /// The error, told from the array that has the position in this item.
     pub(crate) fn in_item(self, alloc: Global, index: usize) -> AstJsonError
         ensures memory { IsMemory self → IsMemory result }
-        ensures told { IsToldFrom (item_name index) (λ place told. told ≡ place) self result }
+        ensures told { IsToldFrom (item_name index)
+            (λ location told. told ≡ location) self result }
     {
         match self {
             AstJsonError::Invalid {
                 path,
-                place,
+                location,
                 problem,
             } => match path.in_item(alloc, index) {
                 Ok(path) => AstJsonError::Invalid {
                     path,
-                    place,
+                    location,
                     problem,
                 },
                 Err(_) => AstJsonError::Memory,

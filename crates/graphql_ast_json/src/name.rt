@@ -39,11 +39,11 @@ pub(crate) fn name_of_kind(node: JsonNode<'_, '_>, kind: &str) -> Result<Name, A
 }
 
 /// The name, at this location if it is as long as the name: a program that renames may leave the old one.
-#[tactic(auto, using(crate::proofs::nodes::NamePlaces::fits, crate::proofs::nodes::NamePlaces::unfit))]
+#[tactic(auto, using(crate::proofs::nodes::NameLocations::fits, crate::proofs::nodes::NameLocations::unfit))]
 fn name_at(name: Name, location: Option<SourceSpan>) -> Name
     requires { name_location name ≡ None }
     ensures text { name_text result ≡ name_text name }
-    ensures place { option_map stretch_of (name_location result)
+    ensures stands { option_map stretch_of (name_location result)
         ≡ as_long_as (length (name_text name)) (option_map stretch_of location) }
     ensures no_other { IfSome (name_location result) (λ span. location ≡ Some span) }
 {

@@ -8,7 +8,7 @@ ghost use Rattle.graphql_ast_json.specs.code.Errors.{IsMemory};
 ghost use Rattle.graphql_ast_json.specs.code.JsonNodes.{node_data};
 ghost use Rattle.graphql_ast_json.specs.code.Nesting.{TellsKind};
 ghost use Rattle.graphql_ast_json.specs.code.NodeReading.{IsInFile, StandsAt};
-ghost use Rattle.graphql_ast_json.specs.code.ToldErrors.{IsPlaceOr, IsToldFrom};
+ghost use Rattle.graphql_ast_json.specs.code.ToldErrors.{IsLocationOr, IsToldFrom};
 ghost use Rattle.graphql_ast_json.specs.nodes.Nodes.{IsLocated, member_of};
 
 use crate::error::AstJsonError;
@@ -43,7 +43,7 @@ impl<'j, 't> JsonNode<'j, 't> {
         ensures err { IfErr result (λ error. ¬ IsMemory error
             → IsErrAnd read (λ inner. ¬ IsMemory inner)) }
         ensures told { IfErr result (λ error.
-            IsErrAnd read (λ inner. IsToldFrom name.now (IsPlaceOr self.entry) inner error)) }
+            IsErrAnd read (λ inner. IsToldFrom name.now (IsLocationOr self.entry) inner error)) }
     {
         match read {
             Ok(value) => Ok(value),

@@ -5,7 +5,7 @@ ghost use Rattle.serde_json.specs.View.{view};
 ghost use Rattle.graphql_base.specs.Node.{IsNodeStrAt, node_str_location};
 ghost use Rattle.graphql_text.specs.trees.Leaves.{description_tree};
 ghost use Rattle.graphql_text.specs.lexical.Literals.{StringText};
-ghost use Rattle.graphql_ast_json.specs.code.Drafts.{place_of};
+ghost use Rattle.graphql_ast_json.specs.code.Drafts.{location_of};
 ghost use Rattle.graphql_ast_json.specs.code.Errors.{IsMemory};
 ghost use Rattle.graphql_ast_json.specs.code.JsonNodes.{node_data, IsReadFrom};
 ghost use Rattle.graphql_ast_json.specs.code.NodeReading.{IsStringOf, StandsAt};
@@ -81,7 +81,7 @@ pub(crate) fn write_string(
         → encode_utf8_all string.text ≡ text.now → IsStringValue unknown string (view json)) }
     ensures block { IfOk result (λ json. member_of (codes "block") (view json)
         ≡ (if is_block then Some (boolean true) else None)) }
-    ensures stands { IfOk result (λ json. StandsAt (place_of node) (view json)) }
+    ensures stands { IfOk result (λ json. StandsAt (location_of node) (view json)) }
 {
     node.begin("StringValue")?;
     node.put_text("value", text)?;

@@ -12,7 +12,7 @@ ghost use Rattle.graphql_ast_json.specs.declared.read.Unknown.TheVariants.{Refus
 mod search;
 
 use crate::ast_json::AstJson;
-use crate::error::{AstJsonError, JsonPath, NodePlace};
+use crate::error::{AstJsonError, JsonPath, NodeLocation};
 use crate::read::text::read_json;
 use crate::read::{JsonNode, NodeReader, Unknown};
 use graphql_ast::name::Name;
@@ -87,14 +87,14 @@ pub enum WellFormedError {
     #[error("{0}")]
     NotRead(AstJsonError),
     /// The JSON is of a tree that isn't well formed. The first of its flaws in the order of print is at this position,
-    /// in a node that tells this place.
+    /// in a node that tells this location.
     ///
     /// The position is that of what is told of the condition: of the node, as of an empty selection set, or of the text
     /// of a name.
-    #[error("at {path}{place}: {broken}")]
+    #[error("at {path}{location}: {broken}")]
     IllFormed {
         path: JsonPath,
-        place: NodePlace,
+        location: NodeLocation,
         broken: BrokenCondition,
     },
 }
@@ -173,7 +173,7 @@ pub fn read_well_formed_json<T: AstJson + SyntaxTree + Drop>(
             let position = position_of(node, found.condition)?;
             Err(WellFormedError::IllFormed {
                 path: position.path,
-                place: NodePlace(position.place),
+                location: NodeLocation(position.location),
                 broken,
             })
         }

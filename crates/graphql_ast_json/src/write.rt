@@ -7,7 +7,7 @@ ghost use Rattle.graphql_base.specs.Node.{node_value};
 ghost use Rattle.graphql_text.specs.grammar.Forms.{is_one_of};
 ghost use Rattle.graphql_values.specs.trees.DirectiveTrees.{directive_trees};
 ghost use Rattle.graphql_values.specs.trees.ValueTrees.{value_tree};
-ghost use Rattle.graphql_ast_json.specs.code.Drafts.{IsArrayOf, IsBegun, IsGiven, IsLocationJson, beginning, members_so_far, place_of, put_optional, written};
+ghost use Rattle.graphql_ast_json.specs.code.Drafts.{IsArrayOf, IsBegun, IsGiven, IsLocationJson, beginning, location_of, members_so_far, put_optional, written};
 ghost use Rattle.graphql_ast_json.specs.code.NodeReading.{IsTextNode, StandsAt};
 ghost use Rattle.graphql_ast_json.specs.declared.read.Unknown.{Unknown};
 ghost use Rattle.graphql_ast_json.specs.kinds.DirectiveJson.{IsDirective};
@@ -63,7 +63,7 @@ pub(crate) fn write_list<F: Form>(alloc: Global, values: &[F::Value]) -> Result<
 impl NodeWriter {
     /// A node that is to stand at a location, if there is one.
     pub(crate) fn new(alloc: Global, location: Option<SourceSpan>) -> NodeWriter
-        ensures { place_of result ≡ location }
+        ensures { location_of result ≡ location }
     {
         NodeWriter {
             alloc,
@@ -75,7 +75,7 @@ impl NodeWriter {
 
     /// The same of a node that the default layout prints on one line.
     pub(crate) fn on_one_line(alloc: Global, location: Option<SourceSpan>) -> NodeWriter
-        ensures { place_of result ≡ location }
+        ensures { location_of result ≡ location }
     {
         NodeWriter {
             is_on_one_line: true,
@@ -85,7 +85,7 @@ impl NodeWriter {
 
     /// The same of a node within this one, which is printed on one line if this one is.
     pub(crate) fn inner(&self, location: Option<SourceSpan>) -> NodeWriter
-        ensures { place_of result ≡ location }
+        ensures { location_of result ≡ location }
     {
         NodeWriter {
             is_on_one_line: self.is_on_one_line,
@@ -106,7 +106,7 @@ impl NodeWriter {
     /// Begins a node of this kind: it has no members but its kind and its location.
     #[tactic(auto, unfolding(crate::specs::code::Drafts::beginning))]
     pub(crate) fn begin(&mut self, kind: &str) -> Result<(), AllocError>
-        ensures { OnOk result (IsBegun kind.now (place_of self.old) (members_so_far self.new)) }
+        ensures { OnOk result (IsBegun kind.now (location_of self.old) (members_so_far self.new)) }
     {
         let location = write_location(self.alloc, self.location)?;
         self.members = Map::new(self.alloc);
@@ -271,7 +271,7 @@ impl NodeWriter {
     pub(crate) fn with_none(mut self, kind: &str) -> Result<Json, AllocError>
         ensures node { IfOk result (λ node. (unknown : Unknown)
             → IsNode unknown kind.now [] (view node)) }
-        ensures stands { IfOk result (λ node. StandsAt (place_of self) (view node)) }
+        ensures stands { IfOk result (λ node. StandsAt (location_of self) (view node)) }
     {
         self.begin(kind)?;
         Ok(self.into_json())
@@ -287,7 +287,7 @@ impl NodeWriter {
         requires { is_one_of (codes "loc" ∷ codes "kind" ∷ []) name.now ≡ false }
         ensures node { IfOk result (λ node. (unknown : Unknown)
             → IsNode unknown kind.now (name.now ∷ []) (view node)) }
-        ensures stands { IfOk result (λ node. StandsAt (place_of self) (view node)) }
+        ensures stands { IfOk result (λ node. StandsAt (location_of self) (view node)) }
         ensures member { IfOk result (λ node. get name.now (view node) ≡ Some (view json)) }
     {
         self.begin(kind)?;
@@ -299,7 +299,7 @@ impl NodeWriter {
     pub(crate) fn with_text(mut self, kind: &str, text: &str) -> Result<Json, AllocError>
         ensures ok { IfOk result (λ node. (unknown : Unknown)
             → IsTextNode unknown kind.now text.now (view node)) }
-        ensures stands { IfOk result (λ node. StandsAt (place_of self) (view node)) }
+        ensures stands { IfOk result (λ node. StandsAt (location_of self) (view node)) }
     {
         self.begin(kind)?;
         self.put_text("value", text)?;

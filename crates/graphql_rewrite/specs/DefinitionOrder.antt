@@ -10,29 +10,29 @@ use Rattle.graphql_ast.specs.Definitions.{DefinitionName}
 use Rattle.graphql_ast.specs.Definitions as name
 use Rattle.graphql_ast.specs.declared.definition.Definition.{Definition}
 
--- the place of a kind, in the order of the grammar: Definition, section 2.2, and sections 3 to 3.4.3
-abbrev pub kind_place : DefinitionName → ℕ
-kind_place name.OperationDefinition = 0
-kind_place name.FragmentDefinition = 1
-kind_place name.SchemaDefinition = 2
-kind_place name.ScalarTypeDefinition = 3
-kind_place name.ObjectTypeDefinition = 4
-kind_place name.InterfaceTypeDefinition = 5
-kind_place name.UnionTypeDefinition = 6
-kind_place name.EnumTypeDefinition = 7
-kind_place name.InputObjectTypeDefinition = 8
-kind_place name.DirectiveDefinition = 9
-kind_place name.SchemaExtension = 10
-kind_place name.ScalarTypeExtension = 11
-kind_place name.ObjectTypeExtension = 12
-kind_place name.InterfaceTypeExtension = 13
-kind_place name.UnionTypeExtension = 14
-kind_place name.EnumTypeExtension = 15
-kind_place name.InputObjectTypeExtension = 16
+-- the rank of a kind, in the order of the grammar: Definition, section 2.2, and sections 3 to 3.4.3
+abbrev pub kind_rank : DefinitionName → ℕ
+kind_rank name.OperationDefinition = 0
+kind_rank name.FragmentDefinition = 1
+kind_rank name.SchemaDefinition = 2
+kind_rank name.ScalarTypeDefinition = 3
+kind_rank name.ObjectTypeDefinition = 4
+kind_rank name.InterfaceTypeDefinition = 5
+kind_rank name.UnionTypeDefinition = 6
+kind_rank name.EnumTypeDefinition = 7
+kind_rank name.InputObjectTypeDefinition = 8
+kind_rank name.DirectiveDefinition = 9
+kind_rank name.SchemaExtension = 10
+kind_rank name.ScalarTypeExtension = 11
+kind_rank name.ObjectTypeExtension = 12
+kind_rank name.InterfaceTypeExtension = 13
+kind_rank name.UnionTypeExtension = 14
+kind_rank name.EnumTypeExtension = 15
+kind_rank name.InputObjectTypeExtension = 16
 
--- the place of its kind, and then the bytes of its name, if it has one
+-- the rank of its kind, and then the bytes of its name, if it has one
 abbrev pub sort_key : Definition → List ℕ
-sort_key definition = kind_place (definition_tree definition).name ∷ option_map_or name_text (definition_name definition) []
+sort_key definition = kind_rank (definition_tree definition).name ∷ option_map_or name_text (definition_name definition) []
 
 -- by kind, and within a kind by name
 abbrev pub comes_before : Definition → Definition → Bool

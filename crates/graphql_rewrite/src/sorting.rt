@@ -7,15 +7,15 @@ ghost use Rattle.std.specs.Ordering.{nat_cmp};
 ghost use Rattle.graphql_base.specs.Name.{name_text};
 ghost use Rattle.graphql_ast.specs.AstTrees.{definition_tree};
 ghost use Rattle.graphql_ast.specs.DefinitionQueries.{definition_name};
-ghost use Rattle.graphql_rewrite.specs.DefinitionOrder.{comes_before, kind_place, sort_key};
+ghost use Rattle.graphql_rewrite.specs.DefinitionOrder.{comes_before, kind_rank, sort_key};
 
 use graphql_ast::ast::{Definition, Document};
 use std::alloc::AllocError;
 use std::cmp::Ordering;
 
-/// The place of its kind.
-fn place(definition: &Definition) -> u8
-    ensures { result ≡ kind_place (definition_tree definition.now).name }
+/// The rank of its kind.
+fn rank(definition: &Definition) -> u8
+    ensures { result ≡ kind_rank (definition_tree definition.now).name }
 {
     match definition {
         Definition::OperationDefinition(_) => 0,
@@ -51,7 +51,7 @@ fn name(definition: &Definition) -> &str
 fn compare(one: &Definition, other: &Definition) -> Ordering
     ensures { result ≡ slice_cmp nat_cmp (sort_key one.now) (sort_key other.now) }
 {
-    match place(one).cmp(&place(other)) {
+    match rank(one).cmp(&rank(other)) {
         Ordering::Equal => name(one).cmp(name(other)),
         unequal => unequal,
     }

@@ -153,10 +153,10 @@ located : (unknown : Unknown) (location : Option SourceSpan) → IfSome location
 located unknown None reach = tt
 located unknown (Some span) reach = (only_offsets unknown span, subst IsSome (sym (span_there span reach)) refl)
 
-placed : (location : Option SourceSpan) → IfSome location (λ span. span_end span < 2 ^ 32) →
+stretch_told : (location : Option SourceSpan) → IfSome location (λ span. span_end span < 2 ^ 32) →
     option_map stretch_of location ≡ option_and_then stretch_in (option_and_then present (option_map location_json location))
-placed None reach = refl
-placed (Some span) reach = sym (span_there span reach)
+stretch_told None reach = refl
+stretch_told (Some span) reach = sym (span_there span reach)
 
 among_only : (unknown : Unknown) (names : List (List ℕ)) (members : Members) → IsTrue (names_among names members) → HasOnly unknown names (object members)
 among_only Refuse names members among = among
@@ -195,7 +195,7 @@ pub stands : {kind : List ℕ} {location : Option SourceSpan} {entries : List En
     IsTrue (are_apart (entry_names (all_entries kind location entries))) →
     entry_at (codes "loc") (all_entries kind location entries) ≡ option_map location_json location → StandsAt location json
 stands {kind = kind} {location = location} {entries = entries} {json = json} w apart at_loc =
-    placed location w.reach
+    stretch_told location w.reach
     ∙ ap (λ o. option_and_then stretch_in (option_and_then present o)) (sym (found kind location entries json w apart (codes "loc") ∙ at_loc))
 
 pub same_name : (name : List ℕ) → pointwise nat_eq name name ≡ true
@@ -211,7 +211,7 @@ apart_sym name other apart = apart_by (pointwise nat_eq other name) name other r
 -- one member besides
 pub record IsWith (kind : List ℕ) (location : Option SourceSpan) (name : List ℕ) (inner json : Data) : Type 0 where
   pub node : (unknown : Unknown) → IsNode unknown kind (name ∷ []) json
-  pub place : StandsAt location json
+  pub stands : StandsAt location json
   pub at : get name json ≡ Some inner
 
 pub one_written : (kind : List ℕ) (location : Option SourceSpan) (name : List ℕ) (inner json : Data) →
@@ -232,7 +232,7 @@ one_written kind location name inner json other w =
     let here : entry_at name (all_entries kind location ((name, Some inner) ∷ [])) ≡ Some inner =
     ap (λ same. cond same (Some inner) (entry_at name (all_entries kind location []))) (same_name name) in record {
       node = λ unknown. is_node unknown (name ∷ []) w apart among at_kind at_loc;
-      place = stands w apart at_loc;
+      stands = stands w apart at_loc;
       at = found kind location ((name, Some inner) ∷ []) json w apart name ∙ here;
     }
 

@@ -21,7 +21,7 @@ and_some found x P is p = subst (λ o. IsSomeAnd o P) (sym is) p
 -- the items before this one are of trees, it is of none, and this is told of it
 pub first_told : {Tree : Type 0} (Is : Tree → Data → Type 0) (Told : Data → AstJsonError → Type 0) (items : List Data) (i : ℕ) (json : Data)
     (trees : List Tree) (inner error : AstJsonError) → i < length items → json ≡ get_or items i null → Each Is trees (items_of (take i items)) →
-    ((tree : Tree) → ¬ Is tree json) → IsToldFrom (item_name i) (λ place told_place. told_place ≡ place) inner error → Told json inner →
+    ((tree : Tree) → ¬ Is tree json) → IsToldFrom (item_name i) (λ location told_location. told_location ≡ location) inner error → Told json inner →
     IsToldOfItemBy Is Told (items_of items) error
 first_told Is Told items i json trees inner error within at are none told of = (
   record {
@@ -34,7 +34,7 @@ first_told Is Told items i json trees inner error within at are none told of = (
     read = are;
     none = none;
     inner = inner;
-    told = subst (λ (n : ℕ). IsToldFrom (item_name n) (λ place told_place. told_place ≡ place) inner error)
+    told = subst (λ (n : ℕ). IsToldFrom (item_name n) (λ location told_location. told_location ≡ location) inner error)
         (sym (length-take-le i items (omega (arith, within)))) told;
   },
   of,

@@ -29,8 +29,8 @@ abbrev pub written : NodeWriter → Data
 written node = object (members_so_far node)
 
 -- where it is to stand
-abbrev pub place_of : NodeWriter → Option SourceSpan
-place_of node = node.location
+abbrev pub location_of : NodeWriter → Option SourceSpan
+location_of node = node.location
 
 -- what is made of no location, or of one, whose offsets are below 2 ^ 32 as all are
 abbrev pub IsLocationJson : Option SourceSpan → Option Data → Type 0

@@ -1,4 +1,4 @@
--- Places within JSON, as `fields[0].value`.
+-- Positions within JSON, as `fields[0].value`.
 use Rattle.std.specs.Prelude.{ℕ, ◌==◌, Bool, false, not, List, [], ◌∷◌, ◌++◌, if◌then◌else◌, string_bytes}
 use Rattle.std.specs.Fmt.{decimal}
 use Rattle.graphql_ast_json.specs.declared.error.JsonPath.{JsonPath}

@@ -18,7 +18,7 @@ use Rattle.graphql_ast_json.specs.declared.error.Excerpt.{Excerpt}
 use Rattle.graphql_ast_json.specs.declared.error.JsonPath.{JsonPath}
 use Rattle.graphql_ast_json.specs.declared.error.JsonType.{JsonType}
 use Rattle.graphql_ast_json.specs.declared.error.JsonType.TheVariants.{Array, Boolean, Object, Text}
-use Rattle.graphql_ast_json.specs.declared.error.NodePlace.{NodePlace}
+use Rattle.graphql_ast_json.specs.declared.error.NodeLocation.{NodeLocation}
 use Rattle.graphql_ast_json.specs.declared.read.JsonNode.{JsonNode}
 use Rattle.graphql_ast_json.specs.nodes.Nodes.{Each, IsName, IsNode, items_or_none, member_of}
 
@@ -50,29 +50,29 @@ abbrev pub IsWrongText : List ℕ → List ℕ → AstJsonProblem → Type 0
 IsWrongText found what (WrongText told wanted) = IsExcerptOf found told × (string_bytes wanted ≡ what)
 IsWrongText found what _ = ⊥
 
--- there is a problem, and this is so of its path, its place and itself
-abbrev pub IsInvalidAnd : (JsonPath → NodePlace → AstJsonProblem → Type 0) → AstJsonError → Type 0
-IsInvalidAnd Is (Invalid path place problem) = Is path place problem
+-- there is a problem, and this is so of its path, its location and itself
+abbrev pub IsInvalidAnd : (JsonPath → NodeLocation → AstJsonProblem → Type 0) → AstJsonError → Type 0
+IsInvalidAnd Is (Invalid path location problem) = Is path location problem
 IsInvalidAnd Is _ = ⊥
 
--- the place is what the node tells
-abbrev pub IsPlaceOf : JsonNode → NodePlace → Type 0
-IsPlaceOf node place = StandsAt place.0 (node_data node) × IsInFile node.source place.0
+-- the location is what the node tells
+abbrev pub IsLocationOf : JsonNode → NodeLocation → Type 0
+IsLocationOf node location = StandsAt location.0 (node_data node) × IsInFile node.source location.0
 
--- there is such a problem at this path from the node, whose place is told
+-- there is such a problem at this path from the node, whose location is told
 abbrev pub IsTold : JsonNode → List ℕ → (AstJsonProblem → Type 0) → AstJsonError → Type 0
-IsTold node path Is = IsInvalidAnd (λ told place problem. (path_text told ≡ path) × IsPlaceOf node place × Is problem)
+IsTold node path Is = IsInvalidAnd (λ told location problem. (path_text told ≡ path) × IsLocationOf node location × Is problem)
 
--- the place was told already, or is what the node tells
-abbrev pub IsPlaceOr : JsonNode → NodePlace → NodePlace → Type 0
-IsPlaceOr node inner place = MatchOption inner.0 (IsPlaceOf node place) (λ span. place.0 ≡ Some span)
+-- the location was told already, or is what the node tells
+abbrev pub IsLocationOr : JsonNode → NodeLocation → NodeLocation → Type 0
+IsLocationOr node inner location = MatchOption inner.0 (IsLocationOf node location) (λ span. location.0 ≡ Some span)
 
 -- Unless memory was refused, the one error is the other, told from what has it in the member of this name.
-abbrev pub IsToldFrom : List ℕ → (NodePlace → NodePlace → Type 0) → AstJsonError → AstJsonError → Type 0
-IsToldFrom name IsPlace (Invalid path place problem) error =
-    ¬ IsMemory error → IsInvalidAnd (λ told_path told_place told.
-    (path_text told_path ≡ path_in name (path_text path)) × IsPlace place told_place × (told ≡ problem)) error
-IsToldFrom name IsPlace inner error = error ≡ inner
+abbrev pub IsToldFrom : List ℕ → (NodeLocation → NodeLocation → Type 0) → AstJsonError → AstJsonError → Type 0
+IsToldFrom name IsLocation (Invalid path location problem) error =
+    ¬ IsMemory error → IsInvalidAnd (λ told_path told_location told.
+    (path_text told_path ≡ path_in name (path_text path)) × IsLocation location told_location × (told ≡ problem)) error
+IsToldFrom name IsLocation inner error = error ≡ inner
 
 -- what is told of a node that has no member of this name, as each of those does
 abbrev pub IsWithout : List ℕ → List ℕ → Data → AstJsonProblem → Type 0
@@ -91,7 +91,7 @@ IsToldOfOptional node name type error = IsSomeAnd (member_of name (node_data nod
 
 -- an error of which this is so, told from the node that has its JSON in the member of this name
 abbrev pub IsToldWithin : JsonNode → List ℕ → (AstJsonError → Type 0) → AstJsonError → Type 0
-IsToldWithin node name Is error = (inner : AstJsonError) × Is inner × IsToldFrom name (IsPlaceOr node) inner error
+IsToldWithin node name Is error = (inner : AstJsonError) × Is inner × IsToldFrom name (IsLocationOr node) inner error
 
 -- what is told of the member of this name that a node must have, if this is told of its JSON
 abbrev pub IsToldOfMemberBy : (Data → AstJsonError → Type 0) → JsonNode → List ℕ → AstJsonError → Type 0
@@ -199,7 +199,7 @@ pub record IsToldOfItem {Tree : Type 0} (Is : Tree → Data → Type 0) (items :
   pub read : Each Is trees (items_of before)
   pub none : (tree : Tree) → ¬ Is tree json
   pub inner : AstJsonError
-  pub told : IsToldFrom (item_name (length before)) (λ place told_place. told_place ≡ place) inner error
+  pub told : IsToldFrom (item_name (length before)) (λ location told_location. told_location ≡ location) inner error
 
 -- what is told of JSON that is no array of trees
 abbrev pub IsToldOfArray : {Tree : Type 0} → (Tree → Data → Type 0) → JsonNode → AstJsonError → Type 0

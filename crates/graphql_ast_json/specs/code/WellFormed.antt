@@ -16,14 +16,14 @@ told_flaw broken = record { condition = broken.condition; name = option_map name
 -- where no tree was read, this is so of the error of the reading
 abbrev pub IfNotRead : WellFormedError → (AstJsonError → Type 0) → Type 0
 IfNotRead (NotRead error) Is = Is error
-IfNotRead (IllFormed path place broken) Is = ⊤
+IfNotRead (IllFormed path location broken) Is = ⊤
 
 -- where the tree isn't well formed, this is so of the flaw that is told
 abbrev pub IfIllFormed : WellFormedError → (Flaw → Type 0) → Type 0
 IfIllFormed (NotRead error) Is = ⊤
-IfIllFormed (IllFormed path place broken) Is = Is (told_flaw broken)
+IfIllFormed (IllFormed path location broken) Is = Is (told_flaw broken)
 
 -- memory was refused
 abbrev pub IsMemoryRefused : WellFormedError → Type 0
 IsMemoryRefused (NotRead error) = IsMemory error
-IsMemoryRefused (IllFormed path place broken) = ⊥
+IsMemoryRefused (IllFormed path location broken) = ⊥

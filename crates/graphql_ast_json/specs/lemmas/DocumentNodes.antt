@@ -23,104 +23,76 @@ use Rattle.graphql_ast_json.specs.declared.read.Unknown.{Unknown}
 
 -- WHICH DEFINITION A NODE IS
 
--- the `kind` of its node
+-- which name a node's `kind` tells
+abbrev names_by_kind : List (List ℕ × DefinitionName)
+names_by_kind =
+    (codes "OperationDefinition", OperationDefinition) ∷ (codes "FragmentDefinition", FragmentDefinition)
+    ∷ (codes "DirectiveDefinition", DirectiveDefinition) ∷ (codes "SchemaDefinition", SchemaDefinition)
+    ∷ (codes "ScalarTypeDefinition", ScalarTypeDefinition) ∷ (codes "ObjectTypeDefinition", ObjectTypeDefinition)
+    ∷ (codes "InterfaceTypeDefinition", InterfaceTypeDefinition) ∷ (codes "UnionTypeDefinition", UnionTypeDefinition)
+    ∷ (codes "EnumTypeDefinition", EnumTypeDefinition) ∷ (codes "InputObjectTypeDefinition", InputObjectTypeDefinition)
+    ∷ (codes "SchemaExtension", SchemaExtension) ∷ (codes "ScalarTypeExtension", ScalarTypeExtension)
+    ∷ (codes "ObjectTypeExtension", ObjectTypeExtension) ∷ (codes "InterfaceTypeExtension", InterfaceTypeExtension)
+    ∷ (codes "UnionTypeExtension", UnionTypeExtension) ∷ (codes "EnumTypeExtension", EnumTypeExtension)
+    ∷ (codes "InputObjectTypeExtension", InputObjectTypeExtension) ∷ []
+
+abbrev first_of_kind : List ℕ → List (List ℕ × DefinitionName) → Option DefinitionName
+first_of_kind kind [] = None
+first_of_kind kind (one ∷ more) = elim (pointwise nat_eq one.0 kind) [ true ↦ Some one.1 | false ↦ first_of_kind kind more ]
+
+pub name_of_kind : List ℕ → Option DefinitionName
+name_of_kind kind = first_of_kind kind names_by_kind
+
+-- what is known of the JSON of a definition that is so named: the `kind` of its node, which tells the name, and that it is of one tree at most
+pub record NamedLaws (name : DefinitionName) : Type 0 where
+  pub kind : List ℕ
+  pub of_kind : (unknown : Unknown) (tree : (kind_named name).Tree) (json : Data) → IsNamed unknown name tree json → IsOfKind kind json
+  pub told : name_of_kind kind ≡ Some name
+  pub one_tree : (unknown : Unknown) → IsOfOneTree (IsNamed unknown name)
+
+pub told_by : (kind : List ℕ) (name : DefinitionName) → first_of_kind kind names_by_kind ≡ Some name → name_of_kind kind ≡ Some name
+unfolding name_of_kind
+told_by kind name first = first
+
+abbrev laws_by : {name : DefinitionName} (kind : List ℕ) → first_of_kind kind names_by_kind ≡ Some name →
+    ((unknown : Unknown) (tree : (kind_named name).Tree) (json : Data) → IsNamed unknown name tree json → IsOfKind kind json) →
+    ((unknown : Unknown) → IsOfOneTree (IsNamed unknown name)) → NamedLaws name
+laws_by {name = name} kind first of_kind one_tree = record { kind = kind; of_kind = of_kind; told = told_by kind name first; one_tree = one_tree }
+
+abbrev pub named_laws : (name : DefinitionName) → NamedLaws name
+named_laws OperationDefinition = laws_by (codes "OperationDefinition") refl (λ unknown tree json is. is.0.0) operation_definition_laws.one_tree
+named_laws FragmentDefinition = laws_by (codes "FragmentDefinition") refl (λ unknown tree json is. is.0.0) fragment_definition_laws.one_tree
+named_laws DirectiveDefinition = laws_by (codes "DirectiveDefinition") refl (λ unknown tree json is. is.0.0) directive_definition_laws.one_tree
+named_laws SchemaDefinition = laws_by (codes "SchemaDefinition") refl (λ unknown tree json is. is.0.0) schema_definition_laws.one_tree
+named_laws ScalarTypeDefinition = laws_by (codes "ScalarTypeDefinition") refl (λ unknown tree json is. is.0.0) scalar_type_definition_laws.one_tree
+named_laws ObjectTypeDefinition = laws_by (codes "ObjectTypeDefinition") refl (λ unknown tree json is. is.0.0) object_type_definition_laws.one_tree
+named_laws InterfaceTypeDefinition = laws_by (codes "InterfaceTypeDefinition") refl (λ unknown tree json is. is.0.0) interface_type_definition_laws.one_tree
+named_laws UnionTypeDefinition = laws_by (codes "UnionTypeDefinition") refl (λ unknown tree json is. is.0.0) union_type_definition_laws.one_tree
+named_laws EnumTypeDefinition = laws_by (codes "EnumTypeDefinition") refl (λ unknown tree json is. is.0.0) enum_type_definition_laws.one_tree
+named_laws InputObjectTypeDefinition =
+    laws_by (codes "InputObjectTypeDefinition") refl (λ unknown tree json is. is.0.0) input_object_type_definition_laws.one_tree
+named_laws SchemaExtension = laws_by (codes "SchemaExtension") refl (λ unknown tree json is. is.0.0) schema_extension_laws.one_tree
+named_laws ScalarTypeExtension = laws_by (codes "ScalarTypeExtension") refl (λ unknown tree json is. is.0.0) scalar_type_extension_laws.one_tree
+named_laws ObjectTypeExtension = laws_by (codes "ObjectTypeExtension") refl (λ unknown tree json is. is.0.0) object_type_extension_laws.one_tree
+named_laws InterfaceTypeExtension = laws_by (codes "InterfaceTypeExtension") refl (λ unknown tree json is. is.0.0) interface_type_extension_laws.one_tree
+named_laws UnionTypeExtension = laws_by (codes "UnionTypeExtension") refl (λ unknown tree json is. is.0.0) union_type_extension_laws.one_tree
+named_laws EnumTypeExtension = laws_by (codes "EnumTypeExtension") refl (λ unknown tree json is. is.0.0) enum_type_extension_laws.one_tree
+named_laws InputObjectTypeExtension = laws_by (codes "InputObjectTypeExtension") refl (λ unknown tree json is. is.0.0) input_object_type_extension_laws.one_tree
+
 abbrev pub node_kind : DefinitionName → List ℕ
-node_kind OperationDefinition = codes "OperationDefinition"
-node_kind FragmentDefinition = codes "FragmentDefinition"
-node_kind DirectiveDefinition = codes "DirectiveDefinition"
-node_kind SchemaDefinition = codes "SchemaDefinition"
-node_kind ScalarTypeDefinition = codes "ScalarTypeDefinition"
-node_kind ObjectTypeDefinition = codes "ObjectTypeDefinition"
-node_kind InterfaceTypeDefinition = codes "InterfaceTypeDefinition"
-node_kind UnionTypeDefinition = codes "UnionTypeDefinition"
-node_kind EnumTypeDefinition = codes "EnumTypeDefinition"
-node_kind InputObjectTypeDefinition = codes "InputObjectTypeDefinition"
-node_kind SchemaExtension = codes "SchemaExtension"
-node_kind ScalarTypeExtension = codes "ScalarTypeExtension"
-node_kind ObjectTypeExtension = codes "ObjectTypeExtension"
-node_kind InterfaceTypeExtension = codes "InterfaceTypeExtension"
-node_kind UnionTypeExtension = codes "UnionTypeExtension"
-node_kind EnumTypeExtension = codes "EnumTypeExtension"
-node_kind InputObjectTypeExtension = codes "InputObjectTypeExtension"
+node_kind name = (named_laws name).kind
 
 pub named_node : (unknown : Unknown) (name : DefinitionName) (tree : (kind_named name).Tree) (json : Data) → IsNamed unknown name tree json →
     IsOfKind (node_kind name) json
-named_node unknown OperationDefinition tree json is = is.0.0
-named_node unknown FragmentDefinition tree json is = is.0.0
-named_node unknown DirectiveDefinition tree json is = is.0.0
-named_node unknown SchemaDefinition tree json is = is.0.0
-named_node unknown ScalarTypeDefinition tree json is = is.0.0
-named_node unknown ObjectTypeDefinition tree json is = is.0.0
-named_node unknown InterfaceTypeDefinition tree json is = is.0.0
-named_node unknown UnionTypeDefinition tree json is = is.0.0
-named_node unknown EnumTypeDefinition tree json is = is.0.0
-named_node unknown InputObjectTypeDefinition tree json is = is.0.0
-named_node unknown SchemaExtension tree json is = is.0.0
-named_node unknown ScalarTypeExtension tree json is = is.0.0
-named_node unknown ObjectTypeExtension tree json is = is.0.0
-named_node unknown InterfaceTypeExtension tree json is = is.0.0
-named_node unknown UnionTypeExtension tree json is = is.0.0
-named_node unknown EnumTypeExtension tree json is = is.0.0
-named_node unknown InputObjectTypeExtension tree json is = is.0.0
-
--- the first of some names whose node has this kind
-abbrev first_of_kind : List ℕ → List DefinitionName → Option DefinitionName
-first_of_kind kind [] = None
-first_of_kind kind (name ∷ names) = elim (pointwise nat_eq (node_kind name) kind) [ true ↦ Some name | false ↦ first_of_kind kind names ]
-
-name_of_kind : List ℕ → Option DefinitionName
-name_of_kind kind =
-    first_of_kind kind (OperationDefinition ∷ FragmentDefinition ∷ DirectiveDefinition ∷ SchemaDefinition ∷ ScalarTypeDefinition
-    ∷ ObjectTypeDefinition ∷ InterfaceTypeDefinition ∷ UnionTypeDefinition ∷ EnumTypeDefinition ∷ InputObjectTypeDefinition
-    ∷ SchemaExtension ∷ ScalarTypeExtension ∷ ObjectTypeExtension ∷ InterfaceTypeExtension ∷ UnionTypeExtension ∷ EnumTypeExtension
-    ∷ InputObjectTypeExtension ∷ [])
-
-name_is_found : (name : DefinitionName) → name_of_kind (node_kind name) ≡ Some name
-unfolding name_of_kind
-name_is_found OperationDefinition = refl
-name_is_found FragmentDefinition = refl
-name_is_found DirectiveDefinition = refl
-name_is_found SchemaDefinition = refl
-name_is_found ScalarTypeDefinition = refl
-name_is_found ObjectTypeDefinition = refl
-name_is_found InterfaceTypeDefinition = refl
-name_is_found UnionTypeDefinition = refl
-name_is_found EnumTypeDefinition = refl
-name_is_found InputObjectTypeDefinition = refl
-name_is_found SchemaExtension = refl
-name_is_found ScalarTypeExtension = refl
-name_is_found ObjectTypeExtension = refl
-name_is_found InterfaceTypeExtension = refl
-name_is_found UnionTypeExtension = refl
-name_is_found EnumTypeExtension = refl
-name_is_found InputObjectTypeExtension = refl
+named_node unknown name = (named_laws name).of_kind unknown
 
 some_name : (a b : DefinitionName) → Some a ≡ Some b → a ≡ b
 some_name a b same = cc
 
 same_node_kind : (a b : DefinitionName) → node_kind a ≡ node_kind b → a ≡ b
-same_node_kind a b same = some_name a b (sym (name_is_found a) ∙ ap name_of_kind same ∙ name_is_found b)
+same_node_kind a b same = some_name a b (sym (named_laws a).told ∙ ap name_of_kind same ∙ (named_laws b).told)
 
 -- DEFINITIONS
-
-same_named : (unknown : Unknown) (name : DefinitionName) → IsOfOneTree (IsNamed unknown name)
-same_named unknown OperationDefinition = operation_definition_laws.one_tree unknown
-same_named unknown FragmentDefinition = fragment_definition_laws.one_tree unknown
-same_named unknown DirectiveDefinition = directive_definition_laws.one_tree unknown
-same_named unknown SchemaDefinition = schema_definition_laws.one_tree unknown
-same_named unknown ScalarTypeDefinition = scalar_type_definition_laws.one_tree unknown
-same_named unknown ObjectTypeDefinition = object_type_definition_laws.one_tree unknown
-same_named unknown InterfaceTypeDefinition = interface_type_definition_laws.one_tree unknown
-same_named unknown UnionTypeDefinition = union_type_definition_laws.one_tree unknown
-same_named unknown EnumTypeDefinition = enum_type_definition_laws.one_tree unknown
-same_named unknown InputObjectTypeDefinition = input_object_type_definition_laws.one_tree unknown
-same_named unknown SchemaExtension = schema_extension_laws.one_tree unknown
-same_named unknown ScalarTypeExtension = scalar_type_extension_laws.one_tree unknown
-same_named unknown ObjectTypeExtension = object_type_extension_laws.one_tree unknown
-same_named unknown InterfaceTypeExtension = interface_type_extension_laws.one_tree unknown
-same_named unknown UnionTypeExtension = union_type_extension_laws.one_tree unknown
-same_named unknown EnumTypeExtension = enum_type_extension_laws.one_tree unknown
-same_named unknown InputObjectTypeExtension = input_object_type_extension_laws.one_tree unknown
 
 same_at : (unknown : Unknown) (a b : DefinitionName) → a ≡ b → (tree : (kind_named a).Tree) (other : (kind_named b).Tree) (json : Data) →
     IsNamed unknown a tree json →
@@ -130,7 +102,7 @@ same_at unknown a b e tree other json p =
     subst (λ c.
     (there : (kind_named c).Tree) → IsNamed unknown c there json →
     ◌≡◌ {A = DefinitionTree} (record { name = a; tree = tree }) (record { name = c; tree = there })) e
-    (λ there q. let same = same_named unknown a tree there json p q in λ i. record { name = a; tree = same i }) other
+    (λ there q. let same = (named_laws a).one_tree unknown tree there json p q in λ i. record { name = a; tree = same i }) other
 
 pub same_any_definition : (unknown : Unknown) → IsOfOneTree (IsAnyDefinition unknown)
 same_any_definition unknown a b json p q =

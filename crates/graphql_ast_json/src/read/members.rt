@@ -8,7 +8,7 @@ ghost use Rattle.parsed_json.specs.AnyJson.{any_data, items_data};
 ghost use Rattle.graphql_ast_json.specs.code.Errors.{IsMemory};
 ghost use Rattle.graphql_ast_json.specs.code.JsonNodes.{node_data, told_kind};
 ghost use Rattle.graphql_ast_json.specs.code.NodeReading.{IsInFile, IsTextNode, StandsAt, stretch_of};
-ghost use Rattle.graphql_ast_json.specs.code.ToldErrors.{IsOfNoTree, IsPlaceOr, IsTold, IsToldFrom, IsToldOfArray, IsToldOfItem, IsToldOfListBy, IsToldOfMember, IsToldOfMemberBy, IsToldOfNodeOr, IsToldOfOptional, IsToldOfOptionalBy, IsToldOfOptionalListBy, IsUnknownKind, IsUnknownMember, IsWithout, IsWrongText, IsWrongType};
+ghost use Rattle.graphql_ast_json.specs.code.ToldErrors.{IsLocationOr, IsOfNoTree, IsTold, IsToldFrom, IsToldOfArray, IsToldOfItem, IsToldOfListBy, IsToldOfMember, IsToldOfMemberBy, IsToldOfNodeOr, IsToldOfOptional, IsToldOfOptionalBy, IsToldOfOptionalListBy, IsUnknownKind, IsUnknownMember, IsWithout, IsWrongText, IsWrongType};
 ghost use Rattle.graphql_ast_json.specs.declared.error.JsonType.TheVariants.{Array, Boolean, Text};
 ghost use Rattle.graphql_ast_json.specs.kinds.DirectiveJson.{HasDirectives};
 ghost use Rattle.graphql_ast_json.specs.nodes.Nodes.{Each, IsFlag, IsLocated, IsOptional, ListMember, Member, OptionalListMember, items_or_none, member_of, offset_of, stretch_in};
@@ -40,7 +40,7 @@ fn told_offset(location: AnyJson<'_, '_>, name: &str) -> Option<u32>
 
 impl<'j, 't> JsonNode<'j, 't> {
     /// Where the node tells that it stands, for an error.
-    pub(crate) fn place(self) -> Option<SourceSpan>
+    pub(crate) fn told_location(self) -> Option<SourceSpan>
         ensures stands { StandsAt result (node_data self.entry) }
         ensures file { IsInFile self.entry.source result }
     {
@@ -74,7 +74,7 @@ impl<'j, 't> JsonNode<'j, 't> {
     pub(crate) fn problem(self, problem: AstJsonProblem) -> AstJsonError
         ensures { IsTold self.entry [] (λ told. told ≡ problem) result }
     {
-        AstJsonError::here(self.alloc, self.place(), problem)
+        AstJsonError::here(self.alloc, self.told_location(), problem)
     }
 
     /// The same, or out of memory.
@@ -99,9 +99,9 @@ impl<'j, 't> JsonNode<'j, 't> {
     /// The error, told from this node, which has the position in this member.
     pub(crate) fn within(self, name: &str, error: AstJsonError) -> AstJsonError
         ensures memory { IsMemory error → IsMemory result }
-        ensures told { IsToldFrom name.now (IsPlaceOr self.entry) error result }
+        ensures told { IsToldFrom name.now (IsLocationOr self.entry) error result }
     {
-        error.in_member(self.alloc, name, self.place())
+        error.in_member(self.alloc, name, self.told_location())
     }
 
     /// The error of a text that is the member of this name, and outside the syntax of what is wanted.

@@ -5,7 +5,7 @@ ghost use Rattle.serde_json.specs.Find.{as_array};
 ghost use Rattle.serde_json.specs.View.{view};
 ghost use Rattle.graphql_executable.specs.code.SelectionQueries.{selection_location};
 ghost use Rattle.graphql_executable.specs.trees.ExecutableTrees.{field_tree, inline_fragment_tree, selection_tree, selection_trees};
-ghost use Rattle.graphql_ast_json.specs.code.Drafts.{place_of};
+ghost use Rattle.graphql_ast_json.specs.code.Drafts.{location_of};
 ghost use Rattle.graphql_ast_json.specs.code.NodeReading.{StandsAt};
 ghost use Rattle.graphql_ast_json.specs.declared.read.Unknown.{Unknown};
 ghost use Rattle.graphql_ast_json.specs.kinds.ExecutableJson.{AreSelections, IsField, IsInlineFragment, IsSelection, IsSelectionSet};
@@ -40,7 +40,7 @@ pub(crate) fn write_selection(alloc: Global, selection: &Selection) -> Result<Js
 pub(crate) fn write_field(mut node: NodeWriter, field: &Field) -> Result<Json, AllocError>
     ensures ok { IfOk result (λ json. (unknown : Unknown)
         → IsField unknown (field_tree field.now) (view json)) }
-    ensures stands { IfOk result (λ json. StandsAt (place_of node) (view json)) }
+    ensures stands { IfOk result (λ json. StandsAt (location_of node) (view json)) }
 {
     node.begin("Field")?;
     node.put_optional::<Name>("alias", &field.alias)?;
@@ -60,7 +60,7 @@ pub(crate) fn write_inline_fragment(
 ) -> Result<Json, AllocError>
     ensures ok { IfOk result (λ json. (unknown : Unknown)
         → IsInlineFragment unknown (inline_fragment_tree fragment.now) (view json)) }
-    ensures stands { IfOk result (λ json. StandsAt (place_of node) (view json)) }
+    ensures stands { IfOk result (λ json. StandsAt (location_of node) (view json)) }
 {
     node.begin("InlineFragment")?;
     node.put_optional::<NamedTypeForm>("typeCondition", &fragment.type_condition)?;

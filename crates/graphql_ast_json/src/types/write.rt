@@ -3,7 +3,7 @@ ghost use Rattle.std.specs.Prelude.{IfOk};
 ghost use Rattle.serde_json.specs.View.{view};
 ghost use Rattle.graphql_text.specs.trees.Leaves.{name_tree};
 ghost use Rattle.graphql_values.specs.trees.TypeTrees.{type_tree};
-ghost use Rattle.graphql_ast_json.specs.code.Drafts.{place_of};
+ghost use Rattle.graphql_ast_json.specs.code.Drafts.{location_of};
 ghost use Rattle.graphql_ast_json.specs.code.NodeReading.{StandsAt};
 ghost use Rattle.graphql_ast_json.specs.declared.read.Unknown.{Unknown};
 ghost use Rattle.graphql_ast_json.specs.kinds.TypeJson.{IsNamedType, IsTypeReference};
@@ -18,7 +18,7 @@ use std::alloc::AllocError;
 pub(crate) fn write_type(node: NodeWriter, ty: &Type) -> Result<Json, AllocError>
     ensures ok { IfOk result (λ json. (unknown : Unknown)
         → IsTypeReference unknown (type_tree ty.now) (view json)) }
-    ensures stands { IfOk result (λ json. StandsAt (place_of node) (view json)) }
+    ensures stands { IfOk result (λ json. StandsAt (location_of node) (view json)) }
 {
     let alloc = node.allocator();
     match ty {
@@ -43,7 +43,7 @@ pub(crate) fn write_type(node: NodeWriter, ty: &Type) -> Result<Json, AllocError
 pub(crate) fn write_named_type(node: NodeWriter, name: &NamedType) -> Result<Json, AllocError>
     ensures ok { IfOk result (λ json. (unknown : Unknown)
         → IsNamedType unknown (name_tree name.now) (view json)) }
-    ensures stands { IfOk result (λ json. StandsAt (place_of node) (view json)) }
+    ensures stands { IfOk result (λ json. StandsAt (location_of node) (view json)) }
 {
     let inner = name.to_ast_json(node.allocator())?;
     node.with_member("NamedType", "name", inner)

@@ -5,7 +5,7 @@ ghost use Rattle.serde_json.specs.View.{view};
 ghost use Rattle.graphql_text.specs.trees.Leaves.{name_tree};
 ghost use Rattle.graphql_values.specs.kinds.Values.{variable};
 ghost use Rattle.graphql_values.specs.trees.ValueTrees.{object_field_trees, value_tree, value_trees};
-ghost use Rattle.graphql_ast_json.specs.code.Drafts.{place_of};
+ghost use Rattle.graphql_ast_json.specs.code.Drafts.{location_of};
 ghost use Rattle.graphql_ast_json.specs.code.NodeReading.{StandsAt};
 ghost use Rattle.graphql_ast_json.specs.declared.read.Unknown.{Unknown};
 ghost use Rattle.graphql_ast_json.specs.kinds.ValueJson.{AreObjectFields, AreValues, IsValue};
@@ -25,7 +25,7 @@ use std::alloc::{AllocError, Global};
 pub(crate) fn write_value(node: NodeWriter, value: &Value) -> Result<Json, AllocError>
     ensures ok { IfOk result (λ json. (unknown : Unknown)
         → IsValue unknown (value_tree value.now) (view json)) }
-    ensures stands { IfOk result (λ json. StandsAt (place_of node) (view json)) }
+    ensures stands { IfOk result (λ json. StandsAt (location_of node) (view json)) }
 {
     match value {
         Value::List(items) => {
@@ -56,7 +56,7 @@ pub(crate) fn write_value(node: NodeWriter, value: &Value) -> Result<Json, Alloc
 pub(crate) fn write_variable(node: NodeWriter, name: &Name) -> Result<Json, AllocError>
     ensures ok { IfOk result (λ json. (unknown : Unknown)
         → IsValue unknown (variable (name_tree name.now)) (view json)) }
-    ensures stands { IfOk result (λ json. StandsAt (place_of node) (view json)) }
+    ensures stands { IfOk result (λ json. StandsAt (location_of node) (view json)) }
 {
     let inner = name.to_ast_json(node.allocator())?;
     node.with_member("Variable", "name", inner)

@@ -17,11 +17,11 @@ use std::alloc::{AllocError, Global};
 /// The words that no enum value may be.
 const RESERVED: [&str; 3] = ["true", "false", "null"];
 
-/// A position within JSON, and where the innermost node stands that has it and tells its place.
+/// A position within JSON, and where the innermost node stands that has it and tells its location.
 #[derive(Drop)]
 pub(crate) struct Position {
     pub path: JsonPath,
-    pub place: Option<SourceSpan>,
+    pub location: Option<SourceSpan>,
 }
 
 impl Position {
@@ -29,7 +29,7 @@ impl Position {
     fn of(node: JsonNode<'_, '_>) -> Position {
         Position {
             path: JsonPath::root(node.alloc),
-            place: node.place(),
+            location: node.told_location(),
         }
     }
 
@@ -37,7 +37,7 @@ impl Position {
     fn in_member(self, node: JsonNode<'_, '_>, name: &str) -> Result<Position, AllocError> {
         Ok(Position {
             path: self.path.in_member(node.alloc, name)?,
-            place: self.place.or(node.place()),
+            location: self.location.or(node.told_location()),
         })
     }
 
@@ -45,12 +45,13 @@ impl Position {
     fn in_item(self, alloc: Global, index: usize) -> Result<Position, AllocError> {
         Ok(Position {
             path: self.path.in_item(alloc, index)?,
-            place: self.place,
+            location: self.location,
         })
     }
 }
 
 /// The members in which a node of this kind has flaws, and in which an extension adds something, in the order of print.
+/// An extension has the same ones as the definition of what it extends.
 fn parts_of(kind: &str) -> &'static [&'static str] {
     match kind {
         "Document" => &["definitions"],
@@ -64,17 +65,19 @@ fn parts_of(kind: &str) -> &'static [&'static str] {
         "ListValue" => &["values"],
         "ObjectValue" => &["fields"],
         "FieldDefinition" => &["arguments", "directives"],
-        "SchemaDefinition" | "SchemaExtension" => &["directives", "operationTypes"],
-        "ObjectTypeDefinition"
-        | "ObjectTypeExtension"
-        | "InterfaceTypeDefinition"
-        | "InterfaceTypeExtension" => &["interfaces", "directives", "fields"],
-        "UnionTypeDefinition" | "UnionTypeExtension" => &["directives", "types"],
-        "EnumTypeDefinition" | "EnumTypeExtension" => &["directives", "values"],
-        "InputObjectTypeDefinition" | "InputObjectTypeExtension" => &["directives", "fields"],
-        "ScalarTypeDefinition" | "ScalarTypeExtension" => &["directives"],
         "FragmentSpread" | "EnumValueDefinition" => &["directives"],
-        _ => &[],
+        _ => match kind
+            .strip_suffix("Definition")
+            .or(kind.strip_suffix("Extension"))
+        {
+            Some("Schema") => &["directives", "operationTypes"],
+            Some("ObjectType" | "InterfaceType") => &["interfaces", "directives", "fields"],
+            Some("UnionType") => &["directives", "types"],
+            Some("EnumType") => &["directives", "values"],
+            Some("InputObjectType") => &["directives", "fields"],
+            Some("ScalarType") => &["directives"],
+            _ => &[],
+        },
     }
 }
 

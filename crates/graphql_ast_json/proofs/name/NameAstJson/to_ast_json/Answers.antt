@@ -4,7 +4,7 @@ use Rattle.graphql_base.specs.Name.{name_text}
 use Rattle.graphql_ast_json.specs.code.NodeReading.{IsTextNode, stretch_of}
 use Rattle.graphql_ast_json.specs.nodes.Nodes.{told_stretch}
 use Rattle.graphql_ast_json.proofs.general.OkValues.{one_then}
-use Rattle.graphql_ast_json.proofs.nodes.NamePlaces.{had}
+use Rattle.graphql_ast_json.proofs.nodes.NameLocations.{had}
 use Rattle.graphql_ast_json.proofs.name.NameAstJson.to_ast_json.Goals as goal
 
 pub returns-clause-ok : goal.returns-clause-ok

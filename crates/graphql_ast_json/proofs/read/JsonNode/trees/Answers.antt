@@ -34,7 +34,7 @@ returns-in-Err-clause-told g c refused =
       read = c.loop-index.invariant;
       none = c.in-Err.ensures.err (λ m. refused (c.in_item.ensures.memory m));
       inner = c.in-Err.error;
-      told = subst (λ (n : ℕ). IsToldFrom (item_name n) (λ place told_place. told_place ≡ place) c.in-Err.error c.in_item.result)
+      told = subst (λ (n : ℕ). IsToldFrom (item_name n) (λ location told_location. told_location ≡ location) c.in-Err.error c.in_item.result)
           (sym (length-take-le i items (omega (arith, within)))) c.in_item.ensures.told;
     }
 

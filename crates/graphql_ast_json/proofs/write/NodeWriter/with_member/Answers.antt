@@ -12,4 +12,4 @@ returns c =
       reach = begun.reach;
     } in
     let is = one_written c.args.kind.now c.args.self.location c.args.name.now (view c.args.json) (view c.into_json.result) c.requires w in
-    record { node = is.node; stands = is.place; member = is.at }
+    record { node = is.node; stands = is.stands; member = is.at }

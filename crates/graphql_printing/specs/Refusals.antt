@@ -1,11 +1,11 @@
 -- Why a run reads no document.
-use Rattle.std.specs.Prelude.{◌≡◌, ℕ, false, List, Option, ⊤}
+use Rattle.std.specs.Prelude.{ℕ, List, Option, ⊤}
 use Rattle.graphql_ast.specs.Documents.{document_kind}
 use Rattle.serde_json.specs.Data.{Data}
-use Rattle.graphql_ast_json.specs.declared.read.Unknown.{Unknown}
 use Rattle.graphql_ast_json.specs.kinds.DocumentJson.{IsDocument}
 use Rattle.graphql_ast_calls.specs.Answers.{IsJsonOfNone, IsNoJson}
-use Rattle.graphql_printing.specs.Reading.{IsAllOf, IsDocumentOf}
+use Rattle.graphql_printing.specs.Reading.{IsAllOf, IsDocumentOf, Passes}
+use Rattle.graphql_printing.specs.declared.options.Options.{Options}
 use Rattle.graphql_printing.specs.declared.outcome.Outcome.{Outcome}
 use Rattle.graphql_printing.specs.declared.outcome.Outcome.TheVariants as outcome
 use Rattle.graphql_printing.specs.declared.refusal.Refusal.{Refusal}
@@ -43,20 +43,20 @@ IsTreeRefusal Is bytes (refusal.NoTree _) = IsJsonOfNone Is bytes
 IsTreeRefusal Is bytes refusal.Memory = ⊤
 IsTreeRefusal Is bytes _ = ⊥
 
--- It is right of them.
-abbrev pub IsRefusal : Unknown → List ℕ → Refusal → Type 0
-IsRefusal unknown bytes (refusal.NotRead _) = ⊥
-IsRefusal unknown bytes (refusal.NotJson _) = IsNoJson bytes
-IsRefusal unknown bytes (refusal.NoTree _) = IsJsonOfNone (IsDocument unknown) bytes
-IsRefusal unknown bytes (refusal.IllFormed _) =
-    (tree : document_kind.Tree) × IsDocumentOf unknown bytes tree × (document_kind.obeys tree ≡ false)
-IsRefusal unknown bytes refusal.Memory = ⊤
+-- It is right of them: of no JSON, of JSON of no document, or of JSON of one that isn't well formed, where those aren't taken too.
+abbrev pub IsRefusal : Options → List ℕ → Refusal → Type 0
+IsRefusal options bytes (refusal.NotRead _) = ⊥
+IsRefusal options bytes (refusal.NotJson _) = IsNoJson bytes
+IsRefusal options bytes (refusal.NoTree _) = IsJsonOfNone (IsDocument options.unknown) bytes
+IsRefusal options bytes (refusal.IllFormed _) =
+    (tree : document_kind.Tree) × IsDocumentOf options.unknown bytes tree × ¬ Passes options tree
+IsRefusal options bytes refusal.Memory = ⊤
 
 -- It is right of all that a reader had left, unless the reader failed or memory was refused.
-abbrev pub IsReadRefusal : Unknown → Option (List ℕ) → Refusal → Type 0
-IsReadRefusal unknown left (refusal.NotRead _) = ⊤
-IsReadRefusal unknown left refusal.Memory = ⊤
-IsReadRefusal unknown left told = (bytes : List ℕ) × IsAllOf left bytes × IsRefusal unknown bytes told
+abbrev pub IsReadRefusal : Options → Option (List ℕ) → Refusal → Type 0
+IsReadRefusal options left (refusal.NotRead _) = ⊤
+IsReadRefusal options left refusal.Memory = ⊤
+IsReadRefusal options left told = (bytes : List ℕ) × IsAllOf left bytes × IsRefusal options bytes told
 
 -- how a run ends that reads no document
 abbrev pub outcome_of : Refusal → Outcome

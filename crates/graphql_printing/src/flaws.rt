@@ -1,19 +1,19 @@
 //! What is said of JSON that is of no document, or of one that isn't well formed: what is wrong, and where.
 use graphql_ast::ast::Document;
 use graphql_ast::document::SourceFile;
-use graphql_ast_json::error::NodePlace;
+use graphql_ast_json::error::NodeLocation;
 use graphql_ast_json::{AstJsonError, Offsets};
 use graphql_flaws::{FindFlaws, FoundFlaw};
 use std::alloc::{AllocError, Global};
 
 /// Where a node begins in the text that its location speaks of, as ` in a.graphql:3:1`, if that text is known and has
 /// the location. Else its offsets, if it has some.
-fn place_text(
+fn location_text(
     alloc: Global,
-    place: NodePlace,
+    location: NodeLocation,
     source: Option<&SourceFile>,
 ) -> Result<String, AllocError> {
-    if let (NodePlace(Some(span)), Some(file)) = (place, source) {
+    if let (NodeLocation(Some(span)), Some(file)) = (location, source) {
         if let Some(start) = Offsets::Utf16.byte_offset(file.text.as_str(), span.start()) {
             if let Some(found) = file.line_column(start as usize) {
                 let (line, column) = (found.line, found.column);
@@ -21,7 +21,7 @@ fn place_text(
             }
         }
     }
-    format!(in alloc; "{place}")
+    format!(in alloc; "{location}")
 }
 
 /// What is said of JSON that is of no document.
@@ -33,11 +33,11 @@ pub(crate) fn problem(
     match error {
         AstJsonError::Invalid {
             path,
-            place,
+            location,
             problem,
         } => {
-            let place = place_text(alloc, place, source)?;
-            format!(in alloc; "at {path}{place}: {problem}")
+            let location = location_text(alloc, location, source)?;
+            format!(in alloc; "at {path}{location}: {problem}")
         }
         other => format!(in alloc; "{other}"),
     }
@@ -49,8 +49,8 @@ fn flaw_text(
     flaw: &FoundFlaw<'_>,
     source: Option<&SourceFile>,
 ) -> Result<String, AllocError> {
-    let place = place_text(alloc, NodePlace(flaw.found.location()), source)?;
-    format!(in alloc; "at {}{place}: {}", flaw.path, flaw.found)
+    let location = location_text(alloc, NodeLocation(flaw.found.location()), source)?;
+    format!(in alloc; "at {}{location}: {}", flaw.path, flaw.found)
 }
 
 /// What is said of each flaw of a document, in the order of print.

@@ -1,8 +1,7 @@
 //! The document that is read.
-ghost use Rattle.std.specs.Prelude.{◌≡◌, ◌||◌, ℕ, List, IfErr, IfOk, IsTrue, None, Some};
+ghost use Rattle.std.specs.Prelude.{◌≡◌, ℕ, List, IfErr, IfOk, None, Some};
 ghost use Rattle.serde_json.specs.Read.{read};
 ghost use Rattle.graphql_ast.specs.AstTrees.{document_tree};
-ghost use Rattle.graphql_ast.specs.Documents.{document_kind};
 ghost use Rattle.graphql_ast_json.specs.code.JsonNodes.{node_data};
 ghost use Rattle.graphql_ast_calls.specs.Answers.{IsJsonOf};
 ghost use Rattle.graphql_printing.specs.Reading.{IsAllOf, IsDocumentOf, Passes, Reads};
@@ -41,8 +40,8 @@ fn text_of(alloc: Global, bytes: &[u8]) -> Result<&str, Refusal>
     match simdutf8::compat::from_utf8(bytes) {
         Ok(text) => Ok(text),
         Err(error) => {
-            let place = error.valid_up_to();
-            let message = format!(in alloc; "not JSON: not UTF-8 from byte {place} on");
+            let offset = error.valid_up_to();
+            let message = format!(in alloc; "not JSON: not UTF-8 from byte {offset} on");
             Err(Refusal::not_json(message))
         }
     }
@@ -53,7 +52,7 @@ fn file() -> FileId {
     FileId::new(1)
 }
 
-/// That a text is no JSON. It is read again, for the place where it isn't.
+/// That a text is no JSON. It is read again, for the position where it isn't.
 #[inline(never)]
 #[tactic(auto, using(crate::proofs::Refused::no_json))]
 fn no_json(alloc: Global, text: &str) -> Refusal
@@ -95,21 +94,21 @@ fn tree_of<T: AstJson>(
 #[tactic(auto, using(crate::proofs::Refused::of_tree, crate::proofs::Refused::ill_formed))]
 fn document_in(
     alloc: Global,
+    options: &Options,
     node: JsonNode<'_, '_>,
-    allow_ill_formed: bool,
     source: Option<&SourceFile>,
 ) -> Result<Document, Refusal>
+    requires { node.unknown ≡ options.now.unknown }
     ensures ok { IfOk result (λ document. (bytes : List ℕ)
         → read bytes ≡ Some (node_data node.entry)
-        → IsDocumentOf node.entry.unknown bytes (document_tree document)) }
-    ensures passes { IfOk result (λ document.
-        IsTrue (allow_ill_formed || document_kind.obeys (document_tree document))) }
+        → IsDocumentOf options.now.unknown bytes (document_tree document)) }
+    ensures passes { IfOk result (λ document. Passes options.now (document_tree document)) }
     ensures err { IfErr result (λ refusal. (bytes : List ℕ)
         → read bytes ≡ Some (node_data node.entry)
-        → IsRefusal node.entry.unknown bytes refusal) }
+        → IsRefusal options.now bytes refusal) }
 {
     let document = tree_of::<Document>(alloc, node, source)?;
-    if allow_ill_formed || document.is_well_formed() {
+    if options.allow_ill_formed || document.is_well_formed() {
         Ok(document)
     } else {
         Err(Refusal::ill_formed(flaws(alloc, &document, source)))
@@ -129,14 +128,14 @@ fn document_of(
     ensures ok { IfOk result (λ document.
         IsDocumentOf options.now.unknown bytes.now (document_tree document)) }
     ensures passes { IfOk result (λ document. Passes options.now (document_tree document)) }
-    ensures err { IfErr result (IsRefusal options.now.unknown bytes.now) }
+    ensures err { IfErr result (IsRefusal options.now bytes.now) }
 {
     let text = text_of(alloc, bytes)?;
     let mut scratch = Scratch::new(alloc);
     match parse_json(alloc, text, &mut scratch) {
         Ok(Some(value)) => {
             let node = JsonNode::parsed(alloc, &value, file(), options.unknown);
-            document_in(alloc, node, options.allow_ill_formed, source)
+            document_in(alloc, options, node, source)
         }
         Ok(None) => Err(no_json(alloc, text)),
         Err(_) => Err(Refusal::Memory),
@@ -154,7 +153,7 @@ pub(crate) fn read_document<R: Read + Drop>(
     ensures ok { IfOk result (λ document.
         Reads options.now (R.remaining input) (document_tree document)) }
     ensures passes { IfOk result (λ document. Passes options.now (document_tree document)) }
-    ensures err { IfErr result (IsReadRefusal options.now.unknown (R.remaining input)) }
+    ensures err { IfErr result (IsReadRefusal options.now (R.remaining input)) }
 {
     let bytes = read_all(alloc, input)?;
     document_of(alloc, options, &bytes, source)

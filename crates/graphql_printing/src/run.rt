@@ -37,9 +37,11 @@ fn write_document<W: Write>(
         (W.contents out) (W.contents result.1) (document_tree document.now)) }
     ensures overflow { IsErrOf result.0 PrintError.LevelOverflow →
         Overflows options.now.level (document_kind.nesting (document_tree document.now)) }
+    ensures printed { IsErrOf result.0 PrintError.LevelOverflow → options.now.task ≡ Task.Print }
     ensures untouched { IsErrOf result.0 PrintError.LevelOverflow →
         W.contents result.1 ≡ W.contents out }
     ensures memory { IsErrOf result.0 PrintError.Memory → W.contents result.1 ≡ W.contents out }
+    ensures fault { IsErrOf result.0 PrintError.Sink → ¬ (options.now.task ≡ Task.Check) }
 {
     match options.task {
         Task::Print => print_document(alloc, options, document, out),

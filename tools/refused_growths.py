@@ -147,6 +147,9 @@ def check_counts(crate, counts):
             takes = re.match(r"(.+)_then_.+_takes_([0-9]+)$", name)
             if takes and count - counts.get(takes[1] + "_built", LATE) != int(takes[2]):
                 fail(f"{crate}, {name}: not what its name says")
+            told = sum(int(it) for _, it in messages_of(crate))
+            if name.endswith("_called") and count - counts.get(name.removesuffix("called") + "built", LATE) != told:
+                fail(f"{crate}, {name}: its calls don't ask as often as its messages say, {told} times")
         elif (count == 0) != last.startswith("no_memory"):
             fail(f"{crate}, {name}: asks for memory, or doesn't")
 

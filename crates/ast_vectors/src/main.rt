@@ -4,16 +4,12 @@
 mod vectors;
 mod words;
 
-use crate::vectors::{VectorError, report, run_vectors};
+use crate::vectors::run_words;
 use crate::words::words;
-use std::alloc::AllocError;
 use std::process::ExitCode;
 
 fn main(rt: HostRuntime) -> ExitCode {
     let alloc = rt.alloc();
-    let status = match words(&rt, alloc) {
-        Ok(words) => run_vectors(alloc, &words, rt.stdout(), rt.stderr()).0,
-        Err(AllocError) => report(VectorError::Memory, rt.stderr()).0,
-    };
+    let (status, _out, _err) = run_words(alloc, words(&rt, alloc), rt.stdout(), rt.stderr());
     ExitCode::from(status)
 }

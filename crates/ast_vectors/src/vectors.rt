@@ -1,5 +1,5 @@
 //! The stored vectors: trees, each with the layout that it is printed in.
-ghost use Rattle.std.specs.Prelude.{◌≡◌, ◌≤◌, ◌≢◌, ◌↔◌, false, IfOk, IsErrOf, IsSome, IsTrue, OnErr, OnOk};
+ghost use Rattle.std.specs.Prelude.{◌≡◌, ◌≤◌, ◌≢◌, ◌↔◌, false, IfErr, IfOk, IsErrOf, IsSome, IsTrue, OnErr, OnOk};
 ghost use Rattle.std.specs.Io.KnownBytes.{Appends};
 ghost use Rattle.graphql_ast.specs.Sinks.{CanFault};
 ghost use Rattle.ast_vectors.specs.Runs.{GrowsByLine, is_vector_number, line_of, mode_of, name_a_vector, vector_line};
@@ -218,6 +218,27 @@ pub fn run_vectors<W: Write, E: Write>(
         Ok(()) => (0, out, err),
         Err(error) => {
             let (status, err) = report(error, err);
+            (status, out, err)
+        }
+    }
+}
+
+/// The same on the words that were read, or `out of memory` on `err`, and the status 1, where memory for them was refused.
+pub fn run_words<W: Write, E: Write>(
+    alloc: Global,
+    words: Result<Vec<String>, AllocError>,
+    out: W,
+    err: E,
+) -> (u8, W, E)
+    ensures refused { IfErr words (λ error. result.0 ≡ 1) }
+    ensures untouched { IfErr words (λ error. result.1 ≡ out) }
+    ensures run { IfOk words (λ words. (result.0 ≡ 2) ↔ (name_a_vector words.items ≡ false)) }
+    ensures printed { result.0 ≡ 0 → GrowsByLine (W.contents out) (W.contents result.1) }
+{
+    match words {
+        Ok(words) => run_vectors(alloc, &words, out, err),
+        Err(AllocError) => {
+            let (status, err) = report(VectorError::Memory, err);
             (status, out, err)
         }
     }

@@ -97,11 +97,3 @@ pub(crate) fn check_all(rt: &impl Abort, alloc: Global, refused: &mut Refused) {
         check_text(rt, alloc, refused, (text.as_str(), &json), &tree);
     }
 }
-
-/// Memory is ample, so each call has to be whole.
-#[test]
-fn calls_are_whole(rt: HostRuntime) {
-    let mut refused = Refused::none();
-    check_all(&rt, rt.alloc(), &mut refused);
-    assert_eq!(rt; refused.calls, 0);
-}

@@ -6,8 +6,11 @@ ghost use Rattle.graphql_ast_json.specs.kinds.DocumentJson.{IsDocument};
 ghost use Rattle.graphql_ast_json.specs.lemmas.DocumentNodes.{document_laws};
 ghost use Rattle.graphql_ast_json.specs.lemmas.Leaves.{json_laws};
 
-use graphql_ast::ast::Document;
+use crate::outside::Outside;
+use graphql_ast::ast::{Definition, DirectiveList, Document, Selection};
+use graphql_ast::name::Name;
 use graphql_ast_json::{AstJson, AstJsonError, JsonNode, NodeReader, from_ast_json_str};
+use graphql_base::node::{Node, NodeStr};
 use graphql_base::span::FileId;
 use serde_json::Value as Json;
 use std::alloc::{AllocError, Global};
@@ -68,9 +71,10 @@ const TEXTS: [(&str, &str); 3] = [
     ),
 ];
 
-/// A text is read by `read_json` of the kind, as it is parsed.
+/// A text of a kind that reads parsed JSON is read by its `read_json`, as it is parsed. So are those of the kinds of this repository,
+/// and not of all of other crates.
 #[test]
-fn a_kind_that_reads_parsed_json_is_read_by_itself(rt: HostRuntime) {
+fn kinds_that_read_parsed_json_are_read_by_themselves(rt: HostRuntime) {
     let alloc = rt.alloc();
     for (text, wanted) in TEXTS {
         let told = match from_ast_json_str::<Direct>(alloc, text, FileId::new(1)) {
@@ -78,5 +82,17 @@ fn a_kind_that_reads_parsed_json_is_read_by_itself(rt: HostRuntime) {
             Err(error) => format!(in alloc; "{error}"),
         };
         assert_eq!(&rt; told.expect(&rt, "memory").as_str(), wanted);
+    }
+    for (kind, reads, wanted) in [
+        ("document", Document::reads_parsed(), true),
+        ("node of a document", Node::<Document>::reads_parsed(), true),
+        ("definition", Definition::reads_parsed(), true),
+        ("selection", Selection::reads_parsed(), true),
+        ("directives", DirectiveList::reads_parsed(), true),
+        ("name", Name::reads_parsed(), true),
+        ("text", NodeStr::reads_parsed(), true),
+        ("kind of another crate", Outside::reads_parsed(), false),
+    ] {
+        assert_eq!(&rt; reads, wanted, "{kind}");
     }
 }

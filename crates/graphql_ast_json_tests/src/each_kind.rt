@@ -1,4 +1,5 @@
 //! A worked tree of each kind, as AST JSON and from it.
+use crate::calls::check_all;
 use graphql_ast::ast::{Definition, Document};
 use graphql_ast_json::AstJson;
 use graphql_base::span::FileId;
@@ -79,10 +80,11 @@ pub(crate) fn check_documents(
     }
 }
 
-/// Memory is ample, so each call has to be whole.
+/// Memory is ample, so each call has to be whole: of each kind, and each of an extension.
 #[test]
 fn calls_of_each_kind_are_whole(rt: HostRuntime) {
     let mut refused = Refused::none();
+    check_all(&rt, rt.alloc(), &mut refused);
     check_parts(&rt, rt.alloc(), &mut refused);
     check_selections(&rt, rt.alloc(), &mut refused);
     check_documents(&rt, rt.alloc(), &mut refused, 0..VARIANTS);

@@ -83,6 +83,33 @@ fn check_form(rt: &impl Abort, form: AnyJson<'_, '_>, text: &str, wanted: Option
     }
 }
 
+/// Texts, and the numbers of `start` and `end` where these are all their members, in this order.
+const TWO_NUMBERS: [(&str, Option<(u64, u64)>); 9] = [
+    (
+        "{\"start\":0,\"end\":18446744073709551615}",
+        Some((0, 18446744073709551615)),
+    ),
+    ("{\"end\":1,\"start\":0}", None),
+    ("{\"start\":0}", None),
+    ("{\"start\":0,\"end\":1,\"line\":1}", None),
+    ("{\"start\":0,\"end\":-1}", None),
+    ("{\"start\":0,\"end\":\"1\"}", None),
+    ("{\"start\":0,\"end\":18446744073709551616}", None),
+    ("[0,1]", None),
+    ("7", None),
+];
+
+fn check_two_numbers(rt: &impl Abort, alloc: Global, text: &str, wanted: Option<(u64, u64)>) {
+    let mut scratch = Scratch::new(alloc);
+    match parse_json(alloc, text, &mut scratch) {
+        Ok(Some(parsed)) => {
+            let found = AnyJson::Parsed(&parsed).two_numbers("start", "end");
+            assert_eq!(rt; found, wanted, "{text}");
+        }
+        Ok(None) | Err(_) => panic!(rt; "{text} is JSON"),
+    }
+}
+
 /// Both forms: the same answers, and the same value of `serde_json`.
 fn check_forms(
     rt: &impl Abort,
@@ -119,4 +146,7 @@ fn both_forms_answer_alike(rt: HostRuntime) {
         "{\"a\":3,\"c\":{\"b\":1},\"a\":[1,false]}",
         None,
     );
+    for (text, wanted) in TWO_NUMBERS {
+        check_two_numbers(&rt, rt.alloc(), text, wanted);
+    }
 }

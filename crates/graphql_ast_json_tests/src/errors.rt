@@ -3,18 +3,51 @@ use graphql_ast_json::{AstJsonError, from_ast_json_str};
 use graphql_base::span::FileId;
 use graphql_values::value::Value;
 use serde_json::Value as Json;
-use std::alloc::Global;
+use std::alloc::{AllocError, Global};
 use std::process::Abort;
 
 const TOO_DEEP: &str = "arrays and objects stand in one another more than 127 deep";
 
-/// A text before as many repetitions of another.
-fn repeated(rt: &impl Abort, alloc: Global, before: &str, text: &str, count: usize) -> String {
-    let mut whole = String::from_str(alloc, before).expect(rt, "memory");
-    for _ in 0..count {
-        whole.push_str(text).expect(rt, "memory");
+const NO_OBJECT: &str = "at the root: found an array where an object was wanted";
+
+/// Parts of a text, each with how often it comes, and what is said of the text.
+type Row = (&'static [(&'static str, usize)], &'static str);
+
+/// Of JSON.
+const JSON: [Row; 7] = [
+    (&[("[", 127), ("]", 127)], NO_OBJECT),
+    (&[("[", 128)], TOO_DEEP),
+    (&[("{\"a\":", 128)], TOO_DEEP),
+    (&[("[\"\\\"]\",", 1), ("[", 127)], TOO_DEEP),
+    (&[("[\n\"]\",\n", 1), ("[", 127)], TOO_DEEP),
+    (&[("[\"\\\\\",", 1), ("[", 127)], TOO_DEEP),
+    (&[(" ", 5000), ("[", 128)], TOO_DEEP),
+];
+
+/// Texts that are no JSON, of which is said what `serde_json` says of them.
+const NO_JSON: [&[(&str, usize)]; 13] = [
+    &[("{\"kind\": nothing}", 1)],
+    &[("[", 127)],
+    &[("{\"a\":", 127)],
+    &[("nothing", 1), ("[", 128)],
+    &[("[]", 1), ("[", 128)],
+    &[("\"", 1), ("[", 128)],
+    &[("\"\\\"", 1), ("[", 128)],
+    &[("{\n  \"a\": 1,\n  b", 1), ("[", 128)],
+    &[(" ", 5000)],
+    &[],
+    &[("[", 1), ("[],", 200)],
+    &[("[", 1), ("{},", 200)],
+    &[("]", 200)],
+];
+
+/// The text of these parts.
+pub(crate) fn text_of(alloc: Global, parts: &[(&str, usize)]) -> Result<String, AllocError> {
+    let mut text = String::new(alloc);
+    for (part, count) in parts {
+        text.push_str(part.repeat(alloc, *count)?.as_str())?;
     }
-    whole
+    Ok(text)
 }
 
 /// What is said of a text that is of no value.
@@ -25,67 +58,26 @@ fn refusal(rt: &impl Abort, alloc: Global, text: &str) -> String {
     }
 }
 
-/// And refused memory.
+/// JSON that is too deep, texts that are no JSON, and refused memory.
 #[test]
-fn json_too_deep_and_memory_are_named(rt: HostRuntime) {
+fn texts_and_memory_are_named(rt: HostRuntime) {
     let alloc = rt.alloc();
-    let mut read = repeated(&rt, alloc, "", "[", 127);
-    read.push_str(repeated(&rt, alloc, "", "]", 127).as_str())
-        .expect(&rt, "memory");
-    let said = refusal(&rt, alloc, read.as_str());
-    assert_eq!(rt;
-        said.as_str(),
-        "at the root: found an array where an object was wanted"
-    );
-    let rows = [
-        ("", "[", 128),
-        ("", "{\"a\":", 128),
-        ("[\"\\\"]\",", "[", 127),
-        ("[\n\"]\",\n", "[", 127),
-        ("[\"\\\\\",", "[", 127),
-    ];
-    for (before, text, count) in rows {
-        let deep = repeated(&rt, alloc, before, text, count);
-        assert_eq!(rt; refusal(&rt, alloc, deep.as_str()).as_str(), TOO_DEEP);
+    for (parts, wanted) in JSON {
+        let text = text_of(alloc, parts).expect(&rt, "memory");
+        let said = refusal(&rt, alloc, text.as_str());
+        assert_eq!(rt; said.as_str(), wanted, "{text}");
     }
-    let mut spaces = repeated(&rt, alloc, "", " ", 5000);
-    spaces
-        .push_str(repeated(&rt, alloc, "", "[", 128).as_str())
-        .expect(&rt, "memory");
-    assert_eq!(rt; refusal(&rt, alloc, spaces.as_str()).as_str(), TOO_DEEP);
+    for parts in NO_JSON {
+        let text = text_of(alloc, parts).expect(&rt, "memory");
+        let Err(error) = Json::from_str(alloc, text.as_str()) else {
+            panic!(rt; "{text} is no JSON");
+        };
+        let wanted = format!(in alloc; "not JSON: {error}").expect(&rt, "memory");
+        let said = refusal(&rt, alloc, text.as_str());
+        assert_eq!(rt; said.as_str(), wanted.as_str(), "{text}");
+    }
     let error = AstJsonError::Memory;
     assert!(rt; error.is_memory());
     let said = format!(in alloc; "{error}").expect(&rt, "memory");
     assert_eq!(rt; said.as_str(), "out of memory");
-}
-
-#[test]
-fn a_text_that_is_no_json_is_named(rt: HostRuntime) {
-    let alloc = rt.alloc();
-    let rows = [
-        ("{\"kind\": nothing}", "", 0),
-        ("", "[", 127),
-        ("", "{\"a\":", 127),
-        ("nothing", "[", 128),
-        ("[]", "[", 128),
-        ("\"", "[", 128),
-        ("\"\\\"", "[", 128),
-        ("{\n  \"a\": 1,\n  b", "[", 128),
-        ("", " ", 5000),
-        ("", "", 0),
-        ("[", "[],", 200),
-        ("[", "{},", 200),
-        ("", "]", 200),
-    ];
-    for (before, text, count) in rows {
-        let text = repeated(&rt, alloc, before, text, count);
-        let Err(error) = Json::from_str(alloc, text.as_str()) else {
-            panic!(rt; "no JSON");
-        };
-        let wanted = format!(in alloc; "not JSON: {error}").expect(&rt, "memory");
-        assert_eq!(rt;
-            refusal(&rt, alloc, text.as_str()).as_str(),
-            wanted.as_str()
-        );
-    }
 }

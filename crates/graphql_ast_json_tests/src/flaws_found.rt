@@ -59,7 +59,7 @@ impl Counts {
 }
 
 /// That a flaw that was told of a node's JSON, as this text has it, is where the search as it was finds it.
-fn check_place<T: Drop>(
+fn check_location<T: Drop>(
     rt: &impl Abort,
     node: NodeReader<'_>,
     text: &str,
@@ -72,7 +72,7 @@ fn check_place<T: Drop>(
         Err(
             WellFormedError::IllFormed {
                 path,
-                place,
+                location,
                 broken,
             },
         ) => {
@@ -83,7 +83,7 @@ fn check_place<T: Drop>(
             };
             let wanted = start_search::position_of(reader, broken.condition).expect(rt, "memory");
             assert_eq!(rt; path.as_str(), wanted.path.as_str(), "{text}");
-            assert!(rt; place.0 == wanted.place, "{text}");
+            assert!(rt; location.0 == wanted.location, "{text}");
             counts.add(broken.condition);
         }
     }
@@ -99,7 +99,7 @@ fn check_text<T: AstJson + SyntaxTree + Drop>(
     let alloc = node.alloc;
     if node.unknown == Unknown::Refuse {
         let read = from_well_formed_ast_json_str(alloc, text, node.source);
-        check_place::<T>(rt, node, text, read, counts);
+        check_location::<T>(rt, node, text, read, counts);
         return;
     }
     let mut scratch = Scratch::new(alloc);
@@ -107,7 +107,7 @@ fn check_text<T: AstJson + SyntaxTree + Drop>(
         panic!(rt; "{text}");
     };
     let parsed = JsonNode::parsed(alloc, &value, node.source, node.unknown);
-    check_place::<T>(rt, node, text, read_well_formed_json(parsed), counts);
+    check_location::<T>(rt, node, text, read_well_formed_json(parsed), counts);
 }
 
 /// That of a tree, of its text as it stands and with the members of each object in the order of their names.
@@ -136,7 +136,7 @@ fn check_tree<T: AstJson + SyntaxTree + Drop>(
     };
     let in_order = json.to_string(alloc).expect(rt, "memory");
     let read = read_well_formed_ast_json(node);
-    check_place::<T>(rt, node, text.as_str(), read, counts);
+    check_location::<T>(rt, node, text.as_str(), read, counts);
     check_text::<T>(rt, node, text.as_str(), counts);
     check_text::<T>(rt, node, in_order.as_str(), counts);
 }

@@ -213,7 +213,7 @@ pub(crate) const AROUND: [(&str, &str, bool); 42] = [
 ];
 
 /// Definitions, and what is said of them: of one flaw, of the first of several (with members in another order than they are
-/// printed in), and of flaws in nodes that tell their places.
+/// printed in), and of flaws in nodes that tell their locations.
 pub(crate) const FLAWED: [(&str, &str); 39] = [
     ("", "at the root: a document without a definition"),
     (

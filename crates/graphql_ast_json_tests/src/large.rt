@@ -60,28 +60,6 @@ const OPERATION: (&str, &str) = (
 
 const SCALAR: &str = r#"{"kind":"ScalarTypeDefinition","name":{"kind":"Name","value":"A"}}"#;
 
-/// The document is of a text above 1 MiB, and so is the string.
-#[test]
-fn long_lists_and_texts_are_read(rt: HostRuntime) {
-    let alloc = rt.alloc();
-    let ends = (r#"{"kind":"ListValue","values":["#, "]}");
-    let text = repeated(&rt, alloc, ends, r#"{"kind":"NullValue"}"#, 5000);
-    let list = check_read::<Value>(&rt, alloc, text.as_str());
-    assert_eq!(&rt; list.as_list().map(|items| items.len()), Some(5000));
-    let text = repeated(&rt, alloc, OPERATION, FIELD, 5000);
-    let query = check_read::<OperationDefinition>(&rt, alloc, text.as_str());
-    assert_eq!(&rt; query.selection_set.len(), 5000);
-    let ends = (r#"{"kind":"Document","definitions":["#, "]}");
-    let text = repeated(&rt, alloc, ends, SCALAR, 17_000);
-    assert!(&rt; text.len() > 1 << 20);
-    let document = check_read::<Document>(&rt, alloc, text.as_str());
-    assert_eq!(&rt; document.definitions.len(), 17_000);
-    let letters = "x".repeat(alloc, (1 << 20) + 1).expect(&rt, "memory");
-    let text = format!(in alloc; "{{\"kind\":\"StringValue\",\"value\":\"{letters}\"}}");
-    let string = check_read::<Value>(&rt, alloc, text.expect(&rt, "memory").as_str());
-    assert_eq!(&rt; string.as_str(), Some(letters.as_str()));
-}
-
 /// So many lists, in which an object stands in each.
 fn lists(alloc: Global) -> Result<Node<Value>, AllocError> {
     let mut node = Node::new(alloc, Value::Null)?;
@@ -182,9 +160,26 @@ fn check_made<T: AstJson + PartialEq + Drop>(
     check_written(rt, alloc, &tree);
 }
 
+/// Long lists and texts, and deep trees. The document is of a text above 1 MiB, and so is the string.
 #[test]
-fn deep_trees_are_written_and_read(rt: HostRuntime) {
+fn large_trees_are_read_and_written(rt: HostRuntime) {
     let alloc = rt.alloc();
+    let ends = (r#"{"kind":"ListValue","values":["#, "]}");
+    let text = repeated(&rt, alloc, ends, r#"{"kind":"NullValue"}"#, 5000);
+    let list = check_read::<Value>(&rt, alloc, text.as_str());
+    assert_eq!(&rt; list.as_list().map(|items| items.len()), Some(5000));
+    let text = repeated(&rt, alloc, OPERATION, FIELD, 5000);
+    let query = check_read::<OperationDefinition>(&rt, alloc, text.as_str());
+    assert_eq!(&rt; query.selection_set.len(), 5000);
+    let ends = (r#"{"kind":"Document","definitions":["#, "]}");
+    let text = repeated(&rt, alloc, ends, SCALAR, 17_000);
+    assert!(&rt; text.len() > 1 << 20);
+    let document = check_read::<Document>(&rt, alloc, text.as_str());
+    assert_eq!(&rt; document.definitions.len(), 17_000);
+    let letters = "x".repeat(alloc, (1 << 20) + 1).expect(&rt, "memory");
+    let text = format!(in alloc; "{{\"kind\":\"StringValue\",\"value\":\"{letters}\"}}");
+    let string = check_read::<Value>(&rt, alloc, text.expect(&rt, "memory").as_str());
+    assert_eq!(&rt; string.as_str(), Some(letters.as_str()));
     check_made(&rt, alloc, lists(alloc));
     check_made(&rt, alloc, directive(alloc));
     check_made(&rt, alloc, list_types(alloc));

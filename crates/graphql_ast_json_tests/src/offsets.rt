@@ -5,6 +5,7 @@ use graphql_base::span::{FileId, SourceSpan};
 /// Characters of one, two and four bytes, and one more.
 const TEXT: &str = "a\u{e9}\u{1d11e}b";
 
+/// Offsets, and what stands between two of them.
 #[test]
 fn offsets_are_found_in_bytes(rt: HostRuntime) {
     let rows = [
@@ -26,26 +27,23 @@ fn offsets_are_found_in_bytes(rt: HostRuntime) {
         (Offsets::Bytes, 9, None),
     ];
     for (offsets, offset, wanted) in rows {
-        assert_eq!(rt; offsets.byte_offset(TEXT, offset), wanted);
+        assert_eq!(rt;
+            offsets.byte_offset(TEXT, offset),
+            wanted,
+            "{offset} as {offsets:?}"
+        );
     }
-}
-
-#[test]
-fn a_stretch_is_found_in_bytes(rt: HostRuntime) {
     let file = FileId::new(3);
     let clef = SourceSpan::new(file, 3, 7);
-    for (offsets, start, end) in [
-        (Offsets::Utf16, 2, 4),
-        (Offsets::CodePoints, 2, 3),
-        (Offsets::Bytes, 3, 7),
+    for (offsets, start, end, wanted) in [
+        (Offsets::Utf16, 2, 4, clef),
+        (Offsets::CodePoints, 2, 3, clef),
+        (Offsets::Bytes, 3, 7, clef),
+        // the first half of the clef
+        (Offsets::Utf16, 2, 3, None),
     ] {
-        let Some(span) = SourceSpan::new(file, start, end) else {
-            panic!(rt; "a stretch");
-        };
-        assert_eq!(rt; offsets.byte_span(TEXT, span), clef);
+        let span = SourceSpan::new(file, start, end).expect(&rt, "a stretch");
+        let found = offsets.byte_span(TEXT, span);
+        assert_eq!(rt; found, wanted, "{start} to {end} as {offsets:?}");
     }
-    let Some(half) = SourceSpan::new(file, 2, 3) else {
-        panic!(rt; "a stretch");
-    };
-    assert_eq!(rt; Offsets::Utf16.byte_span(TEXT, half), None);
 }

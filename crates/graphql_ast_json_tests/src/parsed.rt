@@ -1,12 +1,11 @@
 //! JSON that is parsed from a text is read as a value of `serde_json` is: as the same tree, or with the same error.
+use crate::errors::text_of;
 use crate::outside::Outside;
-use graphql_ast::ast::{Definition, DirectiveList, Document, Selection};
-use graphql_ast::name::Name;
+use graphql_ast::ast::Document;
 use graphql_ast_json::{
     AstJson, AstJsonError, JsonNode, NodeReader, Unknown, WellFormedError, from_ast_json_str,
     from_well_formed_ast_json_str, parse_json, read_well_formed_ast_json, read_well_formed_json,
 };
-use graphql_base::node::{Node, NodeStr};
 use graphql_base::span::FileId;
 use json::{Scratch, Value as Parsed};
 use serde_json::Value as Json;
@@ -177,102 +176,73 @@ fn check_changes(rt: &impl Abort, alloc: Global, text: &str) {
     }
 }
 
-/// With unknown members and without: where they are refused, most texts that have them and are JSON
-/// are refused for one.
+/// With unknown members and without: where they are refused, most texts that have them and are JSON are refused for one. The operation
+/// is read, though it isn't well formed.
 #[test]
-fn both_forms_of_a_type_are_read_alike(rt: HostRuntime) {
+fn both_forms_are_read_alike(rt: HostRuntime) {
     let alloc = rt.alloc();
-    let (read, _) = said_of_text(&rt, alloc, UNKNOWN);
-    assert_eq!(rt;
-        read.as_str(),
-        "at `definitions[0]`, in a node from 0 to 9: \
-         found a member `alpha`, which no ObjectTypeDefinition has"
-    );
-    check_changes(&rt, alloc, UNKNOWN);
-    let (_, well_formed) = said_of_text(&rt, alloc, TYPE);
-    assert_eq!(rt;
-        well_formed.as_str(),
-        "\"\"\"\na\nb\u{e9}\n\"\"\"\ntype T {\n  f: [T]!\n}\n"
-    );
-    check_changes(&rt, alloc, TYPE);
-}
-
-/// It is read, though it isn't well formed.
-#[test]
-fn both_forms_of_an_operation_are_read_alike(rt: HostRuntime) {
-    let alloc = rt.alloc();
-    let (read, well_formed) = said_of_text(&rt, alloc, OPERATION);
-    assert!(rt; Json::from_str(alloc, read.as_str()).is_ok());
-    assert_eq!(rt;
-        well_formed.as_str(),
-        "at `definitions[0].selectionSet.selections[0].arguments[0].value.fields[0].value\
-         .values[1].value`: a reserved enum value: `true`"
-    );
-    check_changes(&rt, alloc, OPERATION);
-}
-
-/// The texts of the kinds here are read as they are parsed, and not those of other crates.
-#[test]
-fn kinds_tell_whether_they_read_parsed_json(rt: HostRuntime) {
-    for (reads, wanted) in [
-        (Document::reads_parsed(), true),
-        (Node::<Document>::reads_parsed(), true),
-        (Definition::reads_parsed(), true),
-        (Selection::reads_parsed(), true),
-        (DirectiveList::reads_parsed(), true),
-        (Name::reads_parsed(), true),
-        (NodeStr::reads_parsed(), true),
-        (Outside::reads_parsed(), false),
-    ] {
-        assert_eq!(rt; reads, wanted);
-    }
-}
-
-/// 127 arrays stand in one another in both forms, and 128 in neither.
-#[test]
-fn depth_is_bounded_alike(rt: HostRuntime) {
-    let alloc = rt.alloc();
-    for (count, is_deep) in [(126, false), (127, false), (128, true), (129, true)] {
-        let mut text = String::new(alloc);
-        for bracket in ["[", "]"] {
-            for _ in 0..count {
-                text.push_str(bracket).expect(&rt, "memory");
-            }
-        }
-        if is_deep {
-            let (read, well_formed) = said_of_text(&rt, alloc, &text);
-            assert_eq!(rt; read.as_str(), TOO_DEEP);
-            assert_eq!(rt; well_formed.as_str(), TOO_DEEP);
-        } else {
-            check(&rt, alloc, &text);
-        }
-    }
-}
-
-/// A number that is too large for a float is read in neither form.
-#[test]
-fn what_is_not_read_is_so_in_both_forms(rt: HostRuntime) {
-    let alloc = rt.alloc();
-    for (before, piece, count, after) in [
-        ("1", "0", 307, ""),
-        ("1", "0", 308, ""),
-        ("1", "0", 309, ""),
-        ("-1", "0", 309, ""),
+    for (text, is_read, wanted) in [
         (
-            "{\"kind\":\"Document\",\"definitions\":[],\"x\":1",
-            "0",
-            309,
-            "}",
+            UNKNOWN,
+            false,
+            "at `definitions[0]`, in a node from 0 to 9: \
+             found a member `alpha`, which no ObjectTypeDefinition has",
+        ),
+        (
+            TYPE,
+            true,
+            "\"\"\"\na\nb\u{e9}\n\"\"\"\ntype T {\n  f: [T]!\n}\n",
+        ),
+        (
+            OPERATION,
+            true,
+            "at `definitions[0].selectionSet.selections[0].arguments[0].value.fields[0].value\
+             .values[1].value`: a reserved enum value: `true`",
         ),
     ] {
-        let mut text = String::from_str(alloc, before).expect(&rt, "memory");
-        for _ in 0..count {
-            text.push_str(piece).expect(&rt, "memory");
+        let (read, well_formed) = said_of_text(&rt, alloc, text);
+        assert_eq!(rt; well_formed.as_str(), wanted);
+        assert_eq!(rt; Json::from_str(alloc, read.as_str()).is_ok(), is_read);
+        assert!(rt; is_read || read.as_str() == wanted, "{read}");
+        check_changes(&rt, alloc, text);
+    }
+}
+
+/// Parts of texts, each with how often it comes, and whether the text nests too deep. 127 arrays stand in one another in both forms,
+/// and 128 in neither; a number that is too large for a float is read in neither form.
+const BOUNDS: [(&[(&str, usize)], bool); 9] = [
+    (&[("[", 126), ("]", 126)], false),
+    (&[("[", 127), ("]", 127)], false),
+    (&[("[", 128), ("]", 128)], true),
+    (&[("[", 129), ("]", 129)], true),
+    (&[("1", 1), ("0", 307)], false),
+    (&[("1", 1), ("0", 308)], false),
+    (&[("1", 1), ("0", 309)], false),
+    (&[("-1", 1), ("0", 309)], false),
+    (
+        &[
+            ("{\"kind\":\"Document\",\"definitions\":[],\"x\":1", 1),
+            ("0", 309),
+            ("}", 1),
+        ],
+        false,
+    ),
+];
+
+#[test]
+fn depth_and_numbers_are_bounded_alike(rt: HostRuntime) {
+    let alloc = rt.alloc();
+    for (parts, is_deep) in BOUNDS {
+        let text = text_of(alloc, parts).expect(&rt, "memory");
+        let (read, well_formed) = said_of_text(&rt, alloc, text.as_str());
+        if is_deep {
+            assert_eq!(rt; read.as_str(), TOO_DEEP, "{text}");
+            assert_eq!(rt; well_formed.as_str(), TOO_DEEP, "{text}");
+        } else {
+            check(&rt, alloc, text.as_str());
         }
-        text.push_str(after).expect(&rt, "memory");
-        check(&rt, alloc, text.as_str());
         let read = from_ast_json_str::<Document>(alloc, text.as_str(), FileId::new(1));
-        assert!(rt; read.is_err());
+        assert!(rt; read.is_err(), "{text}");
     }
 }
 
@@ -374,9 +344,45 @@ fn around(rt: &impl Abort, alloc: Global, ends: (&str, &str), text: &str) -> Str
     format!(in alloc; "{before}{text}{behind}").expect(rt, "memory")
 }
 
+/// Texts with members that are unknown, of which the first in the order of the alphabet is told, wherever they stand.
+const UNKNOWN_MEMBERS: [(&str, &str); 6] = [
+    (
+        r#"{"kind":"Document","z":1,"definitions":[],"b":2,"m":3}"#,
+        "at the root: found a member `b`, which no Document has",
+    ),
+    (
+        r#"{"b":1,"definitions":[],"a":2,"kind":"Document","a":3}"#,
+        "at the root: found a member `a`, which no Document has",
+    ),
+    (
+        r#"{"kind":"Document","definitions":[],"b":[1,{}],"\u0061b":{"a":1}}"#,
+        "at the root: found a member `ab`, which no Document has",
+    ),
+    (
+        r#"{"definitions":[],"definitions":[],"kind":"Document","Kind":1,"":2}"#,
+        "at the root: found a member an empty text, which no Document has",
+    ),
+    (
+        r#"{"kind":"Document","definitions":[],"loc":{"start":0,"z":1,"end":2,"b":3}}"#,
+        "at `loc`, in a node from 0 to 2: found a member `b`, which no location has",
+    ),
+    (
+        r#"{"kind":"Document","definitions":[{"name":{"kind":"Name","value":"S","x":1,"k":2},
+        "kind":"ScalarTypeDefinition"}]}"#,
+        "at `definitions[0].name`: found a member `k`, which no Name has",
+    ),
+];
+
+/// What is said of a text stands written out, for both forms could be read wrongly alike.
+fn check_said(rt: &impl Abort, alloc: Global, text: &str, wanted: &str) {
+    check(rt, alloc, text);
+    let (read, _) = said_of_text(rt, alloc, text);
+    assert_eq!(rt; read.as_str(), wanted, "{text}");
+}
+
 /// What is read of a location is written with its definition, and so is compared too.
 #[test]
-fn offsets_are_read_alike(rt: HostRuntime) {
+fn locations_and_unknown_members_are_read_alike(rt: HostRuntime) {
     let alloc = rt.alloc();
     for offset in OFFSETS {
         for ends in LOCATIONS {
@@ -385,54 +391,12 @@ fn offsets_are_read_alike(rt: HostRuntime) {
             check(&rt, alloc, text.as_str());
         }
     }
-}
-
-/// What is said stands written out, for both forms could be read wrongly alike.
-#[test]
-fn locations_are_read_as_they_stand(rt: HostRuntime) {
-    let alloc = rt.alloc();
     for (members, ends, told) in SAID {
         let text = around(&rt, alloc, GIVEN, members);
-        check(&rt, alloc, text.as_str());
-        let (read, _) = said_of_text(&rt, alloc, text.as_str());
         let wanted = around(&rt, alloc, ends, told);
-        assert_eq!(rt; read.as_str(), wanted.as_str());
+        check_said(&rt, alloc, text.as_str(), wanted.as_str());
     }
-}
-
-/// Of members that are unknown the first in the order of the alphabet is told, wherever they stand.
-#[test]
-fn the_first_unknown_member_is_told(rt: HostRuntime) {
-    let alloc = rt.alloc();
-    for (text, told) in [
-        (
-            r#"{"kind":"Document","z":1,"definitions":[],"b":2,"m":3}"#,
-            "at the root: found a member `b`, which no Document has",
-        ),
-        (
-            r#"{"b":1,"definitions":[],"a":2,"kind":"Document","a":3}"#,
-            "at the root: found a member `a`, which no Document has",
-        ),
-        (
-            r#"{"kind":"Document","definitions":[],"b":[1,{}],"\u0061b":{"a":1}}"#,
-            "at the root: found a member `ab`, which no Document has",
-        ),
-        (
-            r#"{"definitions":[],"definitions":[],"kind":"Document","Kind":1,"":2}"#,
-            "at the root: found a member an empty text, which no Document has",
-        ),
-        (
-            r#"{"kind":"Document","definitions":[],"loc":{"start":0,"z":1,"end":2,"b":3}}"#,
-            "at `loc`, in a node from 0 to 2: found a member `b`, which no location has",
-        ),
-        (
-            r#"{"kind":"Document","definitions":[{"name":{"kind":"Name","value":"S","x":1,"k":2},
-            "kind":"ScalarTypeDefinition"}]}"#,
-            "at `definitions[0].name`: found a member `k`, which no Name has",
-        ),
-    ] {
-        check(&rt, alloc, text);
-        let (read, _) = said_of_text(&rt, alloc, text);
-        assert_eq!(rt; read.as_str(), told);
+    for (text, wanted) in UNKNOWN_MEMBERS {
+        check_said(&rt, alloc, text, wanted);
     }
 }

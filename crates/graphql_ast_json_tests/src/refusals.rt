@@ -59,38 +59,31 @@ fn a_definition_is_written_or_memory_was_refused(rt: HostRuntime) {
     }
 }
 
-/// Allocations: 14.
+/// An unknown member; a text that is no JSON, which has an escape and is read twice; and a flaw.
+/// Allocations: 40.
 #[test]
-fn a_flaw_is_told_or_memory_was_refused(rt: HostRuntime) {
+fn what_is_wrong_is_told_or_memory_was_refused(rt: HostRuntime) {
     let alloc = rt.alloc();
+    for (text, wanted) in [
+        (
+            r#"{"kind":"Document","definitions":[],"b":[{}],"\u0061":1}"#,
+            "at the root: found a member `a`, which no Document has",
+        ),
+        (
+            r#"{"kind":"\u0044ocument","definitions":[}"#,
+            "not JSON: invalid JSON at line 1 column 40",
+        ),
+    ] {
+        if let Some(said) = refusal(&rt, alloc, text) {
+            assert_eq!(rt; said.as_str(), wanted);
+        }
+    }
     match from_well_formed_ast_json_str::<Document>(alloc, ILL_FORMED, FileId::new(1)) {
         Ok(_) => panic!(rt; "ill formed"),
         Err(WellFormedError::IllFormed { path, .. }) => {
             assert_eq!(rt; path.as_str(), "definitions[0]");
         }
         Err(error) => assert!(rt; error.is_memory()),
-    }
-}
-
-/// Allocations: 15.
-#[test]
-fn an_unknown_member_is_told_or_memory_was_refused(rt: HostRuntime) {
-    let text = r#"{"kind":"Document","definitions":[],"b":[{}],"\u0061":1}"#;
-    if let Some(said) = refusal(&rt, rt.alloc(), text) {
-        assert_eq!(rt;
-            said.as_str(),
-            "at the root: found a member `a`, which no Document has"
-        );
-    }
-}
-
-/// The text has an escape, and is read twice.
-/// Allocations: 11.
-#[test]
-fn a_text_that_is_no_json_is_told_or_memory_was_refused(rt: HostRuntime) {
-    let text = r#"{"kind":"\u0044ocument","definitions":[}"#;
-    if let Some(said) = refusal(&rt, rt.alloc(), text) {
-        assert_eq!(rt; said.as_str(), "not JSON: invalid JSON at line 1 column 40");
     }
 }
 

@@ -36,7 +36,7 @@ fn member<'j>(json: &'j Json, name: &str) -> Option<&'j Json>
 
 impl<'j> NodeReader<'j> {
     /// Where the node tells that it stands, for an error.
-    fn place(self) -> Option<SourceSpan> {
+    fn told_location(self) -> Option<SourceSpan> {
         let location = self.json.get("loc")?;
         let start = location.get("start")?.as_u64()?;
         let end = location.get("end")?.as_u64()?;
@@ -103,11 +103,11 @@ impl JsonPath {
 /// The words that no enum value may be.
 const RESERVED: [&str; 3] = ["true", "false", "null"];
 
-/// A position within JSON, and where the innermost node stands that has it and tells its place.
+/// A position within JSON, and where the innermost node stands that has it and tells its location.
 #[derive(Drop)]
 pub(crate) struct Position {
     pub path: JsonPath,
-    pub place: Option<SourceSpan>,
+    pub location: Option<SourceSpan>,
 }
 
 impl Position {
@@ -115,7 +115,7 @@ impl Position {
     fn of(node: NodeReader<'_>) -> Position {
         Position {
             path: JsonPath::root(node.alloc),
-            place: node.place(),
+            location: node.told_location(),
         }
     }
 
@@ -123,7 +123,7 @@ impl Position {
     fn in_member(self, node: NodeReader<'_>, name: &str) -> Result<Position, AllocError> {
         Ok(Position {
             path: self.path.in_member(node.alloc, name)?,
-            place: self.place.or(node.place()),
+            location: self.location.or(node.told_location()),
         })
     }
 
@@ -131,7 +131,7 @@ impl Position {
     fn in_item(self, array: NodeReader<'_>, index: usize) -> Result<Position, AllocError> {
         Ok(Position {
             path: self.path.in_item(array.alloc, index)?,
-            place: self.place,
+            location: self.location,
         })
     }
 }

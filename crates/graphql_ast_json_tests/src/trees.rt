@@ -7,8 +7,9 @@ use graphql_values::directive_definition::DirectiveDefinition;
 use graphql_values::value::Value;
 use serde_json::Value as Json;
 
+/// A definition; and a node, which stands where its JSON tells.
 #[test]
-fn a_definition_is_read_and_written(rt: HostRuntime) {
+fn trees_are_read_and_written(rt: HostRuntime) {
     let alloc = rt.alloc();
     let source = FileId::new(1);
     let Ok(definition) = from_ast_json_str::<DirectiveDefinition>(alloc, DEFINITION, source) else {
@@ -25,11 +26,7 @@ fn a_definition_is_read_and_written(rt: HostRuntime) {
         panic!(rt; "the definition again");
     };
     assert!(rt; again == definition);
-}
 
-#[test]
-fn a_node_stands_where_its_json_tells(rt: HostRuntime) {
-    let alloc = rt.alloc();
     let source = FileId::new(2);
     let Ok(node) = from_ast_json_str::<Node<Value>>(alloc, LOCATED, source) else {
         panic!(rt; "a node");
@@ -40,8 +37,8 @@ fn a_node_stands_where_its_json_tells(rt: HostRuntime) {
         panic!(rt; "JSON");
     };
     assert!(rt; json == wanted);
-    let placed = node
+    let located = node
         .to_ast_json_at(alloc, SourceSpan::new(source, 3, 7))
         .expect(&rt, "memory");
-    assert!(rt; placed == wanted);
+    assert!(rt; located == wanted);
 }

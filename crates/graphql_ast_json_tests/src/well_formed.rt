@@ -49,9 +49,21 @@ fn check(rt: &impl Abort, alloc: Global, definitions: &str, value: &str, wanted:
     assert_eq!(rt; said.as_str(), wanted, "{definitions}");
 }
 
+/// Each kind that has a side condition, with a flaw and without one.
+fn check_kinds(rt: &impl Abort, alloc: Global) {
+    for (row, wanted) in FLAWED {
+        check(rt, alloc, row, "(EnumValue;'value':'true')", wanted);
+    }
+    for row in WELL_FORMED {
+        check(rt, alloc, row, VARIABLE, "");
+    }
+}
+
+/// In each kind that has a side condition, and in a value wherever one may stand.
 #[test]
-fn flaws_of_values_are_placed(rt: HostRuntime) {
+fn flaws_are_located(rt: HostRuntime) {
     let alloc = rt.alloc();
+    check_kinds(&rt, alloc);
     let inner = [('@', "directives[0].arguments[0].value")];
     for (row, around, is_constant) in AROUND {
         check(&rt, alloc, row, ONE, "");
@@ -68,47 +80,52 @@ fn flaws_of_values_are_placed(rt: HostRuntime) {
     }
 }
 
-#[test]
-fn flaws_are_placed(rt: HostRuntime) {
-    let alloc = rt.alloc();
-    for (row, wanted) in FLAWED {
-        check(&rt, alloc, row, "(EnumValue;'value':'true')", wanted);
-    }
-    for row in WELL_FORMED {
-        check(&rt, alloc, row, VARIABLE, "");
-    }
+/// What is said of the JSON of a row with this value.
+fn said_of<T: AstJson + SyntaxTree + Drop>(
+    rt: &impl Abort,
+    alloc: Global,
+    row: &str,
+    value: &str,
+) -> String {
+    said::<T>(rt, alloc, json_of(rt, alloc, row, value).as_str())
 }
 
-/// Trees of other kinds than documents, and JSON that isn't read.
+/// Trees of other kinds than documents, and JSON that isn't read. And a well-formed document is read as the document that it is read
+/// as without the test.
 #[test]
 fn trees_of_each_kind_are_told(rt: HostRuntime) {
     let alloc = rt.alloc();
-    let value = json_of(&rt, alloc, RESERVED, "");
-    assert_eq!(rt;
-        said::<Value>(&rt, alloc, value.as_str()).as_str(),
-        "at `values[1].fields[0].value.value`: a reserved enum value: `null`"
-    );
-    let variable = json_of(&rt, alloc, VARIABLE, "");
-    assert_eq!(rt; said::<Value>(&rt, alloc, variable.as_str()).as_str(), "");
-    let list = json_of(
-        &rt,
-        alloc,
-        "[(Directive;'name':<d>,'arguments':[(Argument;'name':<a>,'value':#)])]",
-        RESERVED,
-    );
-    assert_eq!(rt;
-        said::<DirectiveList>(&rt, alloc, list.as_str()).as_str(),
-        "at `[0].arguments[0].value.values[1].fields[0].value.value`: a reserved enum value: `null`"
-    );
-    let extension = json_of(&rt, alloc, "(EnumTypeExtension;'name':<E>)", "");
-    assert_eq!(rt;
-        said::<EnumTypeExtension>(&rt, alloc, extension.as_str()).as_str(),
-        "at the root: an extension that adds nothing: `E`"
-    );
-    assert_eq!(rt;
-        said::<EnumTypeExtension>(&rt, alloc, "7").as_str(),
-        "at the root: found a number where an object was wanted"
-    );
+    let directives = "[(Directive;'name':<d>,'arguments':[(Argument;'name':<a>,'value':#)])]";
+    let extension = "(EnumTypeExtension;'name':<E>)";
+    for (found, wanted) in [
+        (
+            said_of::<Value>(&rt, alloc, RESERVED, ""),
+            "at `values[1].fields[0].value.value`: a reserved enum value: `null`",
+        ),
+        (said_of::<Value>(&rt, alloc, VARIABLE, ""), ""),
+        (
+            said_of::<DirectiveList>(&rt, alloc, directives, RESERVED),
+            "at `[0].arguments[0].value.values[1].fields[0].value.value`: a reserved enum value: `null`",
+        ),
+        (
+            said_of::<EnumTypeExtension>(&rt, alloc, extension, ""),
+            "at the root: an extension that adds nothing: `E`",
+        ),
+        (
+            said_of::<EnumTypeExtension>(&rt, alloc, "7", ""),
+            "at the root: found a number where an object was wanted",
+        ),
+    ] {
+        assert_eq!(rt; found.as_str(), wanted);
+    }
+    let row = "(Document;'definitions':[(ScalarTypeDefinition;'name':<A>,@)])";
+    let text = json_of(&rt, alloc, row, ONE);
+    let read = from_well_formed_ast_json_str::<Document>(alloc, text.as_str(), FileId::new(1));
+    let Ok(document) = read else {
+        panic!(rt; "a document");
+    };
+    let printed = document.serialize().no_indent().to_text(alloc);
+    assert_eq!(rt; printed.expect(&rt, "memory").as_str(), "scalar A @d(a: 1)");
 }
 
 /// What no node of a kind has isn't looked into, though a node of another kind has it.
@@ -130,7 +147,7 @@ fn what_is_passed_over_has_no_flaws(rt: HostRuntime) {
     let Err(
         WellFormedError::IllFormed {
             path,
-            place,
+            location,
             broken,
         },
     ) = read_well_formed_ast_json::<Document>(node)
@@ -141,28 +158,9 @@ fn what_is_passed_over_has_no_flaws(rt: HostRuntime) {
         path.as_str(),
         "definitions[0].arguments[0].defaultValue.value"
     );
-    assert!(rt; place.0.is_none());
+    assert!(rt; location.0.is_none());
     assert_eq!(rt; broken.condition, SideCondition::IsNotReserved);
     assert!(rt; broken.name.is_some_and(|name| name.as_str() == "true"));
     let error = WellFormedError::NotRead(AstJsonError::Memory);
     assert!(rt; error.is_memory());
-}
-
-/// A well-formed document is read as the document that it is read as without the test.
-#[test]
-fn a_well_formed_document_is_read(rt: HostRuntime) {
-    let alloc = rt.alloc();
-    let row = "(Document;'definitions':[(ScalarTypeDefinition;'name':<A>,@)])";
-    let text = json_of(&rt, alloc, row, ONE);
-    let source = FileId::new(1);
-    let Ok(document) = from_well_formed_ast_json_str::<Document>(alloc, text.as_str(), source)
-    else {
-        panic!(rt; "a document");
-    };
-    let printed = document
-        .serialize()
-        .no_indent()
-        .to_text(alloc)
-        .expect(&rt, "memory");
-    assert_eq!(rt; printed.as_str(), "scalar A @d(a: 1)");
 }

@@ -1,7 +1,7 @@
 //! Calls that make, copy and lend what trees are made of: each is whole, or refused memory, and what it was refused for stays as it was.
 use graphql_ast::ast::{
     Argument, Definition, Document, Field, FloatValue, IntValue, LiteralError, Selection,
-    SourceFile, SpecifiedArgumentError, Type,
+    SourceFile, Type,
 };
 use graphql_ast::name::{InvalidNameError, Name, NameError};
 use graphql_ast::node::{Node, NodeStr};
@@ -237,19 +237,4 @@ fn calls_are_whole(rt: HostRuntime) {
     let mut refused = Refused::none();
     check_all(&rt, rt.alloc(), &mut refused);
     assert_eq!(rt; refused.calls, 0);
-}
-
-#[test]
-fn errors_of_arguments_have_their_texts(rt: HostRuntime) {
-    let alloc = rt.alloc();
-    for (error, wanted) in [
-        (
-            SpecifiedArgumentError::NotSpecified,
-            "no argument of that name",
-        ),
-        (SpecifiedArgumentError::Memory, "out of memory"),
-    ] {
-        let text = format!(in alloc; "{error}").expect(&rt, "memory");
-        assert_eq!(rt; text.as_str(), wanted);
-    }
 }

@@ -1,8 +1,6 @@
-//! What the examples compare, and the sinks that they print into.
-ghost use Rattle.std.specs.Prelude.{◌≡◌, None, Some};
-
+//! What the examples compare.
 use graphql_ast::serialize::{PrintError, Serialize, Syntax};
-use graphql_ast::sink::{SinkFault, TextSink, VecSink};
+use graphql_ast::sink::{TextSink, VecSink};
 use std::alloc::Global;
 use std::process::Abort;
 
@@ -49,47 +47,5 @@ pub(crate) fn check_text_or_refused<T: Syntax>(
 pub(crate) fn check_cloned_or_refused<T: Clone + PartialEq + Drop>(rt: &impl Abort, original: &T) {
     if let Ok(copy) = original.clone() {
         assert!(rt; copy == *original);
-    }
-}
-
-/// Takes one byte a call, so many in all, and then faults.
-#[derive(Drop)]
-pub(crate) struct Narrow {
-    pub(crate) bytes: Vec<u8>,
-    pub(crate) room: usize,
-    pub(crate) faults: u64,
-}
-
-impl Narrow {
-    pub(crate) fn with_room(alloc: Global, room: usize) -> Narrow
-        ensures { result.faults ≡ 0 }
-    {
-        Narrow {
-            bytes: Vec::new(alloc),
-            room,
-            faults: 0,
-        }
-    }
-}
-
-impl TextSink for Narrow {
-    ghost taken = { λ sink. Some sink.bytes.items };
-
-    ghost fault_count = { λ sink. sink.faults };
-
-    fn put(&mut self, bytes: &[u8]) -> Result<usize, SinkFault> {
-        let Some(byte) = bytes.first() else {
-            return Ok(0);
-        };
-        if self.room > 0 && self.bytes.push(*byte).is_ok() {
-            self.room -= 1;
-            return Ok(1);
-        }
-        self.faults += 1;
-        Err(SinkFault)
-    }
-
-    fn faults(&self) -> u64 {
-        self.faults
     }
 }

@@ -79,42 +79,64 @@ fn directives(alloc: Global) -> Result<DirectiveList, AllocError> {
     Ok(DirectiveList(vec![in alloc; directive]?))
 }
 
-/// Two equal trees that share nothing: their text on one line, which is wanted, nests so deep, with so many lists around a type.
-fn check<T: Syntax + Clone + PartialEq + Eq + Hash + Drop>(
-    rt: &impl Abort,
+/// What is wanted of trees: the text of what is within them on one line, and how deep they nest, with so many lists around a type.
+#[derive(Drop)]
+struct Deep<'a, R: Abort> {
+    rt: &'a R,
     alloc: Global,
-    trees: (Result<T, AllocError>, Result<T, AllocError>),
-    wanted: (&str, &String, &str),
+    inner: &'a str,
     depths: (usize, usize),
-) {
-    let (tree, other) = (trees.0.expect(rt, "memory"), trees.1.expect(rt, "memory"));
-    assert!(rt; tree.is_well_formed());
-    let found = tree
-        .find_depths()
-        .map(|depths| (depths.nesting, depths.lists));
-    assert_eq!(rt; found, Some(depths));
-    let print = Serialize::new(&tree).no_indent();
-    let (before, deep, behind) = wanted;
-    let text = print
-        .initial_indent_level(usize::MAX - depths.0)
-        .to_text(alloc);
-    let text = text.expect(rt, "memory");
-    let inner = text
-        .as_str()
-        .strip_prefix(before)
-        .and_then(|rest| rest.strip_suffix(behind));
-    assert_eq!(rt; inner, Some(deep.as_str()));
-    if depths.0 > 0 {
-        let above = print
-            .initial_indent_level(usize::MAX - depths.0 + 1)
-            .to_text(alloc);
-        assert_eq!(rt; above.err(), Some(PrintError::LevelOverflow));
+}
+
+impl<R: Abort> Deep<'_, R> {
+    fn of<'a>(rt: &'a R, alloc: Global, inner: &'a str, depths: (usize, usize)) -> Deep<'a, R> {
+        Deep {
+            rt,
+            alloc,
+            inner,
+            depths,
+        }
     }
-    let copy = tree.clone().expect(rt, "memory");
-    assert!(rt; copy == tree && other == tree);
-    let mut seen = HashSet::new(alloc);
-    seen.insert(tree).expect(rt, "memory");
-    assert!(rt; seen.contains(&other));
+
+    /// Two equal trees that share nothing, and what stands before and behind what is within them.
+    fn take<T: Syntax + Clone + PartialEq + Eq + Hash + Drop>(
+        &self,
+        trees: (Result<T, AllocError>, Result<T, AllocError>),
+        before: &str,
+        behind: &str,
+    ) {
+        let rt = self.rt;
+        let (tree, other) = (trees.0.expect(rt, "memory"), trees.1.expect(rt, "memory"));
+        assert!(rt; tree.is_well_formed(), "{before}");
+        let found = tree
+            .find_depths()
+            .map(|depths| (depths.nesting, depths.lists));
+        assert_eq!(rt; found, Some(self.depths), "{before}");
+        self.check_levels(&tree, before, behind);
+        let copy = tree.clone().expect(rt, "memory");
+        assert!(rt; copy == tree && other == tree, "{before}");
+        let mut seen = HashSet::new(self.alloc);
+        seen.insert(tree).expect(rt, "memory");
+        assert!(rt; seen.contains(&other), "{before}");
+    }
+
+    /// The text at the last level that fits, and that the next is one too many.
+    fn check_levels<T: Syntax>(&self, tree: &T, before: &str, behind: &str) {
+        let (rt, depth) = (self.rt, self.depths.0);
+        let print = Serialize::new(tree).no_indent();
+        let last = print.initial_indent_level(usize::MAX - depth);
+        let text = last.to_text(self.alloc).expect(rt, "memory");
+        let inner = text
+            .as_str()
+            .strip_prefix(before)
+            .and_then(|rest| rest.strip_suffix(behind));
+        assert_eq!(rt; inner, Some(self.inner), "{before}");
+        if depth > 0 {
+            let above = print.initial_indent_level(usize::MAX - depth + 1);
+            let answer = above.to_text(self.alloc);
+            assert_eq!(rt; answer.err(), Some(PrintError::LevelOverflow), "{before}");
+        }
+    }
 }
 
 // KINDS WITH ONE DIRECTIVE, IN WHICH LISTS NEST
@@ -224,116 +246,36 @@ fn spread(alloc: Global) -> Result<FragmentSpread, AllocError> {
     })
 }
 
-#[test]
-fn lists_nest_in_types(rt: HostRuntime) {
-    let alloc = rt.alloc();
-    let deep = nested(alloc, "[", "[]", "]").expect(&rt, "memory");
-    let wanted = ("scalar N @d(x: ", &deep, ")");
-    check(
-        &rt,
-        alloc,
-        (scalar(alloc), scalar(alloc)),
-        wanted,
-        (1000, 0),
-    );
-    let wanted = ("type N @d(x: ", &deep, ")");
-    check(
-        &rt,
-        alloc,
-        (object(alloc), object(alloc)),
-        wanted,
-        (1000, 0),
-    );
-    let wanted = ("interface N @d(x: ", &deep, ")");
-    check(
-        &rt,
-        alloc,
-        (interface(alloc), interface(alloc)),
-        wanted,
-        (1000, 0),
-    );
-    let wanted = ("union N @d(x: ", &deep, ")");
-    check(&rt, alloc, (union(alloc), union(alloc)), wanted, (1000, 0));
-    let wanted = ("enum N @d(x: ", &deep, ")");
-    check(
-        &rt,
-        alloc,
-        (enumeration(alloc), enumeration(alloc)),
-        wanted,
-        (1000, 0),
-    );
-    let wanted = ("input N @d(x: ", &deep, ")");
-    check(&rt, alloc, (input(alloc), input(alloc)), wanted, (1000, 0));
-    let wanted = ("A @d(x: ", &deep, ")");
-    check(
-        &rt,
-        alloc,
-        (enum_value(alloc), enum_value(alloc)),
-        wanted,
-        (1000, 0),
-    );
+/// What stands before the lists that an argument of a directive has, in definitions of types and in extensions.
+fn check_types<R: Abort>(lists: &Deep<'_, R>) {
+    let alloc = lists.alloc;
+    lists.take((scalar(alloc), scalar(alloc)), "scalar N @d(x: ", ")");
+    lists.take((object(alloc), object(alloc)), "type N @d(x: ", ")");
+    let trees = (interface(alloc), interface(alloc));
+    lists.take(trees, "interface N @d(x: ", ")");
+    lists.take((union(alloc), union(alloc)), "union N @d(x: ", ")");
+    let trees = (enumeration(alloc), enumeration(alloc));
+    lists.take(trees, "enum N @d(x: ", ")");
+    lists.take((input(alloc), input(alloc)), "input N @d(x: ", ")");
+    lists.take((enum_value(alloc), enum_value(alloc)), "A @d(x: ", ")");
 }
 
-#[test]
-fn lists_nest_in_extensions(rt: HostRuntime) {
-    let alloc = rt.alloc();
-    let deep = nested(alloc, "[", "[]", "]").expect(&rt, "memory");
-    let wanted = ("extend schema @d(x: ", &deep, ")");
-    check(
-        &rt,
-        alloc,
-        (schema_extension(alloc), schema_extension(alloc)),
-        wanted,
-        (1000, 0),
-    );
-    let wanted = ("extend scalar N @d(x: ", &deep, ")");
-    check(
-        &rt,
-        alloc,
-        (scalar_extension(alloc), scalar_extension(alloc)),
-        wanted,
-        (1000, 0),
-    );
-    let wanted = ("extend type N @d(x: ", &deep, ")");
-    check(
-        &rt,
-        alloc,
-        (object_extension(alloc), object_extension(alloc)),
-        wanted,
-        (1000, 0),
-    );
-    let wanted = ("extend interface N @d(x: ", &deep, ")");
-    check(
-        &rt,
-        alloc,
-        (interface_extension(alloc), interface_extension(alloc)),
-        wanted,
-        (1000, 0),
-    );
-    let wanted = ("extend union N @d(x: ", &deep, ")");
-    check(
-        &rt,
-        alloc,
-        (union_extension(alloc), union_extension(alloc)),
-        wanted,
-        (1000, 0),
-    );
-    let wanted = ("extend enum N @d(x: ", &deep, ")");
-    check(
-        &rt,
-        alloc,
-        (enum_extension(alloc), enum_extension(alloc)),
-        wanted,
-        (1000, 0),
-    );
-    let wanted = ("extend input N @d(x: ", &deep, ")");
-    check(
-        &rt,
-        alloc,
-        (input_extension(alloc), input_extension(alloc)),
-        wanted,
-        (1000, 0),
-    );
+fn check_extensions<R: Abort>(lists: &Deep<'_, R>) {
+    let alloc = lists.alloc;
+    let trees = (schema_extension(alloc), schema_extension(alloc));
+    lists.take(trees, "extend schema @d(x: ", ")");
+    let trees = (scalar_extension(alloc), scalar_extension(alloc));
+    lists.take(trees, "extend scalar N @d(x: ", ")");
+    let trees = (object_extension(alloc), object_extension(alloc));
+    lists.take(trees, "extend type N @d(x: ", ")");
+    let trees = (interface_extension(alloc), interface_extension(alloc));
+    lists.take(trees, "extend interface N @d(x: ", ")");
+    let trees = (union_extension(alloc), union_extension(alloc));
+    lists.take(trees, "extend union N @d(x: ", ")");
+    let trees = (enum_extension(alloc), enum_extension(alloc));
+    lists.take(trees, "extend enum N @d(x: ", ")");
+    let trees = (input_extension(alloc), input_extension(alloc));
+    lists.take(trees, "extend input N @d(x: ", ")");
 }
 
 fn value_of(node: Result<Node<Value>, AllocError>) -> Result<Value, AllocError> {
@@ -372,40 +314,29 @@ fn directive_definition(alloc: Global) -> Result<DirectiveDefinition, AllocError
     })
 }
 
+/// Values themselves and a default value nest one less deep than what stands in an argument.
 #[test]
-fn lists_and_objects_nest_in_values(rt: HostRuntime) {
+fn lists_and_objects_nest_in_each_kind(rt: HostRuntime) {
     let alloc = rt.alloc();
-    let deep = nested(alloc, "[", "[]", "]").expect(&rt, "memory");
-    let trees = (value_of(lists(alloc)), value_of(lists(alloc)));
-    check(&rt, alloc, trees, ("", &deep, ""), (999, 0));
+    let inner = nested(alloc, "[", "[]", "]").expect(&rt, "memory");
     let object = nested(alloc, "{k: ", "{}", "}").expect(&rt, "memory");
+    let (inner, object) = (inner.as_str(), object.as_str());
+    let values = Deep::of(&rt, alloc, inner, (999, 0));
+    let trees = (value_of(lists(alloc)), value_of(lists(alloc)));
+    values.take(trees, "", "");
+    values.take((input_value(alloc), input_value(alloc)), "x: Int = ", "");
     let trees = (value_of(objects(alloc)), value_of(objects(alloc)));
-    check(&rt, alloc, trees, ("", &object, ""), (999, 0));
-    let trees = (directive(alloc), directive(alloc));
-    check(&rt, alloc, trees, ("@d(x: ", &deep, ")"), (1000, 0));
-    let trees = (directives(alloc), directives(alloc));
-    check(&rt, alloc, trees, (" @d(x: ", &deep, ")"), (1000, 0));
-    let trees = (input_value(alloc), input_value(alloc));
-    check(&rt, alloc, trees, ("x: Int = ", &deep, ""), (999, 0));
+    Deep::of(&rt, alloc, object, (999, 0)).take(trees, "", "");
+    let lists = Deep::of(&rt, alloc, inner, (1000, 0));
+    lists.take((directive(alloc), directive(alloc)), "@d(x: ", ")");
+    lists.take((directives(alloc), directives(alloc)), " @d(x: ", ")");
     let trees = (directive_definition(alloc), directive_definition(alloc));
-    let wanted = ("directive @d(x: Int = ", &deep, ") on FIELD");
-    check(&rt, alloc, trees, wanted, (1000, 0));
+    lists.take(trees, "directive @d(x: Int = ", ") on FIELD");
     let trees = (schema(alloc), schema(alloc));
-    check(
-        &rt,
-        alloc,
-        trees,
-        ("schema @d(x: ", &deep, ") { query: Q }"),
-        (1000, 0),
-    );
-    let wanted = ("...F @d(x: ", &deep, ")");
-    check(
-        &rt,
-        alloc,
-        (spread(alloc), spread(alloc)),
-        wanted,
-        (1000, 0),
-    );
+    lists.take(trees, "schema @d(x: ", ") { query: Q }");
+    lists.take((spread(alloc), spread(alloc)), "...F @d(x: ", ")");
+    check_types(&lists);
+    check_extensions(&lists);
 }
 
 /// `f { a { a .. { a } .. } }`
@@ -445,48 +376,6 @@ fn only_definition(alloc: Global) -> Result<Document, AllocError> {
     Ok(document(alloc, vec![in alloc; definition(alloc)?]?))
 }
 
-#[test]
-fn sets_nest_in_each_kind_that_has_them(rt: HostRuntime) {
-    let alloc = rt.alloc();
-    let deep = nested(alloc, "{ a ", "{ a }", " }").expect(&rt, "memory");
-    assert_eq!(&rt; deep.len(), 5999);
-    let depths = (1000, 0);
-    check(
-        &rt,
-        alloc,
-        (field(alloc), field(alloc)),
-        ("f ", &deep, ""),
-        depths,
-    );
-    check(
-        &rt,
-        alloc,
-        (selection(alloc), selection(alloc)),
-        ("f ", &deep, ""),
-        depths,
-    );
-    let trees = (inline_fragment(alloc), inline_fragment(alloc));
-    check(&rt, alloc, trees, ("... ", &deep, ""), depths);
-    let trees = (fragment(alloc), fragment(alloc));
-    check(&rt, alloc, trees, ("fragment F on T ", &deep, ""), depths);
-    check(
-        &rt,
-        alloc,
-        (operation(alloc), operation(alloc)),
-        ("", &deep, ""),
-        depths,
-    );
-    check(
-        &rt,
-        alloc,
-        (definition(alloc), definition(alloc)),
-        ("", &deep, ""),
-        depths,
-    );
-    let trees = (only_definition(alloc), only_definition(alloc));
-    check(&rt, alloc, trees, ("", &deep, ""), depths);
-}
-
 /// `$v: [[..Int..]]`
 fn variable(alloc: Global) -> Result<VariableDefinition, AllocError> {
     let ty = Node::new(alloc, list_types(alloc)?)?;
@@ -514,34 +403,29 @@ fn typed_object(alloc: Global) -> Result<Document, AllocError> {
 }
 
 #[test]
-fn list_types_nest_in_each_kind_that_has_one(rt: HostRuntime) {
+fn sets_and_list_types_nest_in_each_kind_that_has_them(rt: HostRuntime) {
     let alloc = rt.alloc();
-    let deep = nested(alloc, "[", "[Int]", "]").expect(&rt, "memory");
-    check(
-        &rt,
-        alloc,
-        (variable(alloc), variable(alloc)),
-        ("$v: ", &deep, ""),
-        (0, 1000),
-    );
-    check(
-        &rt,
-        alloc,
-        (typed_input(alloc), typed_input(alloc)),
-        ("x: ", &deep, ""),
-        (0, 1000),
-    );
-    check(
-        &rt,
-        alloc,
-        (typed_field(alloc), typed_field(alloc)),
-        ("f: ", &deep, ""),
-        (0, 1000),
-    );
+    let inner = nested(alloc, "{ a ", "{ a }", " }").expect(&rt, "memory");
+    assert_eq!(&rt; inner.len(), 5999);
+    let sets = Deep::of(&rt, alloc, inner.as_str(), (1000, 0));
+    sets.take((field(alloc), field(alloc)), "f ", "");
+    sets.take((selection(alloc), selection(alloc)), "f ", "");
+    let trees = (inline_fragment(alloc), inline_fragment(alloc));
+    sets.take(trees, "... ", "");
+    sets.take((fragment(alloc), fragment(alloc)), "fragment F on T ", "");
+    sets.take((operation(alloc), operation(alloc)), "", "");
+    sets.take((definition(alloc), definition(alloc)), "", "");
+    sets.take((only_definition(alloc), only_definition(alloc)), "", "");
+    let inner = nested(alloc, "[", "[Int]", "]").expect(&rt, "memory");
+    let types = Deep::of(&rt, alloc, inner.as_str(), (0, 1000));
+    types.take((variable(alloc), variable(alloc)), "$v: ", "");
+    types.take((typed_input(alloc), typed_input(alloc)), "x: ", "");
+    types.take((typed_field(alloc), typed_field(alloc)), "f: ", "");
     let trees = (typed_object(alloc), typed_object(alloc));
-    check(&rt, alloc, trees, ("type T { f: ", &deep, " }"), (1, 1000));
+    let types = Deep::of(&rt, alloc, inner.as_str(), (1, 1000));
+    types.take(trees, "type T { f: ", " }");
     let ty = list_types(alloc).expect(&rt, "memory");
     let text = format!(in alloc; "{ty}").expect(&rt, "memory");
-    assert_eq!(&rt; text.as_str(), deep.as_str());
+    assert_eq!(&rt; text.as_str(), inner.as_str());
     assert!(&rt; ty.clone().expect(&rt, "memory") == list_types(alloc).expect(&rt, "memory"));
 }

@@ -14,38 +14,41 @@ fn from_a_file(alloc: Global) -> Result<Document, AllocError> {
     Ok(document)
 }
 
-/// Source files are, by both of their texts.
+/// `{ a }`, at a location.
+fn query_at(alloc: Global, span: SourceSpan) -> Result<Definition, AllocError> {
+    Ok(Definition::from(Node::new_parsed(alloc, query(alloc)?, span)?))
+}
+
+/// Documents are equal and hash alike whatever their sources are, and a clone keeps sources and locations. Source files are
+/// compared, by both of their texts.
 #[test]
-fn sources_are_not_compared(rt: HostRuntime) {
+fn sources_are_kept_and_not_compared(rt: HostRuntime) {
     let alloc = rt.alloc();
     let made = type_and_query(alloc).expect(&rt, "memory");
-    let read = from_a_file(alloc).expect(&rt, "memory");
+    let mut read = from_a_file(alloc).expect(&rt, "memory");
     assert!(rt; made == read);
     let mut seen = HashSet::new(alloc);
     assert!(rt; seen.insert(made).is_ok());
     assert!(rt; seen.contains(&read));
     let shorter = vec![in alloc; type_a(alloc).expect(&rt, "memory")].expect(&rt, "memory");
     assert!(rt; !seen.contains(&document(alloc, shorter)));
-    let file = source_file(alloc, "a", "b").expect(&rt, "memory");
-    assert!(rt; file == file.clone().expect(&rt, "memory"));
-    assert!(rt; file != source_file(alloc, "a", "c").expect(&rt, "memory"));
-    assert!(rt; file != source_file(alloc, "c", "b").expect(&rt, "memory"));
-}
 
-#[test]
-fn a_clone_keeps_sources_and_locations(rt: HostRuntime) {
-    let alloc = rt.alloc();
-    let mut read = from_a_file(alloc).expect(&rt, "memory");
     let file = FileId::new(3);
     let span = SourceSpan::new(file, 0, 6).expect(&rt, "a span");
-    let query = query(alloc).expect(&rt, "memory");
-    let node = Node::new_parsed(alloc, query, span).expect(&rt, "memory");
-    read.definitions = vec![in alloc; Definition::from(node)].expect(&rt, "memory");
+    let query = query_at(alloc, span).expect(&rt, "memory");
+    read.definitions = vec![in alloc; query].expect(&rt, "memory");
     let copy = read.clone().expect(&rt, "memory");
     assert!(rt; copy == read && copy.sources.len() == 1);
     assert!(rt; copy.sources.get(&file) == read.sources.get(&file));
     let location = copy.definitions.first().and_then(|first| first.location());
     assert!(rt; location == Some(span));
+
+    let file = source_file(alloc, "a", "b").expect(&rt, "memory");
+    assert!(rt; file == file.clone().expect(&rt, "memory"));
+    for (path, text) in [("a", "c"), ("c", "b")] {
+        let other = source_file(alloc, path, text).expect(&rt, "memory");
+        assert!(rt; file != other, "{path}: {text}");
+    }
 }
 
 /// Two queries, the one pushed as a struct and the other as a node, and a definition.

@@ -55,6 +55,18 @@ enum Calls {
     Prints,
 }
 
+/// A tree is well formed, unless it is the empty document, and has groups where a print of it asks for memory. To find
+/// this asks for none.
+fn check_built<T: Syntax>(rt: &impl Abort, tree: &T, has_groups: bool, takes: &str) {
+    let is_empty_document = takes == "an empty document takes 0";
+    assert_eq!(rt; tree.is_well_formed(), !is_empty_document, "{takes}");
+    let nesting = tree.find_depths().map(|depths| depths.nesting);
+    assert!(rt;
+        nesting.is_some_and(|nesting| (nesting > 0) == has_groups),
+        "{takes}"
+    );
+}
+
 fn check<T: Syntax + Drop>(
     rt: &impl Abort,
     calls: Calls,
@@ -64,11 +76,12 @@ fn check<T: Syntax + Drop>(
     let Ok(tree) = made else {
         return;
     };
+    let has_groups = !takes.ends_with("takes 0");
+    check_built(rt, &tree, has_groups, takes);
     if calls == Calls::Prints {
         let flat = Serialize::new(&tree).no_indent();
         let mut sink = Open { taken: 0 };
         let above = flat.initial_indent_level(usize::MAX).print_to(&mut sink);
-        let has_groups = !takes.ends_with("takes 0");
         let wanted = if has_groups {
             Err(PrintError::LevelOverflow)
         } else {

@@ -8,11 +8,11 @@ use graphql_ast::span::{FileId, SourceSpan};
 use std::alloc::{AllocError, Global};
 
 /// Where `extend enum N` stands in the source text.
-fn place() -> Option<SourceSpan> {
+fn flaw_span() -> Option<SourceSpan> {
     SourceSpan::new(FileId::new(7), 8, 21)
 }
 
-/// `type A extend enum N`, where the extension tells its place.
+/// `type A extend enum N`, where the extension tells its location.
 fn flawed(alloc: Global, span: SourceSpan) -> Result<Document, AllocError> {
     let extension = EnumTypeExtension::new(alloc, name!(N));
     let node = Node::new_parsed(alloc, extension, span)?;
@@ -24,7 +24,7 @@ fn flawed(alloc: Global, span: SourceSpan) -> Result<Document, AllocError> {
 #[test]
 fn in_sources(rt: HostRuntime) {
     let alloc = rt.alloc();
-    let span = place().expect(&rt, "a span");
+    let span = flaw_span().expect(&rt, "a span");
     let mut tree = flawed(alloc, span).expect(&rt, "memory");
     assert_eq!(rt; tree.find_ill_formed_index(), Some(1));
     let found = tree.find_placed_flaw().expect(&rt, "a flaw");

@@ -6,6 +6,7 @@ use graphql_ast::ast::{
 };
 use graphql_ast::{Name, name};
 use std::alloc::{AllocError, Global};
+use std::process::Abort;
 
 fn operation(
     alloc: Global,
@@ -45,32 +46,6 @@ fn fragments_and_directives(alloc: Global) -> Result<Document, AllocError> {
     Ok(document)
 }
 
-/// And of fragments and directives.
-#[test]
-fn of_operations(rt: HostRuntime) {
-    let document = operations(rt.alloc()).expect(&rt, "memory");
-    assert_eq!(rt; document.operations().count(), 4);
-    assert_eq!(rt; document.fragments().count(), 0);
-    for (name, wanted) in [
-        (Some("A"), Some(OperationType::Query)),
-        (None, Some(OperationType::Mutation)),
-        (Some("a"), None),
-        (Some(""), None),
-    ] {
-        let found = document.operation(name).map(|node| node.operation_type);
-        assert_eq!(rt; found, wanted, "{name:?}");
-    }
-    let document = fragments_and_directives(rt.alloc()).expect(&rt, "memory");
-    assert_eq!(rt; document.operations().count(), 0);
-    assert_eq!(rt; document.fragments().count(), 2);
-    for (name, on, repeatable) in [("A", Some("T"), Some(true)), ("a", None, None)] {
-        let fragment = document.fragment(name);
-        assert_eq!(rt; fragment.map(|node| node.type_condition.as_str()), on);
-        let directive = document.directive_definition(name);
-        assert_eq!(rt; directive.map(|node| node.repeatable), repeatable);
-    }
-}
-
 /// `extend scalar A`, `type A`, `scalar A`, `enum a`, `extend type A`, `extend schema` and `extend enum a`.
 fn types(alloc: Global) -> Result<Document, AllocError> {
     let mut document = Document::new(alloc);
@@ -84,26 +59,93 @@ fn types(alloc: Global) -> Result<Document, AllocError> {
     Ok(document)
 }
 
-/// And of all, in an empty document.
-#[test]
-fn of_types(rt: HostRuntime) {
-    let document = types(rt.alloc()).expect(&rt, "memory");
-    for (name, defined, extended, count) in [
-        ("A", Some("type"), Some("extend scalar"), 2),
-        ("a", Some("enum"), Some("extend enum"), 1),
-        ("B", None, None, 0),
-    ] {
-        let found = document.type_definition(name);
-        assert_eq!(rt; found.map(|definition| definition.kind_name()), defined);
-        let first = document.extensions_of(name).next();
-        assert_eq!(rt; first.map(|definition| definition.kind_name()), extended);
-        assert_eq!(rt; document.extensions_of(name).count(), count, "{name}");
+/// What a document has under a name: the type of the operation, the type condition of the fragment, whether the directive is
+/// repeatable, and the words of the type and of its first extension.
+type Found<'d> = (
+    Option<OperationType>,
+    Option<&'d str>,
+    Option<bool>,
+    Option<&'static str>,
+    Option<&'static str>,
+);
+
+const NOTHING: Found<'static> = (None, None, None, None, None);
+
+fn found<'d>(document: &'d Document, name: &str) -> Found<'d> {
+    (
+        document
+            .operation(Some(name))
+            .map(|node| node.operation_type),
+        document
+            .fragment(name)
+            .map(|node| node.type_condition.as_str()),
+        document
+            .directive_definition(name)
+            .map(|node| node.repeatable),
+        document
+            .type_definition(name)
+            .map(|definition| definition.kind_name()),
+        document
+            .extensions_of(name)
+            .next()
+            .map(|definition| definition.kind_name()),
+    )
+}
+
+/// Names, and what the document has under each.
+fn check_found(rt: &impl Abort, document: &Document, cases: &[(&str, Found<'_>)]) {
+    for (name, wanted) in cases {
+        assert_eq!(rt; found(document, name), *wanted, "{name} in {document}");
     }
-    let empty = Document::new(rt.alloc());
-    assert!(rt; empty.operation(None).is_none() && empty.fragment("A").is_none());
-    assert!(rt; empty.type_definition("A").is_none());
-    assert!(rt; empty.directive_definition("A").is_none());
-    assert_eq!(rt; empty.operations().count(), 0);
-    assert_eq!(rt; empty.fragments().count(), 0);
-    assert_eq!(rt; empty.extensions_of("A").count(), 0);
+}
+
+/// How many operations and fragments there are, and how many extensions of `A`, of `a` and of `B`.
+fn counts(document: &Document) -> [usize; 5] {
+    [
+        document.operations().count(),
+        document.fragments().count(),
+        document.extensions_of("A").count(),
+        document.extensions_of("a").count(),
+        document.extensions_of("B").count(),
+    ]
+}
+
+/// Each document, what it has under each name, the first operation without a name, and how many there are of each.
+#[test]
+fn of_each_kind(rt: HostRuntime) {
+    let alloc = rt.alloc();
+    let query = (Some(OperationType::Query), None, None, None, None);
+    let both = (None, Some("T"), Some(true), None, None);
+    let type_a = (None, None, None, Some("type"), Some("extend scalar"));
+    let enum_a = (None, None, None, Some("enum"), Some("extend enum"));
+    for (made, under_a, under_small_a, anonymous, wanted) in [
+        (
+            operations(alloc),
+            query,
+            NOTHING,
+            Some(OperationType::Mutation),
+            [4, 0, 0, 0, 0],
+        ),
+        (
+            fragments_and_directives(alloc),
+            both,
+            NOTHING,
+            None,
+            [0, 2, 0, 0, 0],
+        ),
+        (types(alloc), type_a, enum_a, None, [0, 0, 2, 1, 0]),
+        (Ok(Document::new(alloc)), NOTHING, NOTHING, None, [0; 5]),
+    ] {
+        let document = made.expect(&rt, "memory");
+        let cases = [
+            ("A", under_a),
+            ("a", under_small_a),
+            ("B", NOTHING),
+            ("", NOTHING),
+        ];
+        check_found(&rt, &document, &cases);
+        let found = document.operation(None).map(|node| node.operation_type);
+        assert_eq!(rt; found, anonymous, "{document}");
+        assert!(rt; counts(&document) == wanted, "{document}");
+    }
 }

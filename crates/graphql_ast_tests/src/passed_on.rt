@@ -1,34 +1,36 @@
-//! What this crate passes on, or writes anew over what stands below it: the macro of types, lists of directives, texts of errors.
+//! What this crate passes on, or writes anew over what stands below it: the macros of types and values, lists of directives, texts of errors.
+use crate::checks::check_line;
 use graphql_ast::ast::{Directive, DirectiveList, SpecifiedArgumentError, Type};
 use graphql_ast::node::Node;
-use graphql_ast::{name, ty};
+use graphql_ast::{name, ty, value};
 use std::alloc::{AllocError, Global};
-use std::process::Abort;
 
-fn check_type(rt: &impl Abort, alloc: Global, made: Result<Type, AllocError>, wanted: &str) {
-    let ty = made.expect(rt, "memory");
-    let text = format!(in alloc; "{ty}").expect(rt, "memory");
-    assert_eq!(rt; text.as_str(), wanted);
-}
-
-/// Each form of the macro.
-#[test]
-fn types(rt: HostRuntime) {
-    let alloc = rt.alloc();
-    check_type(&rt, alloc, Ok(ty!(Int)), "Int");
-    check_type(&rt, alloc, Ok(ty!(Int!)), "Int!");
-    check_type(&rt, alloc, ty!(in alloc; [Int]), "[Int]");
-    check_type(&rt, alloc, ty!(in alloc; [Int!]!), "[Int!]!");
-    check_type(&rt, alloc, ty!(in alloc; [[Int]]), "[[Int]]");
-    check_type(&rt, alloc, ty!(in alloc; [[Int]!]), "[[Int]!]");
-    check_type(&rt, alloc, ty!(in alloc; [[Int!]]!), "[[Int!]]!");
-    check_type(&rt, alloc, ty!(in alloc; [[Int!]!]!), "[[Int!]!]!");
-    check_type(&rt, alloc, ty!(in alloc; [[[Int]!]]), "[[[Int]!]]");
+/// Each form of the macro of types.
+fn types(alloc: Global) -> [(Result<Type, AllocError>, &'static str); 9] {
+    [
+        (Ok(ty!(Int)), "Int"),
+        (Ok(ty!(Int!)), "Int!"),
+        (ty!(in alloc; [Int]), "[Int]"),
+        (ty!(in alloc; [Int!]!), "[Int!]!"),
+        (ty!(in alloc; [[Int]]), "[[Int]]"),
+        (ty!(in alloc; [[Int]!]), "[[Int]!]"),
+        (ty!(in alloc; [[Int!]]!), "[[Int!]]!"),
+        (ty!(in alloc; [[Int!]!]!), "[[Int!]!]!"),
+        (ty!(in alloc; [[[Int]!]]), "[[[Int]!]]"),
+    ]
 }
 
 #[test]
-fn lists_and_errors(rt: HostRuntime) {
+fn types_values_lists_and_errors(rt: HostRuntime) {
     let alloc = rt.alloc();
+    for (made, wanted) in types(alloc) {
+        let ty = made.expect(&rt, "memory");
+        let text = format!(in alloc; "{ty}").expect(&rt, "memory");
+        assert_eq!(&rt; text.as_str(), wanted);
+    }
+    let value = value!(in alloc; {min: 0, max: $max, tags: ["new", NEW], other: null});
+    let wanted = "{min: 0, max: $max, tags: [\"new\", NEW], other: null}";
+    check_line(&rt, alloc, &value.expect(&rt, "memory"), wanted, true);
     let mut list = DirectiveList::new(alloc);
     let node = Node::new(list.allocator(), Directive::new(alloc, name!(d)));
     list.0

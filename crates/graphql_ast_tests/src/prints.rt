@@ -1,4 +1,4 @@
-//! Whole prints of definitions and documents, where memory is ample.
+//! Whole prints of documents, where memory is ample.
 use crate::checks::{check_line, check_print};
 use crate::samples::{
     EACH_VARIANT, anonymous_query, described_query, directives, document, each_variant, query,
@@ -6,72 +6,99 @@ use crate::samples::{
 };
 use graphql_ast::ast::{Definition, Document};
 use graphql_ast::node::Node;
-use graphql_ast::value;
-use std::alloc::Global;
+use std::alloc::{AllocError, Global};
 use std::process::Abort;
 
 /// The document of one definition.
-fn only(rt: &impl Abort, alloc: Global, definition: Definition) -> Document {
-    document(alloc, vec![in alloc; definition].expect(rt, "memory"))
+fn only(alloc: Global, definition: Definition) -> Result<Document, AllocError> {
+    Ok(document(alloc, vec![in alloc; definition]?))
 }
 
-#[test]
-fn of_each_variant_and_a_value(rt: HostRuntime) {
-    let alloc = rt.alloc();
-    let all = each_variant(alloc).expect(&rt, "memory");
-    for definition in &all {
-        assert!(&rt; definition.is_well_formed());
-        assert!(&rt; definition.clone().expect(&rt, "memory") == *definition);
-    }
-    check_line(&rt, alloc, &document(alloc, all), EACH_VARIANT, true);
-    let value = value!(in alloc; {min: 0, max: $max, tags: ["new", NEW], other: null});
-    let wanted = "{min: 0, max: $max, tags: [\"new\", NEW], other: null}";
-    check_line(&rt, alloc, &value.expect(&rt, "memory"), wanted, true);
+/// `{ a } type A`
+fn query_and_type(alloc: Global) -> Result<Document, AllocError> {
+    let definitions = vec![in alloc; anonymous_query(alloc)?, type_a(alloc)?]?;
+    Ok(document(alloc, definitions))
 }
 
-#[test]
-fn of_a_type_before_a_query(rt: HostRuntime) {
-    let alloc = rt.alloc();
-    let both = type_and_query(alloc).expect(&rt, "memory");
-    check_line(&rt, alloc, &both, "type A query { a }", true);
-    let print = both.serialize();
-    check_print(&rt, alloc, print, "type A\n\nquery {\n  a\n}\n");
-    let wanted = "  type A\n\n  query {\n    a\n  }\n";
-    check_print(&rt, alloc, print.initial_indent_level(1), wanted);
-    let wanted = "type A\n\nquery {\na\n}\n";
-    check_print(&rt, alloc, print.indent_prefix(""), wanted);
-    let text = format!(in alloc; "{both}").expect(&rt, "memory");
-    assert_eq!(&rt; text.as_str(), "type A\n\nquery {\n  a\n}\n");
+/// `query @d { a }`
+fn directed_query(alloc: Global) -> Result<Document, AllocError> {
+    let mut query = query(alloc)?;
+    query.directives = directives(alloc)?;
+    only(alloc, Definition::from(Node::new(alloc, query)?))
 }
+
+/// What stands before each line, or nothing where all stands on one line; the level; and the text.
+type Laid = (Option<&'static str>, usize, &'static str);
+
+const TYPE_AND_QUERY: [Laid; 4] = [
+    (None, 0, "type A query { a }"),
+    (Some("  "), 0, "type A\n\nquery {\n  a\n}\n"),
+    (Some("  "), 1, "  type A\n\n  query {\n    a\n  }\n"),
+    (Some(""), 0, "type A\n\nquery {\na\n}\n"),
+];
 
 /// An anonymous query is in shorthand at the very front alone, without a description and directives.
-#[test]
-fn of_queries_at_the_front(rt: HostRuntime) {
-    let alloc = rt.alloc();
-    let type_after = type_a(alloc).expect(&rt, "memory");
-    let mut short = only(&rt, alloc, anonymous_query(alloc).expect(&rt, "memory"));
-    short.definitions.push(type_after).expect(&rt, "memory");
-    check_line(&rt, alloc, &short, "{ a } type A", true);
-    check_print(&rt, alloc, short.serialize(), "{\n  a\n}\n\ntype A\n");
-    let described = only(&rt, alloc, described_query(alloc).expect(&rt, "memory"));
-    check_line(&rt, alloc, &described, "\"D\" query { a }", true);
-    let wanted = "\"\"\"D\"\"\"\nquery {\n  a\n}\n";
-    check_print(&rt, alloc, described.serialize(), wanted);
-    let mut field = query(alloc).expect(&rt, "memory");
-    field.directives = directives(alloc).expect(&rt, "memory");
-    let node = Node::new(alloc, field).expect(&rt, "memory");
-    let directed = only(&rt, alloc, Definition::from(node));
-    check_line(&rt, alloc, &directed, "query @d { a }", true);
-}
+const QUERY_AND_TYPE: [Laid; 2] = [
+    (None, 0, "{ a } type A"),
+    (Some("  "), 0, "{\n  a\n}\n\ntype A\n"),
+];
+
+const DESCRIBED: [Laid; 2] = [
+    (None, 0, "\"D\" query { a }"),
+    (Some("  "), 0, "\"\"\"D\"\"\"\nquery {\n  a\n}\n"),
+];
+
+const DIRECTED: [Laid; 1] = [(None, 0, "query @d { a }")];
 
 /// It is no document that a text is read as, but printed all the same.
+const EMPTY: [Laid; 4] = [
+    (None, 0, ""),
+    (Some("  "), 0, ""),
+    (Some("  "), 1, "  "),
+    (None, 1, ""),
+];
+
+/// Each text of a document; the layout of two spaces at level 0 is the default one, also where it is displayed.
+fn check_laid_out(rt: &impl Abort, alloc: Global, document: &Document, cases: &[Laid]) {
+    for (prefix, level, wanted) in cases {
+        let print = document.serialize();
+        let laid_out = match prefix {
+            None => print.no_indent(),
+            Some(prefix) => print.indent_prefix(prefix),
+        };
+        check_print(rt, alloc, laid_out.initial_indent_level(*level), wanted);
+        if *prefix == Some("  ") && *level == 0 {
+            check_print(rt, alloc, print, wanted);
+            let text = format!(in alloc; "{document}").expect(rt, "memory");
+            assert_eq!(rt; text.as_str(), *wanted);
+        }
+    }
+}
+
+/// A document in each of these layouts, which is well formed or not.
+fn check_document(
+    rt: &impl Abort,
+    alloc: Global,
+    made: Result<Document, AllocError>,
+    is_well_formed: bool,
+    cases: &[Laid],
+) {
+    let document = made.expect(rt, "memory");
+    assert_eq!(rt; document.is_well_formed(), is_well_formed, "{document}");
+    check_laid_out(rt, alloc, &document, cases);
+}
+
 #[test]
-fn of_the_empty_document(rt: HostRuntime) {
+fn of_documents(rt: HostRuntime) {
     let alloc = rt.alloc();
-    let empty = Document::new(alloc);
-    check_line(&rt, alloc, &empty, "", false);
-    check_print(&rt, alloc, empty.serialize(), "");
-    let print = empty.serialize().initial_indent_level(1);
-    check_print(&rt, alloc, print, "  ");
-    check_print(&rt, alloc, print.no_indent(), "");
+    let each_variant = each_variant(alloc).expect(&rt, "memory");
+    let each_variant = document(alloc, each_variant);
+    check_line(&rt, alloc, &each_variant, EACH_VARIANT, true);
+    check_document(&rt, alloc, type_and_query(alloc), true, &TYPE_AND_QUERY);
+    check_document(&rt, alloc, query_and_type(alloc), true, &QUERY_AND_TYPE);
+    let described = described_query(alloc).expect(&rt, "memory");
+    check_document(&rt, alloc, only(alloc, described), true, &DESCRIBED);
+    check_document(&rt, alloc, directed_query(alloc), true, &DIRECTED);
+    let empty = Ok(Document::new(alloc));
+    check_document(&rt, alloc, empty, false, &EMPTY);
 }

@@ -2,7 +2,9 @@
 use crate::samples::{anonymous_query, described_query, each_variant, query};
 use graphql_ast::ast::Definition;
 use graphql_ast::node::Node;
+use graphql_ast::serialize::Syntax;
 use graphql_ast::span::{FileId, SourceSpan};
+use std::process::Abort;
 
 /// Which of the seventeen accessors answer a node, in the order of the variants.
 fn answers(definition: &Definition) -> [bool; 17] {
@@ -27,127 +29,98 @@ fn answers(definition: &Definition) -> [bool; 17] {
     ]
 }
 
-#[test]
-fn of_accessors(rt: HostRuntime) {
-    let all = each_variant(rt.alloc()).expect(&rt, "memory");
-    assert_eq!(rt; all.len(), 17);
-    for (variant, definition) in all.iter().enumerate() {
-        for (accessor, answer) in answers(definition).iter().enumerate() {
-            assert_eq!(rt; *answer, accessor == variant);
-        }
-    }
-}
+/// The words that a definition begins with, its name, how many directives and how many selections it has; and whether it is
+/// executable, is an extension, defines a type, and is described.
+type Told = (
+    &'static str,
+    Option<&'static str>,
+    Option<usize>,
+    Option<usize>,
+    [bool; 4],
+);
 
-/// Whether it is executable, whether it is an extension, its name, and how many directives it has.
-fn told(definition: &Definition) -> (bool, bool, Option<&str>, Option<usize>) {
-    (
+fn check_told(rt: &impl Abort, definition: &Definition, wanted: Told) {
+    let (words, name, directives, selections, flags) = wanted;
+    assert_eq!(rt; definition.kind_name(), words, "{definition}");
+    let found = definition.name().map(|name| name.as_str());
+    assert_eq!(rt; found, name, "{definition}");
+    let found = definition.directives().map(|directives| directives.len());
+    assert_eq!(rt; found, directives, "{definition}");
+    let found = definition.selection_set().map(|set| set.len());
+    assert_eq!(rt; found, selections, "{definition}");
+    let found = [
         definition.is_executable_definition(),
         definition.is_extension_definition(),
-        definition.name().map(|name| name.as_str()),
-        definition.directives().map(|directives| directives.len()),
-    )
-}
-
-/// The words that it begins with, whether it defines a type, whether it is described, and how many selections it has.
-fn said(definition: &Definition) -> (&'static str, bool, bool, Option<usize>) {
-    (
-        definition.kind_name(),
         definition.is_type_definition(),
         definition.description().is_some(),
-        definition.selection_set().map(|set| set.len()),
-    )
+    ];
+    assert_eq!(rt; found, flags, "{definition}");
 }
 
+const EXECUTABLE: [bool; 4] = [true, false, false, false];
+
+const EXTENSION: [bool; 4] = [false, true, false, false];
+
+const TYPE: [bool; 4] = [false, false, true, false];
+
+const NEITHER: [bool; 4] = [false; 4];
+
+/// Of each variant, in order.
+const OF_EACH_VARIANT: [Told; 17] = [
+    ("query", Some("N"), Some(1), Some(1), EXECUTABLE),
+    ("fragment", Some("N"), Some(1), Some(1), EXECUTABLE),
+    ("directive", Some("N"), None, None, NEITHER),
+    ("schema", None, Some(1), None, NEITHER),
+    ("scalar", Some("N"), Some(1), None, TYPE),
+    ("type", Some("N"), Some(1), None, TYPE),
+    ("interface", Some("N"), Some(1), None, TYPE),
+    ("union", Some("N"), Some(1), None, TYPE),
+    ("enum", Some("N"), Some(1), None, TYPE),
+    ("input", Some("N"), Some(1), None, TYPE),
+    ("extend schema", None, Some(1), None, EXTENSION),
+    ("extend scalar", Some("N"), Some(1), None, EXTENSION),
+    ("extend type", Some("N"), Some(1), None, EXTENSION),
+    ("extend interface", Some("N"), Some(1), None, EXTENSION),
+    ("extend union", Some("N"), Some(1), None, EXTENSION),
+    ("extend enum", Some("N"), Some(1), None, EXTENSION),
+    ("extend input", Some("N"), Some(1), None, EXTENSION),
+];
+
+/// Of the accessors it is that of its variant which answers a node.
+fn check_accessors(rt: &impl Abort, definition: &Definition, variant: usize) {
+    for (accessor, answer) in answers(definition).iter().enumerate() {
+        assert_eq!(rt; *answer, accessor == variant, "{accessor} of {variant}");
+    }
+}
+
+/// Each variant. And queries with a description, without a name, and at a location, which isn't compared.
 #[test]
 fn of_each_variant(rt: HostRuntime) {
-    let all = each_variant(rt.alloc()).expect(&rt, "memory");
-    let wanted = [
-        (
-            (true, false, Some("N"), Some(1)),
-            ("query", false, false, Some(1)),
-        ),
-        (
-            (true, false, Some("N"), Some(1)),
-            ("fragment", false, false, Some(1)),
-        ),
-        (
-            (false, false, Some("N"), None),
-            ("directive", false, false, None),
-        ),
-        (
-            (false, false, None, Some(1)),
-            ("schema", false, false, None),
-        ),
-        (
-            (false, false, Some("N"), Some(1)),
-            ("scalar", true, false, None),
-        ),
-        (
-            (false, false, Some("N"), Some(1)),
-            ("type", true, false, None),
-        ),
-        (
-            (false, false, Some("N"), Some(1)),
-            ("interface", true, false, None),
-        ),
-        (
-            (false, false, Some("N"), Some(1)),
-            ("union", true, false, None),
-        ),
-        (
-            (false, false, Some("N"), Some(1)),
-            ("enum", true, false, None),
-        ),
-        (
-            (false, false, Some("N"), Some(1)),
-            ("input", true, false, None),
-        ),
-        (
-            (false, true, None, Some(1)),
-            ("extend schema", false, false, None),
-        ),
-        (
-            (false, true, Some("N"), Some(1)),
-            ("extend scalar", false, false, None),
-        ),
-        (
-            (false, true, Some("N"), Some(1)),
-            ("extend type", false, false, None),
-        ),
-        (
-            (false, true, Some("N"), Some(1)),
-            ("extend interface", false, false, None),
-        ),
-        (
-            (false, true, Some("N"), Some(1)),
-            ("extend union", false, false, None),
-        ),
-        (
-            (false, true, Some("N"), Some(1)),
-            ("extend enum", false, false, None),
-        ),
-        (
-            (false, true, Some("N"), Some(1)),
-            ("extend input", false, false, None),
-        ),
-    ];
-    for (definition, wanted) in all.iter().zip(&wanted) {
-        assert_eq!(rt; (told(definition), said(definition)), *wanted);
-        assert!(rt; definition.location().is_none());
-    }
-    let described = described_query(rt.alloc()).expect(&rt, "memory");
-    assert_eq!(rt; said(&described), ("query", false, true, Some(1)));
-}
-
-#[test]
-fn of_an_anonymous_operation_and_of_a_location(rt: HostRuntime) {
     let alloc = rt.alloc();
-    let anonymous = anonymous_query(alloc).expect(&rt, "memory");
-    assert_eq!(rt; told(&anonymous), (true, false, None, Some(0)));
+    let all = each_variant(alloc).expect(&rt, "memory");
+    assert_eq!(rt; all.len(), 17);
+    for (variant, (definition, wanted)) in all.iter().zip(&OF_EACH_VARIANT).enumerate() {
+        check_told(&rt, definition, *wanted);
+        assert!(rt; definition.location().is_none(), "{definition}");
+        check_accessors(&rt, definition, variant);
+        assert!(rt; definition.is_well_formed(), "{definition}");
+        let copy = definition.clone().expect(&rt, "memory");
+        assert!(rt; copy == *definition, "{definition}");
+    }
     let span = SourceSpan::new(FileId::new(5), 10, 15).expect(&rt, "a span");
     let query = query(alloc).expect(&rt, "memory");
     let node = Node::new_parsed(alloc, query, span).expect(&rt, "memory");
+    let anonymous = anonymous_query(alloc).expect(&rt, "memory");
     let elsewhere = Definition::from(node);
-    assert!(rt; elsewhere.location() == Some(span));
     assert!(rt; elsewhere == anonymous);
+    let described = described_query(alloc).expect(&rt, "memory");
+    for (definition, is_described, location) in [
+        (described, true, None),
+        (anonymous, false, None),
+        (elsewhere, false, Some(span)),
+    ] {
+        let flags = [true, false, false, is_described];
+        check_told(&rt, &definition, ("query", None, Some(0), Some(1), flags));
+        assert!(rt; definition.location() == location, "{definition}");
+    }
 }

@@ -3,6 +3,7 @@
 ghost use Rattle.std.specs.Prelude.{◌≡◌, ◌<◌, Some};
 
 use crate::kinds::{self, EachKind, document_line};
+use crate::samples::type_and_query;
 use graphql_ast::ast::{Serialize, Value};
 use graphql_ast::name::Name;
 use graphql_ast::node::Node;
@@ -200,11 +201,13 @@ fn check_layout<T: Syntax>(
 }
 
 /// A tree in both layouts: that on one line is told, and the default one is that of `to_text`.
-fn check_layouts<T: Syntax>(rt: &impl Abort, alloc: Global, tree: &T, line: &str) {
+fn check_layouts<T: Syntax>(rt: &impl Abort, alloc: Global, tree: &T, line: &str, step: usize)
+    requires { 0 < step }
+{
     let print = Serialize::new(tree);
-    check_layout(rt, alloc, print.no_indent(), line, 1);
+    check_layout(rt, alloc, print.no_indent(), line, step);
     let lines = print.to_text(alloc).expect(rt, "memory");
-    check_layout(rt, alloc, print, lines.as_str(), 1);
+    check_layout(rt, alloc, print, lines.as_str(), step);
 }
 
 /// Into each sink, of each tree that comes.
@@ -221,35 +224,8 @@ impl<R: Abort> EachKind for Sinks<'_, R> {
         line: &str,
     ) {
         let tree = made.expect(self.rt, "memory");
-        check_layouts(self.rt, self.alloc, &tree, line);
+        check_layouts(self.rt, self.alloc, &tree, line, 1);
     }
-}
-
-#[test]
-fn of_each_kind(rt: HostRuntime) {
-    let alloc = rt.alloc();
-    let mut sinks = Sinks { rt: &rt, alloc };
-    kinds::values(alloc, &mut sinks);
-    kinds::executable(alloc, &mut sinks);
-    kinds::types(alloc, &mut sinks);
-    kinds::type_extensions(alloc, &mut sinks);
-    kinds::definitions(alloc, &mut sinks);
-    sinks.take(
-        value!(in alloc; [1, EXAMPLE, true, null]),
-        "[1, EXAMPLE, true, null]",
-    );
-}
-
-/// Of a document of all definitions, with room for each seventh number of bytes.
-#[test]
-fn of_a_document(rt: HostRuntime) {
-    let alloc = rt.alloc();
-    let document = document(alloc).expect(&rt, "memory");
-    let line = document_line(alloc).expect(&rt, "memory");
-    let print = Serialize::new(&document);
-    check_layout(&rt, alloc, print.no_indent(), line.as_str(), 7);
-    let lines = print.to_text(alloc).expect(&rt, "memory");
-    check_layout(&rt, alloc, print, lines.as_str(), 7);
 }
 
 /// The list of an enum value of so many letters and of itself, and its text on one line.
@@ -263,10 +239,25 @@ fn long(rt: &impl Abort, alloc: Global, length: usize) -> (Value, String) {
     (list, text.expect(rt, "memory"))
 }
 
-/// Texts that are longer than what is gathered before it is sent, with pieces that are gathered and one that isn't.
+/// Of each kind; of a document of two definitions, and of one of all with room for each seventh number of bytes; and of texts that
+/// are longer than what is gathered before it is sent, with pieces that are gathered and one that isn't.
 #[test]
-fn of_long_texts(rt: HostRuntime) {
+fn of_each_kind_and_of_long_texts(rt: HostRuntime) {
     let alloc = rt.alloc();
+    let mut sinks = Sinks { rt: &rt, alloc };
+    kinds::values(alloc, &mut sinks);
+    kinds::executable(alloc, &mut sinks);
+    kinds::types(alloc, &mut sinks);
+    kinds::type_extensions(alloc, &mut sinks);
+    kinds::definitions(alloc, &mut sinks);
+    sinks.take(
+        value!(in alloc; [1, EXAMPLE, true, null]),
+        "[1, EXAMPLE, true, null]",
+    );
+    sinks.take(type_and_query(alloc), "type A query { a }");
+    let all = document(alloc).expect(&rt, "memory");
+    let line = document_line(alloc).expect(&rt, "memory");
+    check_layouts(&rt, alloc, &all, line.as_str(), 7);
     for length in [700, 1100] {
         let (list, wanted) = long(&rt, alloc, length);
         let print = Serialize::new(&list).no_indent();

@@ -5,7 +5,7 @@ use graphql_base::span::SourceSpan;
 use graphql_text::engine::{PrintError, Serialize, Syntax};
 use graphql_text::ill_formed::SideCondition;
 use graphql_text::sink::{SinkFault, TextSink, VecSink};
-use std::alloc::Global;
+use std::alloc::{AllocError, Global};
 use std::fmt::Display;
 use std::process::Abort;
 
@@ -33,6 +33,21 @@ pub(crate) fn check_line<T: Syntax>(
 ) {
     assert_eq!(rt; tree.is_well_formed(), is_well_formed);
     check_print(rt, alloc, Serialize::new(tree).no_indent(), wanted);
+}
+
+/// Trees of a kind, the text of each on one line, and whether it is well formed.
+pub(crate) type Trees<T> = Result<Vec<(T, &'static str, bool)>, AllocError>;
+
+/// Each tree of a table, and that its clone is equal: memory is ample.
+pub(crate) fn check_trees<T: Syntax + Clone + PartialEq + Drop>(
+    rt: &impl Abort,
+    alloc: Global,
+    trees: Trees<T>,
+) {
+    for (tree, wanted, is_well_formed) in &trees.expect(rt, "memory") {
+        check_line(rt, alloc, tree, wanted, *is_well_formed);
+        check_cloned(rt, tree);
+    }
 }
 
 /// A flaw of a tree: the side condition, the text of the name, and the location.

@@ -1,17 +1,15 @@
-//! What selections, fields and operations answer and lend, and what each is as it is new.
+//! What selections, fields and operations answer and lend.
 ghost use Rattle.std.specs.Prelude.{OnErr, OnOk};
 ghost use Rattle.graphql_executable.specs.code.SelectionLoans.{IsSelectionWith};
 ghost use Rattle.graphql_executable.specs.code.SelectionQueries.{selection_directives};
 
 use crate::checks::{check_cloned, check_line};
-use crate::samples::{a, field, fragment, inline_fragment, only, operation, variable};
+use crate::samples::{a, field, inline_fragment, only, variable};
 use graphql_base::name;
 use graphql_base::node::Node;
 use graphql_base::span::{FileId, SourceSpan};
 use graphql_executable::field::Field;
-use graphql_executable::fragment_definition::FragmentDefinition;
 use graphql_executable::fragment_spread::FragmentSpread;
-use graphql_executable::inline_fragment::InlineFragment;
 use graphql_executable::operation_definition::OperationDefinition;
 use graphql_executable::selection::Selection;
 use graphql_executable::variable_definition::VariableDefinition;
@@ -85,47 +83,36 @@ fn form(selection: &Selection) -> [bool; 3] {
     ]
 }
 
+/// Which of the three a selection is, what stands in it, where it stands, and directives that are written.
 #[test]
 fn of_selections(rt: HostRuntime) {
     let alloc = rt.alloc();
     let inline_text = "... on T { id }";
-    for (made, wanted, wanted_form) in [
+    for (made, wanted, wanted_form, count) in [
+        (a(alloc), "a", [true, false, false], Some(0)),
+        (spread(alloc), "...F", [false, true, false], None),
+        (inline(alloc), inline_text, [false, false, true], Some(1)),
         (
-            Selection::field(alloc, Field::new(alloc, name!(a))),
-            "a",
-            [true, false, false],
+            inline_node(alloc),
+            inline_text,
+            [false, false, true],
+            Some(1),
         ),
-        (spread(alloc), "...F", [false, true, false]),
-        (inline(alloc), inline_text, [false, false, true]),
-        (inline_node(alloc), inline_text, [false, false, true]),
     ] {
         let selection = made.expect(&rt, "memory");
         check_line(&rt, alloc, &selection, wanted, true);
+        check_cloned(&rt, &selection);
         assert!(&rt; form(&selection) == wanted_form, "{wanted}");
         assert!(&rt; selection.location().is_none(), "{wanted}");
+        check_contents(&rt, selection, None, count);
     }
+    let full = Selection::field(alloc, field(alloc).expect(&rt, "memory"));
+    check_contents(&rt, full.expect(&rt, "memory"), Some("include"), Some(2));
     let span = SourceSpan::new(FileId::new(5), 10, 13).expect(&rt, "a span");
-    let node = Node::new_parsed(alloc, FragmentSpread::new(alloc, name!(F)), span).expect(
-        &rt, "memory",
-    );
-    let placed = Selection::FragmentSpread(node);
+    let node = Node::new_parsed(alloc, FragmentSpread::new(alloc, name!(F)), span);
+    let placed = Selection::FragmentSpread(node.expect(&rt, "memory"));
     assert!(&rt; placed.location() == Some(span));
     assert!(&rt; form(&placed) == [false, true, false]);
-}
-
-/// What stands in them, and directives that are written.
-#[test]
-fn of_parts_of_selections(rt: HostRuntime) {
-    let alloc = rt.alloc();
-    let full = Selection::field(alloc, field(alloc).expect(&rt, "memory"));
-    for (made, directive, count) in [
-        (full, Some("include"), Some(2)),
-        (a(alloc), None, Some(0)),
-        (spread(alloc), None, None),
-        (inline(alloc), None, Some(1)),
-    ] {
-        check_contents(&rt, made.expect(&rt, "memory"), directive, count);
-    }
     for (made, wanted) in [
         (a(alloc), "a @d"),
         (spread(alloc), "...F @d"),
@@ -145,27 +132,6 @@ fn variables(alloc: Global) -> Result<Vec<Node<VariableDefinition>>, AllocError>
     Ok(variables)
 }
 
-#[test]
-fn of_variables_by_name(rt: HostRuntime) {
-    let alloc = rt.alloc();
-    let mut query = OperationDefinition::new(alloc, OperationType::Query);
-    assert!(&rt; query.variable_by_name("v").is_none());
-    query.variables = variables(alloc).expect(&rt, "memory");
-    for (name, wanted) in [
-        ("v", Some("Int")),
-        ("w", Some("W")),
-        ("V", None),
-        ("", None),
-    ] {
-        let found = query.variable_by_name(name);
-        assert_eq!(&rt;
-            found.map(|node| node.ty.inner_named_type().as_str()),
-            wanted,
-            "{name}"
-        );
-    }
-}
-
 /// `f(x: 1, y: 2, x: 3)`
 fn field_with_arguments(alloc: Global) -> Result<Field, AllocError> {
     let mut field = Field::new(alloc, name!(f));
@@ -178,60 +144,34 @@ fn field_with_arguments(alloc: Global) -> Result<Field, AllocError> {
     Ok(field)
 }
 
+/// Variables and arguments by name, the name of what is answered to a field, and what hash sets hold of fields that differ in
+/// locations.
 #[test]
-fn of_fields(rt: HostRuntime) {
-    let mut named = field(rt.alloc()).expect(&rt, "memory");
+fn of_operations_and_fields(rt: HostRuntime) {
+    let alloc = rt.alloc();
+    let mut query = OperationDefinition::new(alloc, OperationType::Query);
+    assert!(&rt; query.variable_by_name("v").is_none());
+    query.variables = variables(alloc).expect(&rt, "memory");
+    let with_arguments = field_with_arguments(alloc).expect(&rt, "memory");
+    for (name, ty, number) in [
+        ("v", Some("Int"), None),
+        ("w", Some("W"), None),
+        ("V", None, None),
+        ("x", None, Some(1)),
+        ("y", None, Some(2)),
+        ("X", None, None),
+        ("", None, None),
+    ] {
+        let found = query.variable_by_name(name);
+        let found = found.map(|node| node.ty.inner_named_type().as_str());
+        assert_eq!(&rt; found, ty, "{name}");
+        let found = with_arguments.specified_argument_by_name(name);
+        assert_eq!(&rt; found.and_then(|value| value.to_i32()), number, "{name}");
+    }
+    let mut named = field(alloc).expect(&rt, "memory");
     assert_eq!(&rt; named.response_name().as_str(), "r");
     named.alias = None;
     assert_eq!(&rt; named.response_name().as_str(), "s");
-    let field = field_with_arguments(rt.alloc()).expect(&rt, "memory");
-    for (name, wanted) in [("x", Some(1)), ("y", Some(2)), ("X", None), ("", None)] {
-        let found = field.specified_argument_by_name(name);
-        let number = found.and_then(|value| value.to_i32());
-        assert_eq!(&rt; number, wanted, "{name}");
-    }
-}
-
-#[test]
-fn of_new_trees(rt: HostRuntime) {
-    let alloc = rt.alloc();
-    check_line(&rt, alloc, &Field::new(alloc, name!(a)), "a", true);
-    check_line(
-        &rt,
-        alloc,
-        &FragmentSpread::new(alloc, name!(F)),
-        "...F",
-        true,
-    );
-    check_line(&rt, alloc, &InlineFragment::new(alloc), "... {}", false);
-    let int = Node::new(alloc, ty!(Int)).expect(&rt, "memory");
-    check_line(
-        &rt,
-        alloc,
-        &VariableDefinition::new(alloc, name!(v), int),
-        "$v: Int",
-        true,
-    );
-    let query = OperationDefinition::new(alloc, OperationType::Mutation);
-    check_line(&rt, alloc, &query, "mutation {}", false);
-    let fragment = FragmentDefinition::new(alloc, name!(F), name!(T));
-    check_line(&rt, alloc, &fragment, "fragment F on T {}", false);
-}
-
-/// A field without an alias too, and what hash sets hold of fields that differ in locations.
-#[test]
-fn of_clones(rt: HostRuntime) {
-    let alloc = rt.alloc();
-    check_cloned(&rt, &operation(alloc).expect(&rt, "memory"));
-    check_cloned(&rt, &fragment(alloc).expect(&rt, "memory"));
-    check_cloned(&rt, &variable(alloc).expect(&rt, "memory"));
-    check_cloned(&rt, &field(alloc).expect(&rt, "memory"));
-    check_cloned(&rt, &Field::new(alloc, name!(a)));
-    check_cloned(&rt, &FragmentSpread::new(alloc, name!(F)));
-    check_cloned(&rt, &inline_fragment(alloc).expect(&rt, "memory"));
-    for made in [a(alloc), spread(alloc), inline(alloc), inline_node(alloc)] {
-        check_cloned(&rt, &made.expect(&rt, "memory"));
-    }
     let span = SourceSpan::new(FileId::new(5), 10, 11).expect(&rt, "a span");
     assert_eq!(&rt; span.len(), 1);
     let mut seen = HashSet::new(alloc);

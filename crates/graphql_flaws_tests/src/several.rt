@@ -53,6 +53,15 @@ const DOCUMENTS: [(&str, &[&str]); 5] = [
     ),
 ];
 
+/// A document in which some nodes have a location, and the starts of the locations of its flaws: that of the name, or else around it.
+const LOCATED: &str = "(Document;'definitions':[\
+    (FragmentDefinition;^,'name':(Name;'value':'on',&),'typeCondition':(NamedType;'name':<T>),\
+    {(Field;&,'name':<f>,{(FragmentSpread;'name':<on>)}),(FragmentSpread;'name':<on>)}),\
+    (SchemaExtension;&),(SchemaExtension;'directives':[])])";
+
+const STARTS: [Option<u32>; 5] = [Some(9), Some(9), Some(0), Some(9), None];
+
+/// And the flaws have the innermost location.
 #[test]
 fn documents_have_their_flaws(rt: HostRuntime) {
     let alloc = rt.alloc();
@@ -61,23 +70,12 @@ fn documents_have_their_flaws(rt: HostRuntime) {
         let row = row.expect(&rt, "memory");
         check::<Document>(&rt, alloc, row.as_str(), wanted);
     }
-}
-
-/// The starts of the locations, in a document in which some nodes have one: that of the name, or else around it.
-#[test]
-fn flaws_have_the_innermost_location(rt: HostRuntime) {
-    let alloc = rt.alloc();
-    let row = "(Document;'definitions':[\
-        (FragmentDefinition;^,'name':(Name;'value':'on',&),'typeCondition':(NamedType;'name':<T>),\
-        {(Field;&,'name':<f>,{(FragmentSpread;'name':<on>)}),(FragmentSpread;'name':<on>)}),\
-        (SchemaExtension;&),(SchemaExtension;'directives':[])])";
-    let json = json_of(alloc, row).expect(&rt, "memory");
+    let json = json_of(alloc, LOCATED).expect(&rt, "memory");
     let document = from_ast_json_str::<Document>(alloc, json.as_str(), FileId::new(1));
     let document = document.expect(&rt, "a document");
     let flaws = document.flaws(alloc).expect(&rt, "memory");
-    let wanted = [Some(9), Some(9), Some(0), Some(9), None];
-    assert_eq!(rt; flaws.len(), wanted.len());
-    for (flaw, wanted) in flaws.iter().zip(wanted) {
+    assert_eq!(rt; flaws.len(), STARTS.len());
+    for (flaw, wanted) in flaws.iter().zip(STARTS) {
         match flaw.found.location() {
             Some(span) => assert_eq!(rt; Some(span.start()), wanted),
             None => assert!(rt; wanted.is_none()),

@@ -27,17 +27,6 @@ fn shared(alloc: Global) -> Result<OperationDefinition, AllocError> {
     Ok(operation)
 }
 
-/// The node that stands at two places is made twice, and shared with none.
-#[test]
-fn a_shared_node_is_made_at_each_place(rt: HostRuntime) {
-    let alloc = rt.alloc();
-    let operation = shared(alloc).expect(&rt, "memory");
-    let mut made = operation.without_locations(alloc).expect(&rt, "memory");
-    assert!(rt; made == operation);
-    check_plain(&rt, made.selection_set.first_mut());
-    check_plain(&rt, made.selection_set.last_mut());
-}
-
 /// So many fields in one another.
 fn fields(alloc: Global, levels: usize, span: SourceSpan) -> Result<Selection, AllocError> {
     let field = Field::new(alloc, name!(a));
@@ -60,9 +49,15 @@ fn lists(alloc: Global, levels: usize, span: SourceSpan) -> Result<Value, AllocE
     Ok(value)
 }
 
+/// The node that stands at two places is made twice, and shared with none. Deep trees lose their locations too.
 #[test]
-fn deep_trees_lose_their_locations(rt: HostRuntime) {
+fn shared_and_deep_trees_lose_their_locations(rt: HostRuntime) {
     let alloc = rt.alloc();
+    let operation = shared(alloc).expect(&rt, "memory");
+    let mut made = operation.without_locations(alloc).expect(&rt, "memory");
+    assert!(rt; made == operation);
+    check_plain(&rt, made.selection_set.first_mut());
+    check_plain(&rt, made.selection_set.last_mut());
     let span = SourceSpan::new(FileId::new(5), 0, 3).expect(&rt, "a span");
     let fields = fields(alloc, LEVELS, span).expect(&rt, "memory");
     let made = fields.without_locations(alloc).expect(&rt, "memory");

@@ -20,20 +20,6 @@ fn located_parts<T: AstJson>(rt: &impl Abort, alloc: Global, tree: &T) -> usize 
 /// Those of the document of all definitions, counted by hand: 198 in the definitions, and 115 in the extensions.
 const OF_DOCUMENT: usize = 313;
 
-#[test]
-fn nothing_has_a_location_and_all_else_stays(rt: HostRuntime) {
-    let alloc = rt.alloc();
-    let document = document(alloc).expect(&rt, "memory");
-    let copy = document.clone().expect(&rt, "memory");
-    assert_eq!(rt; located_parts(&rt, alloc, &document), OF_DOCUMENT);
-    let made = strip_locations(alloc, &document).expect(&rt, "memory");
-    assert_eq!(rt; located_parts(&rt, alloc, &made), 0);
-    assert!(rt; made == document && document == copy);
-    assert!(rt; made.sources.is_empty());
-    assert!(rt; document.sources.get(&FileId::new(FILE)).is_some());
-    assert_eq!(rt; located_parts(&rt, alloc, &document), OF_DOCUMENT);
-}
-
 /// `[$v, {z: E}, "s"]`, of which each part has a location.
 fn list(alloc: Global) -> Result<Value, AllocError> {
     let member = (
@@ -48,21 +34,39 @@ fn list(alloc: Global) -> Result<Value, AllocError> {
     Ok(Value::List(items))
 }
 
-/// AST JSON has no location for the name that an enum value is: four nodes and two names have one.
-#[test]
-fn values_of_values_have_no_location(rt: HostRuntime) {
-    let alloc = rt.alloc();
-    let list = list(alloc).expect(&rt, "memory");
-    assert_eq!(rt; located_parts(&rt, alloc, &list), 6);
-    let made = list.without_locations(alloc).expect(&rt, "memory");
-    assert_eq!(rt; located_parts(&rt, alloc, &made), 0);
-    assert!(rt; made == list);
-    assert_eq!(rt; located_parts(&rt, alloc, &list), 6);
+/// Of the list AST JSON has no location for the name that an enum value is: four nodes and two names have one.
+const OF_LIST: usize = 6;
+
+/// What was made is the tree that has so many locations, without them. The tree keeps its own.
+fn check_made<T: AstJson + PartialEq>(
+    rt: &impl Abort,
+    alloc: Global,
+    tree: &T,
+    made: &T,
+    count: usize,
+) {
+    assert_eq!(rt; located_parts(rt, alloc, made), 0);
+    assert!(rt; *made == *tree);
+    assert_eq!(rt; located_parts(rt, alloc, tree), count);
 }
 
+/// Of the document of all definitions, of values in values, and of an empty document, which stays empty.
 #[test]
-fn a_document_without_definitions_stays_empty(rt: HostRuntime) {
+fn nothing_has_a_location_and_all_else_stays(rt: HostRuntime) {
     let alloc = rt.alloc();
+    let document = document(alloc).expect(&rt, "memory");
+    let copy = document.clone().expect(&rt, "memory");
+    assert_eq!(rt; located_parts(&rt, alloc, &document), OF_DOCUMENT);
+    let made = strip_locations(alloc, &document).expect(&rt, "memory");
+    check_made(&rt, alloc, &document, &made, OF_DOCUMENT);
+    assert!(rt; document == copy && made.sources.is_empty());
+    assert!(rt; document.sources.get(&FileId::new(FILE)).is_some());
+
+    let list = list(alloc).expect(&rt, "memory");
+    assert_eq!(rt; located_parts(&rt, alloc, &list), OF_LIST);
+    let made = list.without_locations(alloc).expect(&rt, "memory");
+    check_made(&rt, alloc, &list, &made, OF_LIST);
+
     let made = strip_locations(alloc, &Document::new(alloc)).expect(&rt, "memory");
     assert!(rt; made.definitions.is_empty() && made.sources.is_empty());
 }

@@ -21,27 +21,17 @@ fn of_file(alloc: Global) -> Result<Document, AllocError> {
     Ok(document)
 }
 
+/// A document without operations has none.
 #[test]
 fn each_operation_has_what_it_reaches_and_no_more(rt: HostRuntime) {
     let alloc = rt.alloc();
     let document = of_file(alloc).expect(&rt, "memory");
     let documents = separate_operations(alloc, &document).expect(&rt, "memory");
     assert_eq!(rt; documents.len(), 2);
-    check_text(
-        &rt,
-        alloc,
-        documents.first().expect(&rt, "a document"),
-        RING,
-    );
-    check_text(&rt, alloc, documents.last().expect(&rt, "a document"), ONCE);
-    for one in &documents {
-        assert!(rt; one.sources.get(&FileId::new(3)).is_some());
+    for (one, wanted) in documents.iter().zip([RING, ONCE]) {
+        check_text(&rt, alloc, one, wanted);
+        assert!(rt; one.sources.get(&FileId::new(3)).is_some(), "{wanted}");
     }
-}
-
-#[test]
-fn a_document_without_operations_has_none(rt: HostRuntime) {
-    let alloc = rt.alloc();
     let none = separate_operations(alloc, &Document::new(alloc));
     assert!(rt; none.expect(&rt, "memory").is_empty());
 }

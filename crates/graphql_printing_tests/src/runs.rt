@@ -30,14 +30,6 @@ fn check_run(
     Ok(())
 }
 
-/// Asserts that each of these runs ends well.
-fn check_done(rt: &impl Abort, alloc: Global, rows: &[Done]) -> Result<(), Fail> {
-    for (words, input, out) in rows {
-        check_run(rt, alloc, words, input, (0, out, ""))?;
-    }
-    Ok(())
-}
-
 const TWO_SPACES: &str = "{\n  a {\n    b\n  }\n}\n";
 
 const AT_LEVEL_1: &str = "  query {\n    a {\n      b\n    }\n  }\n";
@@ -68,11 +60,6 @@ const LAYOUTS: [Done; 12] = [
         "\t\tquery {\n\t\t\ta {\n\t\t\t\tb\n\t\t\t}\n\t\t}\n",
     ),
 ];
-
-#[test]
-fn a_document_is_printed_in_each_layout(rt: HostRuntime) -> Result<(), Fail> {
-    check_done(&rt, rt.alloc(), &LAYOUTS)
-}
 
 const TASKS: [Done; 10] = [
     (&["--check"], QUERY, ""),
@@ -106,11 +93,6 @@ const TASKS: [Done; 10] = [
         "{\n\"definitions\": [],\n\"kind\": \"Document\"\n}\n",
     ),
 ];
-
-#[test]
-fn what_is_asked_for_is_done(rt: HostRuntime) -> Result<(), Fail> {
-    check_done(&rt, rt.alloc(), &TASKS)
-}
 
 const FLAWS: &str = "\
 graphql_print: standard input: at `definitions[0].name.value`, in a node from 9 to 11: a fragment named `on`: `on`
@@ -149,15 +131,22 @@ const REFUSED: [Refused; 9] = [
     ),
 ];
 
+/// A document is printed in each layout, what else is asked for is done, and what is wrong is told.
 #[test]
-fn what_is_wrong_is_told(rt: HostRuntime) -> Result<(), Fail> {
+fn what_is_asked_for_is_done_and_what_is_wrong_is_told(rt: HostRuntime) -> Result<(), Fail> {
+    for (words, input, out) in LAYOUTS {
+        check_run(&rt, rt.alloc(), words, input, (0, out, ""))?;
+    }
+    for (words, input, out) in TASKS {
+        check_run(&rt, rt.alloc(), words, input, (0, out, ""))?;
+    }
     for (words, input, status, err) in REFUSED {
         check_run(&rt, rt.alloc(), words, input, (status, "", err))?;
     }
     Ok(())
 }
 
-const PLACED: &str = "\
+const LOCATED: &str = "\
 graphql_print: standard input: at `definitions[0].name.value` in b.graphql:1:10: a fragment named `on`: `on`
 graphql_print: standard input: at `definitions[0].selectionSet` in b.graphql:1:10: an empty selection set: `on`
 graphql_print: standard input: at `definitions[2]` in b.graphql:3:1: an extension that adds nothing: `S`
@@ -173,7 +162,7 @@ fn lines_and_columns_are_told_where_the_text_is_at_hand(rt: HostRuntime) -> Resu
     let input = Source::new(ILL_FORMED);
     let (out, err) = (Page::new(), Page::new());
     let (status, out, err) = run_on(alloc, &["--check"], input, Some(&file), out, err)?;
-    assert!(&rt; err.holds(PLACED));
+    assert!(&rt; err.holds(LOCATED));
     assert!(&rt; out.holds(""));
     assert_eq!(&rt; status, 1);
     Ok(())

@@ -1,4 +1,4 @@
-//! Words that ask for nothing.
+//! Words that ask for no run.
 use crate::fakes::{Page, Source, run_on};
 use crate::samples::QUERY;
 use std::alloc::Global;
@@ -57,17 +57,13 @@ const WRONG: [Row; 13] = [
     ),
 ];
 
-#[test]
-fn wrong_words_are_told(rt: HostRuntime) -> Result<(), Fail> {
-    for (words, said) in WRONG {
-        let (out, err) = (Page::new(), Page::new());
-        let (status, out, err) = run_on(rt.alloc(), words, Source::new(QUERY), None, out, err)?;
-        assert!(rt; err.begins_with(said));
-        assert!(rt; out.holds(""));
-        assert_eq!(rt; status, 2);
-    }
-    Ok(())
-}
+/// Words that show a text, and how that begins.
+const SHOWN: [Row; 4] = [
+    (&["--version"], "graphql_print 0.1.0\n"),
+    (&["-V"], "graphql_print 0.1.0\n"),
+    (&["-h"], "Prints a document in AST JSON"),
+    (&["--help"], "Prints a document in AST JSON"),
+];
 
 /// Asserts that a text is shown on standard output, or that the status says that it could not be.
 fn check_shown(
@@ -89,11 +85,18 @@ fn check_shown(
     Ok(())
 }
 
+/// Wrong words are told, and help and version are shown.
 #[test]
-fn help_and_version_are_shown(rt: HostRuntime) -> Result<(), Fail> {
-    let alloc = rt.alloc();
-    check_shown(&rt, alloc, &["--version"], "graphql_print 0.1.0\n")?;
-    check_shown(&rt, alloc, &["-V"], "graphql_print 0.1.0\n")?;
-    check_shown(&rt, alloc, &["-h"], "Prints a document in AST JSON")?;
-    check_shown(&rt, alloc, &["--help"], "Prints a document in AST JSON")
+fn words_are_told_of(rt: HostRuntime) -> Result<(), Fail> {
+    for (words, said) in WRONG {
+        let (out, err) = (Page::new(), Page::new());
+        let (status, out, err) = run_on(rt.alloc(), words, Source::new(QUERY), None, out, err)?;
+        assert!(rt; err.begins_with(said), "{said}");
+        assert!(rt; out.holds(""), "{said}");
+        assert_eq!(rt; status, 2, "{said}");
+    }
+    for (words, said) in SHOWN {
+        check_shown(&rt, rt.alloc(), words, said)?;
+    }
+    Ok(())
 }

@@ -14,11 +14,6 @@ pub(crate) fn check_text(rt: &impl Abort, alloc: Global, document: &Document, wa
     assert_eq!(rt; text.expect(rt, "memory").as_str(), wanted);
 }
 
-fn check_made(rt: &impl Abort, alloc: Global, made: Rebuilt<Document>, wanted: &str) {
-    let document = made.expect(rt, "memory").expect(rt, "another document");
-    check_text(rt, alloc, &document, wanted);
-}
-
 /// 2 for `$v`, and `{k: $v}` for `$w`.
 pub(crate) fn replaced(alloc: Global, document: &Document) -> Rebuilt<Document> {
     let values = [
@@ -40,38 +35,55 @@ const REMOVED: &str = "query($v: Int = 1) { a(y: [$v, {z: $w}]) { b } \
 const REPLACED: &str = "query($v: Int = 1 @d(x: 2)) { a(y: [2, {z: {k: $v}}]) { b @d(x: 2) } \
     a(y: [2, {z: {k: $v}}]) { b @d(x: 2) } } type T @d(x: 2) { f: Int @d(x: 2) }";
 
+/// What is made of a document, and its text; or nothing, where nothing changes.
+type Row = (Rebuilt<Document>, Option<&'static str>);
+
+fn made_of(alloc: Global, document: &Document) -> [Row; 7] {
+    let values = [(another(), Value::Null)];
+    [
+        (
+            rename_fields(alloc, document, "a", &name!(c)),
+            Some(RENAMED),
+        ),
+        (
+            add_field_everywhere(alloc, document, &name!(id)),
+            Some(ADDED),
+        ),
+        (remove_directive(alloc, document, "d"), Some(REMOVED)),
+        (replaced(alloc, document), Some(REPLACED)),
+        (rename_fields(alloc, document, "another", &name!(a)), None),
+        (remove_directive(alloc, document, "another"), None),
+        (replace_variables(alloc, document, &values), None),
+    ]
+}
+
+fn made_of_nothing(alloc: Global, empty: &Document) -> [Row; 4] {
+    let values = [(another(), Value::Null)];
+    [
+        (rename_fields(alloc, empty, "another", &name!(a)), None),
+        (remove_directive(alloc, empty, "another"), None),
+        (replace_variables(alloc, empty, &values), None),
+        (add_field_everywhere(alloc, empty, &name!(id)), None),
+    ]
+}
+
+fn check_made(rt: &impl Abort, alloc: Global, (made, wanted): Row) {
+    match (made.expect(rt, "memory"), wanted) {
+        (Some(document), Some(wanted)) => check_text(rt, alloc, &document, wanted),
+        (made, wanted) => assert!(rt; made.is_none() && wanted.is_none(), "{wanted:?}"),
+    }
+}
+
+/// Each place is rewritten, and the old document stays. Nothing is made where nothing changes, nor of an empty document.
 #[test]
 fn each_place_is_rewritten_and_the_old_document_stays(rt: HostRuntime) {
     let alloc = rt.alloc();
     let document = document(alloc).expect(&rt, "memory");
-    let renamed = rename_fields(alloc, &document, "a", &name!(c));
-    check_made(&rt, alloc, renamed, RENAMED);
-    let added = add_field_everywhere(alloc, &document, &name!(id));
-    check_made(&rt, alloc, added, ADDED);
-    let removed = remove_directive(alloc, &document, "d");
-    check_made(&rt, alloc, removed, REMOVED);
-    check_made(&rt, alloc, replaced(alloc, &document), REPLACED);
-    check_text(&rt, alloc, &document, TEXT);
-}
-
-fn check_nothing(rt: &impl Abort, alloc: Global, document: &Document) {
-    let none: [Rebuilt<Document>; 3] = [
-        rename_fields(alloc, document, "another", &name!(a)),
-        remove_directive(alloc, document, "another"),
-        replace_variables(alloc, document, &[(another(), Value::Null)]),
-    ];
-    for made in none {
-        assert!(rt; made.expect(rt, "memory").is_none());
+    for row in made_of(alloc, &document) {
+        check_made(&rt, alloc, row);
     }
-}
-
-#[test]
-fn nothing_is_made_where_nothing_changes(rt: HostRuntime) {
-    let alloc = rt.alloc();
-    let document = document(alloc).expect(&rt, "memory");
-    check_nothing(&rt, alloc, &document);
-    let empty = Document::new(alloc);
-    check_nothing(&rt, alloc, &empty);
-    let added = add_field_everywhere(alloc, &empty, &name!(id));
-    assert!(rt; added.expect(&rt, "memory").is_none());
+    check_text(&rt, alloc, &document, TEXT);
+    for row in made_of_nothing(alloc, &Document::new(alloc)) {
+        check_made(&rt, alloc, row);
+    }
 }

@@ -20,21 +20,31 @@ fn check(rt: &impl Abort, made: Rebuilt<Document>, document: &Document, copy: &D
     assert!(rt; document == copy);
 }
 
-/// Allocations: 149.
+/// And a document that is rewritten in place is another, or stays.
+/// Allocations: 159.
 #[test]
 fn another_document_is_made_or_memory_is_refused(rt: HostRuntime) {
     let alloc = rt.alloc();
-    if let Ok(document) = document(alloc) {
-        if let Ok(copy) = document.clone() {
-            let renamed = rename_fields(alloc, &document, "a", &name!(c));
-            check(&rt, renamed, &document, &copy);
-            let added = add_field_everywhere(alloc, &document, &name!(id));
-            check(&rt, added, &document, &copy);
-            let removed = remove_directive(alloc, &document, "d");
-            check(&rt, removed, &document, &copy);
-            check(&rt, replaced(alloc, &document), &document, &copy);
-        }
+    let Ok(mut document) = document(alloc) else {
+        return;
+    };
+    let Ok(copy) = document.clone() else {
+        return;
+    };
+    for made in [
+        rename_fields(alloc, &document, "a", &name!(c)),
+        add_field_everywhere(alloc, &document, &name!(id)),
+        remove_directive(alloc, &document, "d"),
+        replaced(alloc, &document),
+    ] {
+        check(&rt, made, &document, &copy);
     }
+    let rename = RenameFields {
+        from: "a",
+        to: &name!(c),
+    };
+    let answer = rewrite(alloc, &rename, &mut document);
+    assert_eq!(rt; document == copy, answer.is_err());
 }
 
 /// Allocations: 7.
@@ -47,22 +57,6 @@ fn documents_are_joined_and_sorted_or_memory_is_refused(rt: HostRuntime) {
                 assert_eq!(rt; all.definitions.len(), 4);
                 assert!(rt; sort_definitions(&mut all).is_ok());
             }
-        }
-    }
-}
-
-/// Allocations: 54.
-#[test]
-fn a_document_is_rewritten_or_stays(rt: HostRuntime) {
-    let alloc = rt.alloc();
-    if let Ok(mut document) = document(alloc) {
-        if let Ok(copy) = document.clone() {
-            let rename = RenameFields {
-                from: "a",
-                to: &name!(c),
-            };
-            let answer = rewrite(alloc, &rename, &mut document);
-            assert_eq!(rt; document == copy, answer.is_err());
         }
     }
 }

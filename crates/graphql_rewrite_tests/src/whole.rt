@@ -18,17 +18,6 @@ pub(crate) fn types(alloc: Global) -> Result<Document, AllocError> {
     Ok(document)
 }
 
-#[test]
-fn definitions_are_sorted_by_kind_and_name(rt: HostRuntime) {
-    let alloc = rt.alloc();
-    let mut document = types(alloc).expect(&rt, "memory");
-    assert!(rt; sort_definitions(&mut document).is_ok());
-    check_text(&rt, alloc, &document, "scalar A scalar B type A type B");
-    let mut empty = Document::new(alloc);
-    assert!(rt; sort_definitions(&mut empty).is_ok());
-    assert!(rt; empty.definitions.is_empty());
-}
-
 /// A document that has a file of this text too.
 fn with_file(
     alloc: Global,
@@ -66,31 +55,39 @@ fn joined(alloc: Global) -> Result<Document, AllocError> {
     concat(alloc, documents)
 }
 
-#[test]
-fn documents_are_joined_with_their_sources(rt: HostRuntime) {
-    let alloc = rt.alloc();
-    let all = joined(alloc).expect(&rt, "memory");
-    let twice = "type B scalar B type A scalar A type B scalar B type A scalar A";
-    check_text(&rt, alloc, &all, twice);
-    check_file(&rt, &all, 3, "new");
-    check_file(&rt, &all, 4, "other");
-    let none = concat(alloc, Vec::new(alloc)).expect(&rt, "memory");
-    assert!(rt; none.definitions.is_empty());
-}
-
 /// A document that is rewritten, of a file.
 fn rewritten(alloc: Global) -> Result<Option<Document>, AllocError> {
     let old = with_file(alloc, document(alloc)?, 3, "text")?;
     rename_fields(alloc, &old, "a", &name!(c))
 }
 
+/// Definitions are sorted by kind and name, documents are joined with their sources, and what is made has the sources.
 #[test]
-fn what_is_made_has_the_sources(rt: HostRuntime) {
+fn documents_are_sorted_and_joined_and_have_their_sources(rt: HostRuntime) {
     let alloc = rt.alloc();
+    let mut document = types(alloc).expect(&rt, "memory");
+    assert!(rt; sort_definitions(&mut document).is_ok());
+    check_text(&rt, alloc, &document, "scalar A scalar B type A type B");
+    let mut empty = Document::new(alloc);
+    assert!(rt; sort_definitions(&mut empty).is_ok());
+    assert!(rt; empty.definitions.is_empty());
+
+    let all = joined(alloc).expect(&rt, "memory");
+    let twice = "type B scalar B type A scalar A type B scalar B type A scalar A";
+    check_text(&rt, alloc, &all, twice);
+    let none = concat(alloc, Vec::new(alloc)).expect(&rt, "memory");
+    assert!(rt; none.definitions.is_empty());
+
     let made = rewritten(alloc).expect(&rt, "memory");
     let made = made.expect(&rt, "another document");
-    check_file(&rt, &made, 3, "text");
     let none = with_definitions(&made, Vec::new(alloc)).expect(&rt, "memory");
-    check_file(&rt, &none, 3, "text");
     assert!(rt; none.definitions.is_empty());
+    for (document, id, wanted) in [
+        (&all, 3, "new"),
+        (&all, 4, "other"),
+        (&made, 3, "text"),
+        (&none, 3, "text"),
+    ] {
+        check_file(&rt, document, id, wanted);
+    }
 }

@@ -2,7 +2,7 @@
 use graphql_base::span::SourceSpan;
 use graphql_text::engine::{PrintError, Serialize, Syntax};
 use graphql_text::ill_formed::SideCondition;
-use std::alloc::Global;
+use std::alloc::{AllocError, Global};
 use std::fmt::Display;
 use std::process::Abort;
 
@@ -28,17 +28,22 @@ pub(crate) fn check_displayed<T: Display>(rt: &impl Abort, alloc: Global, tree: 
     assert_eq!(rt; text.as_str(), wanted);
 }
 
-/// Both prints of a well formed tree.
-pub(crate) fn check_both<T: Syntax, D: Display>(
+/// Trees of a kind, whether each is well formed, its text on one line, and in the default layout where that is told.
+pub(crate) type Trees<T> = Result<Vec<(T, bool, &'static str, Option<&'static str>)>, AllocError>;
+
+/// Each tree of a table, of which the tree and a print of it are displayed: memory is ample.
+pub(crate) fn check_trees<T: Syntax + Display + Drop>(
     rt: &impl Abort,
     alloc: Global,
-    tree: &T,
-    line: &str,
-    shown: &D,
-    wanted: &str,
+    trees: Trees<T>,
 ) {
-    check_line(rt, alloc, tree, true, line);
-    check_displayed(rt, alloc, shown, wanted);
+    for (tree, is_well_formed, line, displayed) in &trees.expect(rt, "memory") {
+        check_line(rt, alloc, tree, *is_well_formed, line);
+        if let Some(wanted) = displayed {
+            check_displayed(rt, alloc, tree, wanted);
+            check_displayed(rt, alloc, &Serialize::new(tree), wanted);
+        }
+    }
 }
 
 /// A flaw of a tree: the side condition, the text of the name, and the location.

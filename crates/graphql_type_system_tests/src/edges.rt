@@ -1,48 +1,17 @@
-//! Trees that are not well formed, and prints at their edges.
+//! Prints at their edges.
 ghost use Rattle.std.specs.Prelude.{None};
 
-use crate::checks::{check_displayed, check_line};
-use crate::samples::{directives_with_variable, object};
+use crate::checks::check_displayed;
+use crate::samples::object;
 use graphql_base::name;
-use graphql_base::name::Name;
 use graphql_base::node::{Node, NodeStr};
 use graphql_text::engine::PrintError;
 use graphql_text::sink::{SinkFault, TextSink};
-use graphql_type_system::enum_type::EnumTypeDefinition;
-use graphql_type_system::enum_value_definition::EnumValueDefinition;
 use graphql_type_system::field_definition::FieldDefinition;
 use graphql_type_system::object_type::ObjectTypeDefinition;
 use graphql_type_system::scalar_type::ScalarTypeDefinition;
 use graphql_values::ty;
 use std::alloc::{AllocError, Global};
-
-fn enum_of(alloc: Global, value: Name) -> Result<EnumTypeDefinition, AllocError> {
-    let node = Node::new(alloc, EnumValueDefinition::new(alloc, value))?;
-    Ok(EnumTypeDefinition {
-        values: vec![in alloc; node]?,
-        ..EnumTypeDefinition::new(alloc, name!(E))
-    })
-}
-
-#[test]
-fn trees_that_are_not_well_formed(rt: HostRuntime) {
-    let alloc = rt.alloc();
-    for (value, wanted) in [
-        (name!("null"), "enum E { null }"),
-        (name!("true"), "enum E { true }"),
-    ] {
-        let tree = enum_of(alloc, value).expect(&rt, "memory");
-        check_line(&rt, alloc, &tree, false, wanted);
-    }
-    let mut at_the_type = object(alloc).expect(&rt, "memory");
-    at_the_type.directives = directives_with_variable(alloc).expect(&rt, "memory");
-    assert!(rt; !at_the_type.is_well_formed());
-    let field = FieldDefinition {
-        directives: directives_with_variable(alloc).expect(&rt, "memory"),
-        ..FieldDefinition::new(alloc, name!(f), ty!(Int))
-    };
-    check_line(&rt, alloc, &field, false, "f: Int @d(a: $v)");
-}
 
 fn described_scalar(alloc: Global, description: &str) -> Result<ScalarTypeDefinition, AllocError> {
     Ok(ScalarTypeDefinition {
@@ -137,8 +106,9 @@ fn a_sink_that_faults_after_each_byte(rt: HostRuntime) {
     let print = object.serialize().no_indent();
     for room in 0..63 {
         let mut sink = Short { room, faults: 0 };
-        assert_eq!(rt; print.print_to(&mut sink), Err(PrintError::Sink));
-        assert_eq!(rt; sink.faults, 1);
+        let answer = print.print_to(&mut sink);
+        assert_eq!(rt; answer, Err(PrintError::Sink), "{room}");
+        assert_eq!(rt; sink.faults, 1, "{room}");
     }
     let mut sink = Short {
         room: 63,

@@ -1,5 +1,4 @@
-//! What is looked up by name, and what each definition and extension is as it is new.
-use crate::checks::{check_displayed, check_line};
+//! What is looked up by name.
 use graphql_base::name;
 use graphql_base::node::Node;
 use graphql_type_system::enum_type::{EnumTypeDefinition, EnumTypeExtension};
@@ -8,57 +7,11 @@ use graphql_type_system::field_definition::FieldDefinition;
 use graphql_type_system::input_object_type::{InputObjectTypeDefinition, InputObjectTypeExtension};
 use graphql_type_system::interface_type::{InterfaceTypeDefinition, InterfaceTypeExtension};
 use graphql_type_system::object_type::{ObjectTypeDefinition, ObjectTypeExtension};
-use graphql_type_system::scalar_type::{ScalarTypeDefinition, ScalarTypeExtension};
-use graphql_type_system::schema::{SchemaDefinition, SchemaExtension};
-use graphql_type_system::union_type::{UnionTypeDefinition, UnionTypeExtension};
 use graphql_values::directive::Directive;
 use graphql_values::directive_list::DirectiveList;
 use graphql_values::input_value_definition::InputValueDefinition;
 use graphql_values::{ty, value};
 use std::alloc::{AllocError, Global};
-
-#[test]
-fn of_new_definitions(rt: HostRuntime) {
-    let alloc = rt.alloc();
-    let field = FieldDefinition::new(alloc, name!(A), ty!(Int));
-    check_line(&rt, alloc, &field, true, "A: Int");
-    let value = EnumValueDefinition::new(alloc, name!(A));
-    check_line(&rt, alloc, &value, true, "A");
-    let schema = SchemaDefinition::new(alloc);
-    check_line(&rt, alloc, &schema, false, "schema {}");
-    check_displayed(&rt, alloc, &schema, "schema {}");
-    let scalar = ScalarTypeDefinition::new(alloc, name!(A));
-    check_line(&rt, alloc, &scalar, true, "scalar A");
-    let object = ObjectTypeDefinition::new(alloc, name!(A));
-    check_line(&rt, alloc, &object, true, "type A");
-    let interface = InterfaceTypeDefinition::new(alloc, name!(A));
-    check_line(&rt, alloc, &interface, true, "interface A");
-    let union = UnionTypeDefinition::new(alloc, name!(A));
-    check_line(&rt, alloc, &union, true, "union A");
-    let values = EnumTypeDefinition::new(alloc, name!(A));
-    check_line(&rt, alloc, &values, true, "enum A");
-    let input = InputObjectTypeDefinition::new(alloc, name!(A));
-    check_line(&rt, alloc, &input, true, "input A");
-}
-
-#[test]
-fn of_new_extensions(rt: HostRuntime) {
-    let alloc = rt.alloc();
-    let schema = SchemaExtension::new(alloc);
-    check_line(&rt, alloc, &schema, false, "extend schema");
-    let scalar = ScalarTypeExtension::new(alloc, name!(A));
-    check_line(&rt, alloc, &scalar, false, "extend scalar A");
-    let object = ObjectTypeExtension::new(alloc, name!(A));
-    check_line(&rt, alloc, &object, false, "extend type A");
-    let interface = InterfaceTypeExtension::new(alloc, name!(A));
-    check_line(&rt, alloc, &interface, false, "extend interface A");
-    let union = UnionTypeExtension::new(alloc, name!(A));
-    check_line(&rt, alloc, &union, false, "extend union A");
-    let values = EnumTypeExtension::new(alloc, name!(A));
-    check_line(&rt, alloc, &values, false, "extend enum A");
-    let input = InputObjectTypeExtension::new(alloc, name!(A));
-    check_line(&rt, alloc, &input, false, "extend input A");
-}
 
 /// What is asked for, and the mark of what is found: the first `x` of two, the one `y`, and nothing in another case,
 /// by a part of a name or without one. In an empty list nothing is found.
@@ -92,33 +45,6 @@ fn fields(alloc: Global) -> Result<Vec<Node<FieldDefinition>>, AllocError> {
     Ok(fields)
 }
 
-#[test]
-fn of_fields_by_name(rt: HostRuntime) {
-    let alloc = rt.alloc();
-    let mut object = ObjectTypeDefinition::new(alloc, name!(A));
-    let mut of_object = ObjectTypeExtension::new(alloc, name!(A));
-    let mut interface = InterfaceTypeDefinition::new(alloc, name!(A));
-    let mut of_interface = InterfaceTypeExtension::new(alloc, name!(A));
-    assert!(rt; object.field_by_name("x").is_none());
-    assert!(rt; of_object.field_by_name("x").is_none());
-    assert!(rt; interface.field_by_name("x").is_none());
-    assert!(rt; of_interface.field_by_name("x").is_none());
-    object.fields = fields(alloc).expect(&rt, "memory");
-    of_object.fields = fields(alloc).expect(&rt, "memory");
-    interface.fields = fields(alloc).expect(&rt, "memory");
-    of_interface.fields = fields(alloc).expect(&rt, "memory");
-    for (name, wanted) in asked() {
-        for (whose, found) in [
-            ("object", object.field_by_name(name)),
-            ("extended object", of_object.field_by_name(name)),
-            ("interface", interface.field_by_name(name)),
-            ("extended interface", of_interface.field_by_name(name)),
-        ] {
-            assert_eq!(rt; told(found), wanted, "{name} of {whose}");
-        }
-    }
-}
-
 /// How many directives an enum value has.
 fn told_of_value(value: Option<&Node<EnumValueDefinition>>) -> Option<usize> {
     Some(value?.directives.len())
@@ -136,25 +62,6 @@ fn values(alloc: Global) -> Result<Vec<Node<EnumValueDefinition>>, AllocError> {
         Node::new(alloc, EnumValueDefinition::new(alloc, name!(x)))?,
     ]?;
     Ok(values)
-}
-
-#[test]
-fn of_values_by_name(rt: HostRuntime) {
-    let alloc = rt.alloc();
-    let mut definition = EnumTypeDefinition::new(alloc, name!(A));
-    let mut extension = EnumTypeExtension::new(alloc, name!(A));
-    assert!(rt; definition.value_by_name("x").is_none());
-    assert!(rt; extension.value_by_name("x").is_none());
-    definition.values = values(alloc).expect(&rt, "memory");
-    extension.values = values(alloc).expect(&rt, "memory");
-    for (name, wanted) in asked() {
-        for (whose, found) in [
-            ("definition", definition.value_by_name(name)),
-            ("extension", extension.value_by_name(name)),
-        ] {
-            assert_eq!(rt; told_of_value(found), wanted, "{name} of {whose}");
-        }
-    }
 }
 
 /// Whether an input value has a default value, as a number.
@@ -176,25 +83,85 @@ fn inputs(alloc: Global) -> Result<Vec<Node<InputValueDefinition>>, AllocError> 
     Ok(inputs)
 }
 
+/// What has members: fields, values, input fields or arguments.
+#[derive(Drop)]
+struct Holders {
+    object: ObjectTypeDefinition,
+    of_object: ObjectTypeExtension,
+    interface: InterfaceTypeDefinition,
+    of_interface: InterfaceTypeExtension,
+    values: EnumTypeDefinition,
+    of_values: EnumTypeExtension,
+    input: InputObjectTypeDefinition,
+    of_input: InputObjectTypeExtension,
+    field: FieldDefinition,
+}
+
+impl Holders {
+    /// Without members.
+    fn new(alloc: Global) -> Holders {
+        Holders {
+            object: ObjectTypeDefinition::new(alloc, name!(A)),
+            of_object: ObjectTypeExtension::new(alloc, name!(A)),
+            interface: InterfaceTypeDefinition::new(alloc, name!(A)),
+            of_interface: InterfaceTypeExtension::new(alloc, name!(A)),
+            values: EnumTypeDefinition::new(alloc, name!(A)),
+            of_values: EnumTypeExtension::new(alloc, name!(A)),
+            input: InputObjectTypeDefinition::new(alloc, name!(A)),
+            of_input: InputObjectTypeExtension::new(alloc, name!(A)),
+            field: FieldDefinition::new(alloc, name!(f), ty!(Int)),
+        }
+    }
+
+    fn fill(&mut self, alloc: Global) -> Result<(), AllocError> {
+        self.object.fields = fields(alloc)?;
+        self.of_object.fields = fields(alloc)?;
+        self.interface.fields = fields(alloc)?;
+        self.of_interface.fields = fields(alloc)?;
+        self.values.values = values(alloc)?;
+        self.of_values.values = values(alloc)?;
+        self.input.fields = inputs(alloc)?;
+        self.of_input.fields = inputs(alloc)?;
+        self.field.arguments = inputs(alloc)?;
+        Ok(())
+    }
+
+    /// The mark of what each finds under a name.
+    fn found(&self, name: &str) -> [(&'static str, Option<usize>); 9] {
+        [
+            ("object", told(self.object.field_by_name(name))),
+            ("extended object", told(self.of_object.field_by_name(name))),
+            ("interface", told(self.interface.field_by_name(name))),
+            (
+                "extended interface",
+                told(self.of_interface.field_by_name(name)),
+            ),
+            ("enum", told_of_value(self.values.value_by_name(name))),
+            (
+                "extended enum",
+                told_of_value(self.of_values.value_by_name(name)),
+            ),
+            ("input", told_of_input(self.input.field_by_name(name))),
+            (
+                "extended input",
+                told_of_input(self.of_input.field_by_name(name)),
+            ),
+            ("field", told_of_input(self.field.argument_by_name(name))),
+        ]
+    }
+}
+
+/// Fields, values, input fields and arguments.
 #[test]
-fn of_inputs_by_name(rt: HostRuntime) {
-    let alloc = rt.alloc();
-    let mut definition = InputObjectTypeDefinition::new(alloc, name!(A));
-    let mut extension = InputObjectTypeExtension::new(alloc, name!(A));
-    let mut field = FieldDefinition::new(alloc, name!(f), ty!(Int));
-    assert!(rt; definition.field_by_name("x").is_none());
-    assert!(rt; extension.field_by_name("x").is_none());
-    assert!(rt; field.argument_by_name("x").is_none());
-    definition.fields = inputs(alloc).expect(&rt, "memory");
-    extension.fields = inputs(alloc).expect(&rt, "memory");
-    field.arguments = inputs(alloc).expect(&rt, "memory");
+fn of_members_by_name(rt: HostRuntime) {
+    let mut holders = Holders::new(rt.alloc());
+    for (whose, found) in holders.found("x") {
+        assert_eq!(rt; found, None, "{whose} without members");
+    }
+    holders.fill(rt.alloc()).expect(&rt, "memory");
     for (name, wanted) in asked() {
-        for (whose, found) in [
-            ("definition", definition.field_by_name(name)),
-            ("extension", extension.field_by_name(name)),
-            ("field", field.argument_by_name(name)),
-        ] {
-            assert_eq!(rt; told_of_input(found), wanted, "{name} of {whose}");
+        for (whose, found) in holders.found(name) {
+            assert_eq!(rt; found, wanted, "{name} of {whose}");
         }
     }
 }

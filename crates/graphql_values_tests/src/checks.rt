@@ -63,14 +63,17 @@ pub(crate) fn check_text_or_refused<T: Syntax>(
 }
 
 /// The print on one line into a writer that asks for no memory, and what the writer took.
-fn printed<T: Syntax>(rt: &impl Abort, tree: &T) -> (Result<(), PrintError>, Cursor<[u8; 48]>) {
+pub(crate) fn printed<T: Syntax>(
+    rt: &impl Abort,
+    tree: &T,
+) -> (Result<(), PrintError>, Cursor<[u8; 48]>) {
     let mut sink = StreamSink::new(Cursor::new([0; 48]));
     let result = Serialize::new(tree).no_indent().print_to(&mut sink);
     assert_eq!(rt; sink.faults(), 0);
     (result, sink.into_inner())
 }
 
-fn check_taken(rt: &impl Abort, taken: Cursor<[u8; 48]>, wanted: &str) {
+pub(crate) fn check_taken(rt: &impl Abort, taken: Cursor<[u8; 48]>, wanted: &str) {
     assert_eq!(rt; taken.position(), wanted.len() as u64);
     assert!(rt; taken.into_inner().starts_with(wanted.as_bytes()));
 }

@@ -5,6 +5,7 @@ use crate::samples::{NODES, document};
 use graphql_ast::ast::{Document, Value};
 use graphql_ast::{Node, value};
 use graphql_visit::{NodeRef, Reader, Walked, read};
+use std::alloc::{AllocError, Global};
 
 /// How many nodes came, and how many of these are values.
 #[derive(Clone, Copy)]
@@ -37,27 +38,28 @@ pub(crate) fn count_nodes<T: Walked>(item: &T) -> (usize, usize) {
     (counts.nodes, counts.values)
 }
 
-#[test]
-fn each_node_of_a_document_comes_once(rt: HostRuntime) {
-    let alloc = rt.alloc();
-    let document = document(alloc).expect(&rt, "memory");
-    assert_eq!(rt; count_nodes(&document), (NODES, 7));
-    let query = document.definitions.get(0).expect(&rt, "a query");
-    assert_eq!(rt; count_nodes(query), (NODES - 2, 7));
-    let scalar = document.definitions.get(1).expect(&rt, "a scalar type");
-    assert_eq!(rt; count_nodes(scalar), (1, 0));
-    assert_eq!(rt; count_nodes(&Document::new(alloc)), (1, 0));
+/// A list in which a list of two numbers stands twice.
+fn shared(alloc: Global) -> Result<Node<Value>, AllocError> {
+    let shared = Node::new(alloc, value!(in alloc; [1, 2])?)?;
+    let copy = shared.clone()?;
+    Node::new(alloc, Value::List(vec![in alloc; shared, copy]?))
 }
 
-/// A node that stands at two places comes twice.
+/// Each node of a document comes once; one that stands at two places comes at each.
 #[test]
-fn shared_nodes_come_at_each_place(rt: HostRuntime) {
+fn nodes_come_as_often_as_they_stand(rt: HostRuntime) {
     let alloc = rt.alloc();
-    let shared = Node::new(alloc, value!(in alloc; [1, 2]).expect(&rt, "memory")).expect(
-        &rt, "memory",
-    );
-    let copy = shared.clone().expect(&rt, "memory");
-    let both = vec![in alloc; shared, copy].expect(&rt, "memory");
-    let list = Node::new(alloc, Value::List(both)).expect(&rt, "memory");
-    assert_eq!(rt; count_nodes(&list), (7, 7));
+    let document = document(alloc).expect(&rt, "memory");
+    let query = document.definitions.get(0).expect(&rt, "a query");
+    let scalar = document.definitions.get(1).expect(&rt, "a scalar type");
+    let list = shared(alloc).expect(&rt, "memory");
+    for (what, found, wanted) in [
+        ("document", count_nodes(&document), (NODES, 7)),
+        ("query", count_nodes(query), (NODES - 2, 7)),
+        ("scalar type", count_nodes(scalar), (1, 0)),
+        ("empty document", count_nodes(&Document::new(alloc)), (1, 0)),
+        ("shared list", count_nodes(&list), (7, 7)),
+    ] {
+        assert_eq!(rt; found, wanted, "{what}");
+    }
 }

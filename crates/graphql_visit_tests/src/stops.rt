@@ -2,8 +2,11 @@
 ghost use Rattle.std.specs.Prelude.{⊤};
 
 use crate::samples::{NODES, document};
-use graphql_ast::ast::Document;
-use graphql_visit::{Ended, Flow, NodeRef, Reader, Visitor, read_document, walk_document};
+use graphql_ast::ast::{Definition, Document};
+use graphql_visit::{
+    Ended, Flow, NodeRef, Reader, Visitor, Walked, read_document, walk, walk_all, walk_document,
+    walk_optional,
+};
 use std::ops::ControlFlow;
 use std::process::Abort;
 
@@ -96,6 +99,29 @@ fn check_end(rt: &impl Abort, document: &Document, act: Act, at: usize) {
     assert_eq!(rt; visitor.calls, at);
 }
 
+/// A visitor that goes on at each call.
+fn goes_on() -> Acts {
+    Acts::new(Act::Stop, usize::MAX)
+}
+
+/// A node by itself, what is within it, several and none. The first definition is the query, which has 20 nodes.
+fn check_parts(rt: &impl Abort, document: &Document) {
+    let definitions = document.definitions.as_slice();
+    let mut walked = [goes_on(); 6];
+    let ends = [
+        walk(document, &mut walked[0]),
+        document.walk_within(&mut walked[1]),
+        walk_all(definitions, &mut walked[2]),
+        walk_all(&definitions[..0], &mut walked[3]),
+        walk_optional(definitions.first(), &mut walked[4]),
+        walk_optional::<Definition, Acts>(None, &mut walked[5]),
+    ];
+    assert_eq!(rt; ends, [Ok(()); 6]);
+    let calls = walked.map(|visitor| visitor.calls);
+    assert_eq!(rt; calls, [2 * NODES, 2 * NODES - 2, 2 * NODES - 2, 0, 40, 0]);
+    assert!(rt; matches!(document.node_ref(), NodeRef::Document(_)));
+}
+
 #[test]
 fn walks_end_at_each_call_in_turn(rt: HostRuntime) {
     let document = document(rt.alloc()).expect(&rt, "memory");
@@ -103,20 +129,17 @@ fn walks_end_at_each_call_in_turn(rt: HostRuntime) {
         check_end(&rt, &document, Act::Stop, at);
         check_end(&rt, &document, Act::Fail, at);
     }
-    let mut visitor = Acts::new(Act::Stop, 2 * NODES + 1);
-    assert_eq!(rt; walk_document(&document, &mut visitor), Ok(()));
-    assert_eq!(rt; visitor.calls, 2 * NODES);
-}
-
-/// A node that is passed over isn't left: the document alone, and the query, which has 20 nodes.
-#[test]
-fn what_is_within_a_node_is_passed_over(rt: HostRuntime) {
-    let document = document(rt.alloc()).expect(&rt, "memory");
-    for (at, calls) in [(1, 1), (2, 2 * NODES - 39)] {
-        let mut visitor = Acts::new(Act::Skip, at);
-        assert_eq!(rt; walk_document(&document, &mut visitor), Ok(()));
-        assert_eq!(rt; visitor.calls, calls);
+    for (act, at, calls) in [
+        (Act::Stop, 2 * NODES + 1, 2 * NODES),
+        // a node that is passed over isn't left: the document alone, and the query, which has 20 nodes
+        (Act::Skip, 1, 1),
+        (Act::Skip, 2, 2 * NODES - 39),
+    ] {
+        let mut visitor = Acts::new(act, at);
+        assert_eq!(rt; walk_document(&document, &mut visitor), Ok(()), "{at}");
+        assert_eq!(rt; visitor.calls, calls, "{at}");
     }
+    check_parts(&rt, &document);
 }
 
 #[test]
@@ -125,7 +148,7 @@ fn readers_fail_at_each_node_in_turn(rt: HostRuntime) {
     for before in 0..=NODES {
         let mut reader = Fails { left: before };
         let wanted = if before < NODES { Err(7) } else { Ok(()) };
-        assert_eq!(rt; read_document(&document, &mut reader), wanted);
-        assert_eq!(rt; reader.left, 0);
+        assert_eq!(rt; read_document(&document, &mut reader), wanted, "{before}");
+        assert_eq!(rt; reader.left, 0, "{before}");
     }
 }

@@ -1,7 +1,7 @@
 //! Worked runs of the program, with writers in memory.
 ghost use Rattle.std.specs.Prelude.{◌≤◌, IfSome, length};
 
-use super::{VectorError, report, run_vectors};
+use super::{VectorError, report, run_vectors, run_words};
 use graphql_ast::serialize::PrintError;
 use graphql_ast::sink::SinkFault;
 use std::alloc::{AllocError, Global};
@@ -172,28 +172,72 @@ fn check_printed(rt: &impl Abort, alloc: Global, vectors: &[(&str, &str)]) -> Re
 /// A level that doesn't fit is found before the first byte.
 const OVERFLOW: (u8, &str, &str) = (1, "", "indentation level overflow\n");
 
-#[test]
-fn known_vectors_are_printed(rt: HostRuntime) -> Result<(), Fail> {
-    check_printed(&rt, rt.alloc(), &VALUES)?;
-    check_printed(&rt, rt.alloc(), &DEFINITIONS)?;
-    check_printed(&rt, rt.alloc(), &OPERATIONS)?;
-    check_printed(&rt, rt.alloc(), &DOCUMENTS)?;
-    check_run(&rt, rt.alloc(), &["16"], OVERFLOW)
-}
-
 const UNKNOWN: (u8, &str, &str) = (2, "", "unknown vector\n");
 
+/// Asserts the status and the line of an error.
+fn check_report(rt: &impl Abort, alloc: Global, error: VectorError, wanted: (u8, &str)) {
+    let (status, err) = report(error, Page::new());
+    assert_eq!(rt; status, wanted.0);
+    assert_eq!(rt; err.text(), Some(wanted.1));
+}
+
+/// Each error, with its status and its line.
+const ERRORS: [(VectorError, (u8, &str)); 6] = [
+    (VectorError::Unknown, (2, "unknown vector\n")),
+    (VectorError::Memory, (1, "out of memory\n")),
+    (
+        VectorError::Print(PrintError::LevelOverflow),
+        (1, "indentation level overflow\n"),
+    ),
+    (
+        VectorError::Print(PrintError::Memory),
+        (1, "out of memory\n"),
+    ),
+    (
+        VectorError::Print(PrintError::Sink),
+        (1, "the writer failed\n"),
+    ),
+    (VectorError::Line(SinkFault), (1, "the writer failed\n")),
+];
+
+/// Known vectors are printed, other words are unknown, and errors have texts.
 #[test]
-fn other_words_are_unknown(rt: HostRuntime) -> Result<(), Fail> {
-    for word in [
-        "", "01", "+1", "-1", " 1", "1 ", "1\n", "0", "23", "011", "100", "١", "one",
-    ] {
-        check_run(&rt, rt.alloc(), &[word], UNKNOWN)?;
+fn vectors_are_printed_and_errors_are_told(rt: HostRuntime) -> Result<(), Fail> {
+    let alloc = rt.alloc();
+    for vectors in [&VALUES[..], &DEFINITIONS, &OPERATIONS, &DOCUMENTS] {
+        check_printed(&rt, alloc, vectors)?;
     }
-    let digits = "1".repeat(rt.alloc(), 10_000)?;
-    check_run(&rt, rt.alloc(), &[digits.as_str()], UNKNOWN)?;
-    check_run(&rt, rt.alloc(), &[], UNKNOWN)?;
-    check_run(&rt, rt.alloc(), &["1", "1"], UNKNOWN)
+    check_run(&rt, alloc, &["16"], OVERFLOW)?;
+    let digits = "1".repeat(alloc, 10_000)?;
+    for word in [
+        "",
+        "01",
+        "+1",
+        "-1",
+        " 1",
+        "1 ",
+        "1\n",
+        "0",
+        "23",
+        "011",
+        "100",
+        "١",
+        "one",
+        digits.as_str(),
+    ] {
+        check_run(&rt, alloc, &[word], UNKNOWN)?;
+    }
+    check_run(&rt, alloc, &[], UNKNOWN)?;
+    check_run(&rt, alloc, &["1", "1"], UNKNOWN)?;
+    for (error, wanted) in ERRORS {
+        check_report(&rt, alloc, error, wanted);
+    }
+    let (status, out, err) = run_words(alloc, Err(AllocError), Page::new(), Page::new());
+    assert_eq!(&rt;
+        (status, out.text(), err.text()),
+        (1, Some(""), Some("out of memory\n"))
+    );
+    Ok(())
 }
 
 const FOUR_VALUES: &str = "[1, EXAMPLE, true, null]\n";
@@ -214,39 +258,35 @@ fn check_refusal(
     Ok(())
 }
 
+/// And a refused report changes no status, nor does it where both writers refuse.
 #[test]
 fn nothing_follows_a_refused_write(rt: HostRuntime) -> Result<(), Fail> {
+    let alloc = rt.alloc();
     for refusal in REFUSALS {
         for place in 0..FOUR_VALUES.len() {
-            check_refusal(&rt, rt.alloc(), ("1", FOUR_VALUES), (refusal, place))?;
+            check_refusal(&rt, alloc, ("1", FOUR_VALUES), (refusal, place))?;
         }
     }
     for place in 0..TYPE_AND_QUERY.len() {
         let refused = (Refusal::Fails, place);
-        check_refusal(&rt, rt.alloc(), ("9", TYPE_AND_QUERY), refused)?;
+        check_refusal(&rt, alloc, ("9", TYPE_AND_QUERY), refused)?;
     }
-    Ok(())
-}
-
-/// Nor where both writers refuse.
-#[test]
-fn a_refused_report_changes_no_status(rt: HostRuntime) -> Result<(), Fail> {
-    let alloc = rt.alloc();
-    let words = words_of(alloc, &["01"])?;
-    for place in [0, 3, 14] {
-        let err = Page::refusing_at(place, Refusal::Fails);
-        let (status, out, err) = run_vectors(alloc, &words, Page::new(), err);
-        assert_eq!(rt; status, 2);
-        assert_eq!(rt; out.len, 0);
-        assert_eq!(rt; err.len, place);
+    // the word, where standard output and standard error refuse, the status, and what is printed
+    for (word, out_at, err_at, wanted, printed) in [
+        ("01", None, 0, 2, ""),
+        ("01", None, 3, 2, ""),
+        ("01", None, 14, 2, ""),
+        ("1", Some(1), 0, 1, "["),
+    ] {
+        let words = words_of(alloc, &[word])?;
+        let mut out = Page::new();
+        out.refuses_at = out_at;
+        let err = Page::refusing_at(err_at, Refusal::Fails);
+        let (status, out, err) = run_vectors(alloc, &words, out, err);
+        assert_eq!(rt; status, wanted, "{word}: {err_at}");
+        assert_eq!(rt; out.text(), Some(printed), "{word}: {err_at}");
+        assert_eq!(rt; err.len, err_at, "{word}: {err_at}");
     }
-    let words = words_of(alloc, &["1"])?;
-    let out = Page::refusing_at(1, Refusal::Fails);
-    let err = Page::refusing_at(0, Refusal::Fails);
-    let (status, out, err) = run_vectors(alloc, &words, out, err);
-    assert_eq!(rt; status, 1);
-    assert_eq!(rt; out.text(), Some("["));
-    assert_eq!(rt; err.len, 0);
     Ok(())
 }
 
@@ -268,62 +308,15 @@ fn check_run_or_refused(
     assert!(rt; is_whole || is_refused, "{number}");
 }
 
-/// Asserts that each of these vectors is printed, or refused memory reported. `rt try --test --fail-alloc N` refuses
-/// the Nth growth.
-fn check_printed_or_refused(rt: &impl Abort, alloc: Global, vectors: &[(&str, &str)]) {
-    for (number, text) in vectors {
-        check_run_or_refused(rt, alloc, number, (0, text, ""));
-    }
-}
-
+/// Of each vector. `rt try --test --fail-alloc N` refuses the Nth growth.
+///
+/// Allocations: 198.
 #[test]
-fn refused_memory_of_values_is_reported(rt: HostRuntime) {
-    check_printed_or_refused(&rt, rt.alloc(), &VALUES);
-}
-
-#[test]
-fn refused_memory_of_definitions_is_reported(rt: HostRuntime) {
-    check_printed_or_refused(&rt, rt.alloc(), &DEFINITIONS);
-}
-
-#[test]
-fn refused_memory_of_operations_is_reported(rt: HostRuntime) {
+fn refused_memory_is_reported(rt: HostRuntime) {
     check_run_or_refused(&rt, rt.alloc(), "16", OVERFLOW);
-    check_printed_or_refused(&rt, rt.alloc(), &OPERATIONS);
-}
-
-#[test]
-fn refused_memory_of_documents_is_reported(rt: HostRuntime) {
-    check_printed_or_refused(&rt, rt.alloc(), &DOCUMENTS);
-}
-
-/// Asserts the status and the line of an error.
-fn check_report(rt: &impl Abort, alloc: Global, error: VectorError, wanted: (u8, &str)) {
-    let (status, err) = report(error, Page::new());
-    assert_eq!(rt; status, wanted.0);
-    assert_eq!(rt; err.text(), Some(wanted.1));
-}
-
-#[test]
-fn errors_have_texts(rt: HostRuntime) {
-    let alloc = rt.alloc();
-    for (error, wanted) in [
-        (VectorError::Unknown, (2, "unknown vector\n")),
-        (VectorError::Memory, (1, "out of memory\n")),
-        (
-            VectorError::Print(PrintError::LevelOverflow),
-            (1, "indentation level overflow\n"),
-        ),
-        (
-            VectorError::Print(PrintError::Memory),
-            (1, "out of memory\n"),
-        ),
-        (
-            VectorError::Print(PrintError::Sink),
-            (1, "the writer failed\n"),
-        ),
-        (VectorError::Line(SinkFault), (1, "the writer failed\n")),
-    ] {
-        check_report(&rt, alloc, error, wanted);
+    for vectors in [&VALUES[..], &DEFINITIONS, &OPERATIONS, &DOCUMENTS] {
+        for (number, text) in vectors {
+            check_run_or_refused(&rt, rt.alloc(), number, (0, text, ""));
+        }
     }
 }

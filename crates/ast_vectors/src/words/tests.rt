@@ -65,6 +65,8 @@ fn words_are_read_in_their_order(rt: HostRuntime) -> Result<(), Fail> {
 }
 
 /// Where memory is refused no words are answered; else all are. `rt try --test --fail-alloc N` refuses the Nth growth.
+///
+/// Allocations: 3.
 #[test]
 fn refused_memory_gives_no_words(rt: HostRuntime) {
     let all: [&[u8]; 3] = [NAME, b"1", b"14"];

@@ -2,19 +2,12 @@
 use crate::each_kind::{check_definitions, check_documents, check_nodes};
 use worked_trees::refused::Refused;
 
-/// Allocations: 806.
+/// Allocations: 1625.
 #[test]
-fn definitions_and_nodes(rt: HostRuntime) {
+fn definitions_nodes_and_documents(rt: HostRuntime) {
     let mut refused = Refused::none();
     check_definitions(&rt, rt.alloc(), &mut refused);
     check_nodes(&rt, rt.alloc(), &mut refused);
-    assert!(rt; refused.calls <= 1);
-}
-
-/// Allocations: 819.
-#[test]
-fn documents(rt: HostRuntime) {
-    let mut refused = Refused::none();
     check_documents(&rt, rt.alloc(), &mut refused);
     assert!(rt; refused.calls <= 1);
 }

@@ -11,7 +11,9 @@ use std::rc::RcStr;
 
 const VALID: [&str; 8] = ["abc", "A", "_", "__typename", "a1", "_0", "Z_9", "on"];
 
-const INVALID: [&str; 9] = ["", "1nvalid", "è", "aè", "a\0b", "\0", "a-b", " a", "a "];
+const INVALID: [&str; 10] = [
+    "", "1", "1nvalid", "è", "aè", "a\0b", "\0", "a-b", " a", "a ",
+];
 
 /// The error of this text.
 fn invalid(alloc: Global, text: &str) -> Result<NameError, AllocError> {
@@ -27,8 +29,8 @@ fn letters(alloc: Global, count: usize) -> Result<String, AllocError> {
 
 fn check_new(rt: &impl Abort, name: &Name, text: &str, is_static: bool) {
     assert_eq!(rt; (name.as_str(), name.len()), (text, text.len()));
-    assert_eq!(rt; name.location(), None);
-    assert_eq!(rt; name.as_static_str().is_some(), is_static);
+    assert_eq!(rt; name.location(), None, "{text}");
+    assert_eq!(rt; name.as_static_str().is_some(), is_static, "{text}");
 }
 
 fn check_made_new(rt: &impl Abort, made: Result<Name, NameError>, text: &str, is_static: bool) {
@@ -43,10 +45,29 @@ fn new_shared(alloc: Global, text: &str) -> Result<Name, NameError> {
     }
 }
 
+/// Names that are made without a test, their texts, and whether these are static.
+fn untested(rt: &impl Abort, alloc: Global) -> [(Name, &'static str, bool); 6] {
+    let text = "abc";
+    assert!(rt; Name::is_valid_syntax(text));
+    let made = Name::new_unchecked(alloc, text).expect(rt, "memory");
+    let shared = RcStr::from_str(alloc, text).expect(rt, "memory");
+    assert!(rt; Name::is_valid_syntax(shared.as_str()));
+    let query: NamedType = name!(Query);
+    [
+        (Name::new_static_unchecked("abc"), text, true),
+        (made, text, false),
+        (Name::from_arc_unchecked(shared), text, false),
+        (name!(abc), text, true),
+        (name!("__typename"), "__typename", true),
+        (query, "Query", true),
+    ]
+}
+
+/// Long ones too, and those that are made without a test.
 #[test]
 fn valid_texts_are_names(rt: HostRuntime) {
     for text in VALID {
-        assert!(rt; Name::is_valid_syntax(text));
+        assert!(rt; Name::is_valid_syntax(text), "{text}");
         check_made_new(&rt, Name::new(rt.alloc(), text), text, false);
         check_made_new(&rt, Name::new_static(rt.alloc(), text), text, true);
         check_made_new(&rt, new_shared(rt.alloc(), text), text, false);
@@ -55,246 +76,27 @@ fn valid_texts_are_names(rt: HostRuntime) {
     let text = long.as_str();
     assert!(rt; Name::is_valid_syntax(text));
     check_made_new(&rt, Name::new(rt.alloc(), text), text, false);
+    for (name, text, is_static) in untested(&rt, rt.alloc()) {
+        check_new(&rt, &name, text, is_static);
+    }
 }
 
-fn check_refused(rt: &impl Abort, made: Result<Name, NameError>, error: &NameError) {
-    assert_eq!(rt; made.as_ref().err(), Some(error));
+fn check_refused(rt: &impl Abort, made: Result<Name, NameError>, wanted: &NameError) {
+    let error = made.err().expect(rt, "no name");
+    assert_eq!(rt; error, *wanted);
+    assert!(rt; !error.is_memory(), "{wanted}");
 }
 
 #[test]
 fn other_texts_are_refused(rt: HostRuntime) {
     for text in INVALID {
         let error = invalid(rt.alloc(), text).expect(&rt, "memory");
-        assert!(rt; !Name::is_valid_syntax(text));
+        assert!(rt; !Name::is_valid_syntax(text), "{text}");
         check_refused(&rt, Name::new(rt.alloc(), text), &error);
         check_refused(&rt, Name::compact(rt.alloc(), text), &error);
         check_refused(&rt, Name::new_static(rt.alloc(), text), &error);
         check_refused(&rt, new_shared(rt.alloc(), text), &error);
     }
-}
-
-#[test]
-fn names_are_made_without_a_test(rt: HostRuntime) {
-    let alloc = rt.alloc();
-    let text = "abc";
-    assert!(rt; Name::is_valid_syntax(text));
-    let made = Name::new_unchecked(alloc, text).expect(&rt, "memory");
-    let shared = RcStr::from_str(alloc, text).expect(&rt, "memory");
-    assert!(rt; Name::is_valid_syntax(shared.as_str()));
-    let query: NamedType = name!(Query);
-    for (name, text, is_static) in [
-        (Name::new_static_unchecked("abc"), text, true),
-        (made, text, false),
-        (Name::from_arc_unchecked(shared), text, false),
-        (name!(abc), text, true),
-        (name!("__typename"), "__typename", true),
-        (query, "Query", true),
-    ] {
-        check_new(&rt, &name, text, is_static);
-    }
-}
-
-fn span() -> Option<SourceSpan> {
-    SourceSpan::new(FileId::new(5), 10, 13)
-}
-
-/// The name `abc`, with a location.
-fn placed(rt: &impl Abort, alloc: Global) -> Name {
-    let span = span().expect(rt, "in order");
-    assert_eq!(rt; span.len(), 3);
-    let name = Name::new(alloc, "abc").expect(rt, "memory");
-    assert_eq!(rt; name.len(), 3);
-    name.with_location(span)
-}
-
-fn check_placed(rt: &impl Abort, name: &Name) {
-    assert_eq!(rt; (name.as_str(), name.location()), ("abc", span()));
-    assert_eq!(rt; name.as_static_str(), None);
-}
-
-/// So has a clone, and a static name that stays static. It is no part of the name.
-#[test]
-fn a_name_has_a_location(rt: HostRuntime) {
-    let name = placed(&rt, rt.alloc());
-    check_placed(&rt, &name);
-    let copy = name.clone().expect(&rt, "memory");
-    check_placed(&rt, &copy);
-    assert_eq!(rt; copy.as_ref(), &name);
-    let bare = name!(abc);
-    assert_eq!(rt; bare.location(), None);
-    assert_eq!(rt; name, bare);
-    let span = span().expect(&rt, "in order");
-    assert_eq!(rt; span.len(), 3);
-    let fixed = name!(abc).with_location(span);
-    let copy = fixed.clone().expect(&rt, "memory");
-    assert_eq!(rt; copy.as_static_str(), Some("abc"));
-    assert_eq!(rt; copy.location(), Some(span));
-}
-
-/// How many bytes of text names have, and whether they stand in place.
-const LENGTHS: [(u32, bool); 5] = [
-    (1, true),
-    (17, true),
-    (18, true),
-    (19, false),
-    (1_000_000, false),
-];
-
-fn check_compact(rt: &impl Abort, name: &Name, text: &str, in_place: bool) {
-    assert_eq!(rt; (name.as_str(), name.len()), (text, text.len()));
-    assert_eq!(rt; name.as_static_str(), None);
-    let short = name.short_text().map(|short| short.as_str());
-    assert_eq!(rt; short, in_place.then_some(text));
-    match name.short_text_or_str() {
-        Ok(short) => assert_eq!(rt; (short.as_str(), in_place), (text, true)),
-        Err(other) => assert_eq!(rt; (other, in_place), (text, false)),
-    }
-}
-
-/// A name of so many bytes, so that it ends at the last offset that there is.
-fn placed_last(rt: &impl Abort, name: Name, count: u32) -> Name {
-    let span = SourceSpan::new(FileId::new(5), u32::MAX - count, u32::MAX).expect(rt, "in order");
-    assert_eq!(rt; span.len() as usize, name.len());
-    let placed = name.with_location(span);
-    assert_eq!(rt; placed.location(), Some(span));
-    placed
-}
-
-#[test]
-fn texts_that_fit_stand_in_place(rt: HostRuntime) {
-    let alloc = rt.alloc();
-    for (count, in_place) in LENGTHS {
-        let long = letters(alloc, count as usize).expect(&rt, "memory");
-        let text = long.as_str();
-        let name = Name::compact(alloc, text).expect(&rt, "a name");
-        assert_eq!(rt; name.location(), None);
-        check_compact(&rt, &name, text, in_place);
-        let placed = placed_last(&rt, name, count);
-        check_compact(&rt, &placed, text, in_place);
-        let copy = placed.clone().expect(&rt, "memory");
-        assert_eq!(rt; copy.location(), placed.location());
-        check_compact(&rt, &copy, text, in_place);
-        assert!(rt; Name::is_valid_syntax(text));
-        let name = Name::compact_unchecked(alloc, text).expect(&rt, "memory");
-        assert_eq!(rt; name.location(), None);
-        check_compact(&rt, &name, text, in_place);
-    }
-}
-
-/// A key that is found by any other: equal, in no order before or behind, and printed alike.
-fn check_alike(rt: &impl Abort, alloc: Global, name: &Name, other: &Name) {
-    check_order(rt, name, other, Ordering::Equal);
-    let mut names = HashSet::new(alloc);
-    names
-        .insert(name.clone().expect(rt, "memory"))
-        .expect(rt, "memory");
-    assert!(rt; names.contains(other));
-    check_made(rt, format!(in alloc; "{name}"), other.as_str());
-}
-
-#[test]
-fn names_of_one_text_are_alike(rt: HostRuntime) {
-    let alloc = rt.alloc();
-    for text in ["a", "aaaaaaaaaaaaaaaaaa", "aaaaaaaaaaaaaaaaaaa"] {
-        let names = [
-            Name::new_static(alloc, text).expect(&rt, "a name"),
-            Name::new(alloc, text).expect(&rt, "a name"),
-            Name::compact(alloc, text).expect(&rt, "a name"),
-        ];
-        for name in &names {
-            for other in &names {
-                check_alike(&rt, alloc, name, other);
-            }
-        }
-    }
-    let mut names = HashSet::new(alloc);
-    names.insert(name!(abc)).expect(&rt, "memory");
-    assert!(rt; names.contains(&Name::new(alloc, "abc").expect(&rt, "memory")));
-    assert!(rt; !names.contains(&name!(ab)));
-}
-
-/// The name `abc`, with a text that is shared, in place or static.
-fn names_of_each_form(alloc: Global) -> Result<[(Name, Option<&'static str>); 3], NameError> {
-    Ok([
-        (Name::new(alloc, "abc")?, None),
-        (Name::compact(alloc, "abc")?, None),
-        (Name::new_static(alloc, "abc")?, Some("abc")),
-    ])
-}
-
-#[test]
-fn texts_are_static_or_shared(rt: HostRuntime) {
-    for (name, text) in names_of_each_form(rt.alloc()).expect(&rt, "memory") {
-        assert_eq!(rt; name, name!(abc));
-        assert_eq!(rt; name.as_static_str(), text);
-        let copy = name.clone().expect(&rt, "memory");
-        assert_eq!(rt; copy.as_static_str(), text);
-        let taken = name.to_cloned_arc().expect(&rt, "memory");
-        let wanted = if text.is_some() { None } else { Some("abc") };
-        assert_eq!(rt;
-            taken.as_ref().map(|text| text.as_str()),
-            wanted,
-            "{text:?}"
-        );
-        let shared = name.into_shared(rt.alloc()).expect(&rt, "memory");
-        check_text(&rt, shared.as_str(), "abc");
-    }
-}
-
-fn check_order(rt: &impl Abort, name: &Name, other: &Name, order: Ordering) {
-    assert_eq!(rt; name.cmp(other), order, "{name} and {other}");
-    assert_eq!(rt; name.partial_cmp(other), Some(order));
-    assert_eq!(rt; name == other, order == Ordering::Equal);
-}
-
-#[test]
-fn names_are_in_byte_order(rt: HostRuntime) {
-    let shared = Name::new(rt.alloc(), "a").expect(&rt, "memory");
-    let in_place = Name::compact(rt.alloc(), "aa").expect(&rt, "a name");
-    let names = [name!(A), name!("_"), shared, in_place];
-    for (place, name) in names.iter().enumerate() {
-        for (other_place, other) in names.iter().enumerate() {
-            check_order(&rt, name, other, place.cmp(&other_place));
-        }
-    }
-}
-
-#[test]
-fn a_name_prints_its_text(rt: HostRuntime) {
-    let alloc = rt.alloc();
-    let name = name!(abc);
-    check_made(&rt, format!(in alloc; "{name}"), "abc");
-    check_made(&rt, format!(in alloc; "[{name:>5}]"), "[  abc]");
-    check_made(&rt, format!(in alloc; "[{name:-<5}]"), "[abc--]");
-    check_made(&rt, format!(in alloc; "[{name:^5}]"), "[ abc ]");
-    check_made(&rt, format!(in alloc; "[{name:.2}]"), "[ab]");
-}
-
-#[test]
-fn errors_have_their_texts(rt: HostRuntime) {
-    let alloc = rt.alloc();
-    let error = invalid(alloc, "1nvalid").expect(&rt, "memory");
-    check_made(
-        &rt,
-        format!(in alloc; "{error}"),
-        "`1nvalid` is not a valid GraphQL name",
-    );
-    check_made(
-        &rt,
-        format!(in alloc; "{}", NameError::Memory),
-        "out of memory",
-    );
-    let inner = match error {
-        NameError::Invalid(inner) => Some(inner),
-        NameError::Memory => None,
-    };
-    check_made(
-        &rt,
-        format!(in alloc; "{}", inner.expect(&rt, "invalid")),
-        "`1nvalid` is not a valid GraphQL name",
-    );
-    let error = Name::new(alloc, "1").err().expect(&rt, "no name");
-    assert!(rt; !error.is_memory() && NameError::Memory.is_memory());
 }
 
 /// The error of the text `a b` that stood somewhere.
@@ -305,20 +107,200 @@ fn elsewhere(alloc: Global) -> Result<InvalidNameError, AllocError> {
     })
 }
 
+/// Errors, their texts, and whether they are for memory. They differ in their variants, or in one field.
+fn errors(alloc: Global) -> Result<[(NameError, &'static str, bool); 5], AllocError> {
+    let a_b = "`a b` is not a valid GraphQL name";
+    Ok([
+        (
+            invalid(alloc, "1nvalid")?,
+            "`1nvalid` is not a valid GraphQL name",
+            false,
+        ),
+        (invalid(alloc, "a b")?, a_b, false),
+        (
+            invalid(alloc, "a c")?,
+            "`a c` is not a valid GraphQL name",
+            false,
+        ),
+        (NameError::Memory, "out of memory", true),
+        (NameError::Invalid(elsewhere(alloc)?), a_b, false),
+    ])
+}
+
+/// The error within an error of an invalid text, which has the same text.
+fn check_inner(rt: &impl Abort, alloc: Global, inner: &InvalidNameError, text: &str) {
+    check_made(rt, format!(in alloc; "{inner}"), text);
+    let copy = inner.clone().expect(rt, "memory");
+    assert_eq!(rt; copy, *inner);
+}
+
+/// Equal to a clone, and to none of the others.
 #[test]
-fn errors_compare_by_variant_and_fields(rt: HostRuntime) {
-    let error = invalid(rt.alloc(), "a b").expect(&rt, "memory");
-    let copy = error.clone().expect(&rt, "memory");
-    assert_eq!(rt; copy, error);
-    let elsewhere = elsewhere(rt.alloc()).expect(&rt, "memory");
-    let copy = elsewhere.clone().expect(&rt, "memory");
-    assert_eq!(rt; copy, elsewhere);
-    for other in [
-        invalid(rt.alloc(), "a c").expect(&rt, "memory"),
-        NameError::Memory,
-        NameError::Invalid(elsewhere),
-    ] {
-        assert_ne!(rt; error, other);
+fn errors_have_their_texts_and_compare(rt: HostRuntime) {
+    let alloc = rt.alloc();
+    let errors = errors(alloc).expect(&rt, "memory");
+    for (place, (error, text, is_memory)) in errors.iter().enumerate() {
+        check_made(&rt, format!(in alloc; "{error}"), text);
+        assert_eq!(rt; error.is_memory(), *is_memory, "{error}");
+        if let NameError::Invalid(inner) = error {
+            check_inner(&rt, alloc, inner, text);
+        }
+        let copy = error.clone().expect(&rt, "memory");
+        for (other_place, (other, _, _)) in errors.iter().enumerate() {
+            let is_same = place == other_place;
+            assert!(rt; (copy == *other) == is_same, "{error}, {other}");
+            assert!(rt; (*error == *other) == is_same, "{error}, {other}");
+        }
     }
-    assert_eq!(rt; NameError::Memory, NameError::Memory);
+}
+
+/// How a name keeps its text.
+#[derive(Clone, Copy, PartialEq, Eq, Debug, Drop)]
+enum Kept {
+    Static,
+    Shared,
+    InPlace,
+}
+
+fn check_kept(rt: &impl Abort, name: &Name, text: &str, kept: Kept, location: Option<SourceSpan>) {
+    assert_eq!(rt; (name.as_str(), name.len()), (text, text.len()));
+    assert_eq!(rt; name.location(), location);
+    let static_text = name.as_static_str();
+    assert!(rt; static_text.is_none_or(|found| found == text), "{kept:?}");
+    assert_eq!(rt; static_text.is_some(), kept == Kept::Static);
+    let short = name.short_text().map(|short| short.as_str());
+    assert_eq!(rt; short, (kept == Kept::InPlace).then_some(text), "{kept:?}");
+    match name.short_text_or_str() {
+        Ok(short) => assert_eq!(rt; (short.as_str(), kept), (text, Kept::InPlace)),
+        Err(other) => assert_eq!(rt; (other, kept == Kept::InPlace), (text, false)),
+    }
+}
+
+/// A name, and a clone, which keeps the text in the same way, at the same location. The text can be taken from both.
+fn check_taken(
+    rt: &impl Abort,
+    alloc: Global,
+    name: Name,
+    text: &str,
+    kept: Kept,
+    location: Option<SourceSpan>,
+) {
+    check_kept(rt, &name, text, kept, location);
+    let copy = name.clone().expect(rt, "memory");
+    check_kept(rt, &copy, text, kept, location);
+    assert_eq!(rt; copy.as_ref(), &name);
+    let taken = name.to_cloned_arc().expect(rt, "memory");
+    let taken_text = taken.as_ref().map(|taken| taken.as_str());
+    let wanted = (kept != Kept::Static).then_some(text);
+    assert_eq!(rt; taken_text, wanted, "{kept:?}");
+    let shared = name.into_shared(alloc).expect(rt, "memory");
+    check_text(rt, shared.as_str(), text);
+}
+
+/// A name without a location and with one, near the front and so that it ends at the last offset that there is. The location
+/// is no part of the name.
+fn check_name(rt: &impl Abort, alloc: Global, name: Name, text: &str, kept: Kept) {
+    let count = u32::try_from(name.len()).expect(rt, "few bytes");
+    for (start, end) in [(10, count.saturating_add(10)), (u32::MAX - count, u32::MAX)] {
+        let span = SourceSpan::new(FileId::new(5), start, end).expect(rt, "in order");
+        assert_eq!(rt; span.len() as usize, name.len());
+        let placed = name.clone().expect(rt, "memory").with_location(span);
+        assert_eq!(rt; placed, name);
+        check_taken(rt, alloc, placed, text, kept, Some(span));
+    }
+    check_taken(rt, alloc, name, text, kept, None);
+}
+
+/// The name of this text, shared, in place if it fits, and static.
+fn names_of_each_form(alloc: Global, text: &'static str) -> Result<[(Name, Kept); 3], NameError> {
+    Ok([
+        (Name::new(alloc, text)?, Kept::Shared),
+        (Name::compact(alloc, text)?, Kept::InPlace),
+        (Name::new_static(alloc, text)?, Kept::Static),
+    ])
+}
+
+/// How many letters compact names have, and whether they stand in place.
+const LENGTHS: [(usize, Kept); 5] = [
+    (1, Kept::InPlace),
+    (17, Kept::InPlace),
+    (18, Kept::InPlace),
+    (19, Kept::Shared),
+    (1_000_000, Kept::Shared),
+];
+
+#[test]
+fn names_keep_their_texts_and_locations(rt: HostRuntime) {
+    let alloc = rt.alloc();
+    for (name, kept) in names_of_each_form(alloc, "abc").expect(&rt, "memory") {
+        assert_eq!(rt; name, name!(abc));
+        check_name(&rt, alloc, name, "abc", kept);
+    }
+    for (count, kept) in LENGTHS {
+        let long = letters(alloc, count).expect(&rt, "memory");
+        let text = long.as_str();
+        let name = Name::compact(alloc, text).expect(&rt, "a name");
+        check_name(&rt, alloc, name, text, kept);
+        assert!(rt; Name::is_valid_syntax(text));
+        let name = Name::compact_unchecked(alloc, text).expect(&rt, "memory");
+        check_name(&rt, alloc, name, text, kept);
+    }
+}
+
+/// Texts in the order of their bytes, with one of the last length that stands in place, and of the next.
+const IN_ORDER: [&str; 8] = [
+    "A",
+    "_",
+    "a",
+    "aa",
+    "aaaaaaaaaaaaaaaaaa",
+    "aaaaaaaaaaaaaaaaaaa",
+    "ab",
+    "abc",
+];
+
+/// Names of these texts in each form, and the places of the texts.
+fn names_in_order(rt: &impl Abort, alloc: Global) -> Vec<(usize, Name)> {
+    let mut names = Vec::new(alloc);
+    for (place, text) in IN_ORDER.iter().enumerate() {
+        let [(shared, _), (in_place, _), (fixed, _)] = names_of_each_form(alloc, text).expect(
+            rt, "memory",
+        );
+        names.push((place, shared)).expect(rt, "memory");
+        names.push((place, in_place)).expect(rt, "memory");
+        names.push((place, fixed)).expect(rt, "memory");
+    }
+    names
+}
+
+/// Names of one text are equal, each is found by the other as a key, and they print alike.
+fn check_order(rt: &impl Abort, alloc: Global, name: &Name, other: &Name, order: Ordering) {
+    let is_same = order == Ordering::Equal;
+    assert_eq!(rt; name.cmp(other), order, "{name} and {other}");
+    assert_eq!(rt; name.partial_cmp(other), Some(order));
+    assert_eq!(rt; name == other, is_same, "{name} and {other}");
+    let mut names = HashSet::new(alloc);
+    names
+        .insert(name.clone().expect(rt, "memory"))
+        .expect(rt, "memory");
+    assert_eq!(rt; names.contains(other), is_same, "{name} and {other}");
+    let printed = format!(in alloc; "{name}").expect(rt, "memory");
+    assert_eq!(rt; printed.as_str() == other.as_str(), is_same);
+}
+
+#[test]
+fn names_compare_and_print_by_their_texts(rt: HostRuntime) {
+    let alloc = rt.alloc();
+    let names = names_in_order(&rt, alloc);
+    for (place, name) in &names {
+        for (other_place, other) in &names {
+            check_order(&rt, alloc, name, other, place.cmp(other_place));
+        }
+    }
+    let name = name!(abc);
+    check_made(&rt, format!(in alloc; "{name}"), "abc");
+    check_made(&rt, format!(in alloc; "[{name:>5}]"), "[  abc]");
+    check_made(&rt, format!(in alloc; "[{name:-<5}]"), "[abc--]");
+    check_made(&rt, format!(in alloc; "[{name:^5}]"), "[ abc ]");
+    check_made(&rt, format!(in alloc; "[{name:.2}]"), "[ab]");
 }

@@ -11,6 +11,24 @@ fn span_in(rt: &impl Abort, file: u64) -> SourceSpan {
     SourceSpan::new(FileId::new(file), 10, 13).expect(rt, "in order")
 }
 
+fn number_at(
+    alloc: Global,
+    value: u8,
+    location: Option<SourceSpan>,
+) -> Result<Node<u8>, AllocError> {
+    match location {
+        Some(span) => Node::new_parsed(alloc, value, span),
+        None => Node::new(alloc, value),
+    }
+}
+
+fn text_at(alloc: Global, text: &str, location: Option<SourceSpan>) -> Result<NodeStr, AllocError> {
+    match location {
+        Some(span) => NodeStr::new_str_parsed(alloc, text, span),
+        None => NodeStr::new_str(alloc, text),
+    }
+}
+
 fn check_number(rt: &impl Abort, node: &Node<u8>, value: u8, location: Option<SourceSpan>) {
     assert_eq!(rt;
         (**node, *node.as_ref(), node.location()),
@@ -18,15 +36,24 @@ fn check_number(rt: &impl Abort, node: &Node<u8>, value: u8, location: Option<So
     );
 }
 
-/// It has a value and a location, which a clone and a node beside it have too, of whichever type that one's value is.
+fn check_shared(rt: &impl Abort, node: &NodeStr, text: &str, location: Option<SourceSpan>) {
+    assert_eq!(rt; (node.as_str(), node.location()), (text, location));
+}
+
+/// What a node or a text has, a clone has too; a node beside it has its location, of whichever type that one's value is. What
+/// is built in is told by the file.
 #[test]
-fn a_node_is_its_value_and_location(rt: HostRuntime) {
+fn nodes_and_texts_have_a_value_and_a_location(rt: HostRuntime) {
     let alloc = rt.alloc();
-    let span = span_in(&rt, 5);
-    let placed = Node::new_parsed(alloc, 2u8, span).expect(&rt, "memory");
-    let bare = Node::new(alloc, 1u8).expect(&rt, "memory");
-    for (node, value, location) in [(placed, 2, Some(span)), (bare, 1, None)] {
+    let built_in = SourceSpan::new(FileId::BUILT_IN, 0, 1);
+    for (value, location, is_built_in) in [
+        (1, None, false),
+        (2, Some(span_in(&rt, 5)), false),
+        (1, built_in, true),
+    ] {
+        let node = number_at(alloc, value, location).expect(&rt, "memory");
         check_number(&rt, &node, value, location);
+        assert_eq!(rt; node.is_built_in(), is_built_in, "{location:?}");
         let copy = node.clone().expect(&rt, "memory");
         check_number(&rt, &copy, value, location);
         let beside = node.same_location(alloc, 4u8).expect(&rt, "memory");
@@ -34,27 +61,15 @@ fn a_node_is_its_value_and_location(rt: HostRuntime) {
         let beside = node.same_location(alloc, "text").expect(&rt, "memory");
         check_text(&rt, *beside, "text");
         assert_eq!(rt; beside.location(), location);
+        let text = text_at(alloc, "été", location).expect(&rt, "memory");
+        check_shared(&rt, &text, "été", location);
+        assert_eq!(rt; text.is_built_in(), is_built_in, "{location:?}");
+        check_made(&rt, text.to_text(alloc), "été");
+        let copy = text.clone().expect(&rt, "memory");
+        check_shared(&rt, &copy, "été", location);
+        let beside = text.same_location(alloc, 1u8).expect(&rt, "memory");
+        check_number(&rt, &beside, 1, location);
     }
-}
-
-fn built_in() -> Option<SourceSpan> {
-    SourceSpan::new(FileId::BUILT_IN, 0, 1)
-}
-
-#[test]
-fn what_is_built_in_is_told_by_the_file(rt: HostRuntime) {
-    let alloc = rt.alloc();
-    let span = built_in().expect(&rt, "in order");
-    for (location, wanted) in [(span, true), (span_in(&rt, 5), false)] {
-        let node = Node::new_parsed(alloc, 1u8, location).expect(&rt, "memory");
-        assert_eq!(rt; node.is_built_in(), wanted);
-        let text = NodeStr::new_str_parsed(alloc, "a", location).expect(&rt, "memory");
-        assert_eq!(rt; text.is_built_in(), wanted);
-    }
-    let node = Node::new(alloc, 1u8).expect(&rt, "memory");
-    assert!(rt; !node.is_built_in());
-    let text = NodeStr::new_str(alloc, "a").expect(&rt, "memory");
-    assert!(rt; !text.is_built_in());
 }
 
 fn placed_text(alloc: Global, span: SourceSpan) -> Result<Node<String>, AllocError> {
@@ -68,29 +83,6 @@ fn add(node: &mut Node<String>, text: &str) -> Result<(), AllocError> {
 
 fn check_placed(rt: &impl Abort, node: &Node<String>, text: &str, span: SourceSpan) {
     assert_eq!(rt; (node.as_str(), node.location()), (text, Some(span)));
-}
-
-#[test]
-fn a_change_is_seen_in_one_node(rt: HostRuntime) {
-    let span = span_in(&rt, 5);
-    let first = placed_text(rt.alloc(), span).expect(&rt, "memory");
-    let mut second = first.clone().expect(&rt, "memory");
-    add(&mut second, "er").expect(&rt, "memory");
-    check_placed(&rt, &first, "old", span);
-    check_placed(&rt, &second, "older", span);
-    add(&mut second, "!").expect(&rt, "memory");
-    check_placed(&rt, &second, "older!", span);
-}
-
-#[test]
-fn a_new_node_lends_its_value(rt: HostRuntime) {
-    let span = span_in(&rt, 5);
-    let mut node = Node::new_parsed(rt.alloc(), 1u8, span).expect(&rt, "memory");
-    let value = node.get_mut().expect(&rt, "no other node has it");
-    assert_eq!(rt; *value, 1);
-    *value = 2;
-    assert_eq!(rt; *node, 2);
-    assert_eq!(rt; node.location(), Some(span));
 }
 
 /// A number whose clone is refused.
@@ -107,19 +99,32 @@ fn check_unclonable(rt: &impl Abort, node: &Node<Unclonable>, span: SourceSpan) 
     assert_eq!(rt; (node.0, node.location()), (1, Some(span)));
 }
 
+/// In none where the clone of a shared value is refused. A new node lends its value.
 #[test]
-fn a_refused_clone_leaves_the_node(rt: HostRuntime) {
+fn a_change_is_seen_in_one_node(rt: HostRuntime) {
     let span = span_in(&rt, 5);
+    let first = placed_text(rt.alloc(), span).expect(&rt, "memory");
+    let mut second = first.clone().expect(&rt, "memory");
+    for (more, wanted) in [("er", "older"), ("!", "older!")] {
+        add(&mut second, more).expect(&rt, "memory");
+        check_placed(&rt, &first, "old", span);
+        check_placed(&rt, &second, wanted, span);
+    }
     let first = Node::new_parsed(rt.alloc(), Unclonable(1), span).expect(&rt, "memory");
     let mut second = first.clone().expect(&rt, "memory");
     assert!(rt; second.make_mut().is_err());
     check_unclonable(&rt, &first, span);
     check_unclonable(&rt, &second, span);
+    let mut node = Node::new_parsed(rt.alloc(), 1u8, span).expect(&rt, "memory");
+    let value = node.get_mut().expect(&rt, "no other node has it");
+    assert_eq!(rt; *value, 1);
+    *value = 2;
+    check_number(&rt, &node, 2, Some(span));
 }
 
-/// Compared, and as keys.
+/// And not by their locations. So they are found as keys.
 #[test]
-fn nodes_compare_by_value(rt: HostRuntime) {
+fn nodes_and_texts_compare_by_their_values(rt: HostRuntime) {
     let alloc = rt.alloc();
     let here = Node::new_parsed(alloc, name!(a), span_in(&rt, 5)).expect(&rt, "memory");
     let there = Node::new_parsed(alloc, name!(a), span_in(&rt, 6)).expect(&rt, "memory");
@@ -130,53 +135,27 @@ fn nodes_compare_by_value(rt: HostRuntime) {
     nodes.insert(here).expect(&rt, "memory");
     assert!(rt; nodes.contains(&there));
     assert!(rt; !nodes.contains(&other));
-}
-
-#[test]
-fn nodes_and_texts_print_their_values(rt: HostRuntime) {
-    let alloc = rt.alloc();
-    let number = Node::new(alloc, 7u8).expect(&rt, "memory");
-    check_made(&rt, format!(in alloc; "{number}"), "7");
-    check_made(&rt, format!(in alloc; "[{number:03}]"), "[007]");
-    let name = Node::new(alloc, name!(abc)).expect(&rt, "memory");
-    check_made(&rt, format!(in alloc; "[{name:>5}]"), "[  abc]");
-    let text = NodeStr::new_str(alloc, "été").expect(&rt, "memory");
-    check_made(&rt, format!(in alloc; "{text}"), "été");
-    check_made(&rt, format!(in alloc; "[{text:>5}]"), "[  été]");
-    check_made(&rt, format!(in alloc; "[{text:.1}]"), "[é]");
-}
-
-fn check_shared(rt: &impl Abort, node: &NodeStr, text: &str, location: Option<SourceSpan>) {
-    assert_eq!(rt; (node.as_str(), node.location()), (text, location));
-}
-
-/// So have a clone, and a node beside it.
-#[test]
-fn a_shared_text_has_a_location(rt: HostRuntime) {
-    let alloc = rt.alloc();
-    let span = span_in(&rt, 5);
-    let placed = NodeStr::new_str_parsed(alloc, "été", span).expect(&rt, "memory");
-    let bare = NodeStr::new_str(alloc, "été").expect(&rt, "memory");
-    for (text, location) in [(placed, Some(span)), (bare, None)] {
-        check_shared(&rt, &text, "été", location);
-        check_made(&rt, text.to_text(alloc), "été");
-        let copy = text.clone().expect(&rt, "memory");
-        check_shared(&rt, &copy, "été", location);
-        let beside = text.same_location(alloc, 1u8).expect(&rt, "memory");
-        check_number(&rt, &beside, 1, location);
-    }
-}
-
-#[test]
-fn shared_texts_compare_by_text(rt: HostRuntime) {
-    let alloc = rt.alloc();
-    let here = NodeStr::new_str_parsed(alloc, "a", span_in(&rt, 5)).expect(&rt, "memory");
-    let there = NodeStr::new_str(alloc, "a").expect(&rt, "memory");
-    let other = NodeStr::new_str(alloc, "").expect(&rt, "memory");
+    let here = text_at(alloc, "a", Some(span_in(&rt, 5))).expect(&rt, "memory");
+    let there = text_at(alloc, "a", None).expect(&rt, "memory");
+    let other = text_at(alloc, "", None).expect(&rt, "memory");
     assert_eq!(rt; here, there);
     assert_ne!(rt; here, other);
     let mut texts = HashSet::new(alloc);
     texts.insert(here).expect(&rt, "memory");
     assert!(rt; texts.contains(&there));
     assert!(rt; !texts.contains(&other));
+}
+
+#[test]
+fn nodes_and_texts_print_their_values(rt: HostRuntime) {
+    let alloc = rt.alloc();
+    let number = Node::new(alloc, 7u8).expect(&rt, "memory");
+    let name = Node::new(alloc, name!(abc)).expect(&rt, "memory");
+    let text = NodeStr::new_str(alloc, "été").expect(&rt, "memory");
+    check_made(&rt, format!(in alloc; "{number}"), "7");
+    check_made(&rt, format!(in alloc; "[{number:03}]"), "[007]");
+    check_made(&rt, format!(in alloc; "[{name:>5}]"), "[  abc]");
+    check_made(&rt, format!(in alloc; "{text}"), "été");
+    check_made(&rt, format!(in alloc; "[{text:>5}]"), "[  été]");
+    check_made(&rt, format!(in alloc; "[{text:.1}]"), "[é]");
 }

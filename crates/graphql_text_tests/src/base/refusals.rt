@@ -54,29 +54,6 @@ fn make_mut_changes_one_node_or_none(rt: HostRuntime) {
     check_placed(&rt, &alone, "");
 }
 
-/// Allocations: 7.
-#[test]
-fn nodes_are_made_or_refused(rt: HostRuntime) {
-    let alloc = rt.alloc();
-    let Ok(node) = placed(alloc) else {
-        return;
-    };
-    if let Ok(beside) = node.same_location(alloc, 1u8) {
-        assert_eq!(rt; *beside, 1);
-        assert_eq!(rt; beside.location(), node.location());
-    }
-    if let Ok(beside) = Node::new_at(alloc, 2u8, node.location()) {
-        assert_eq!(rt; (*beside, beside.location()), (2, node.location()));
-    }
-    if let Ok(text) = NodeStr::new_str(alloc, "text") {
-        if let Ok(copy) = text.to_text(alloc) {
-            check_text(&rt, copy.as_str(), "text");
-        }
-        check_text(&rt, text.as_str(), "text");
-    }
-    check_placed(&rt, &node, "old");
-}
-
 fn placed_text(alloc: Global) -> Result<NodeStr, AllocError> {
     match SourceSpan::new(FileId::new(5), 10, 14) {
         Some(span) => NodeStr::new_str_parsed(alloc, "text", span),
@@ -91,21 +68,43 @@ fn check_placed_text(rt: &impl Abort, node: &NodeStr) {
     );
 }
 
-/// Allocations: 3.
+/// A node, or none where memory was refused: its number, and where it stands.
+fn check_beside(
+    rt: &impl Abort,
+    made: Result<Node<u8>, AllocError>,
+    number: u8,
+    location: Option<SourceSpan>,
+) {
+    if let Ok(node) = made {
+        assert_eq!(rt; (*node, node.location()), (number, location));
+    }
+}
+
+/// Texts are placed and cloned too.
+/// Allocations: 10.
 #[test]
-fn texts_are_placed_and_cloned_or_refused(rt: HostRuntime) {
-    let Ok(text) = placed_text(rt.alloc()) else {
-        return;
-    };
-    if let Ok(beside) = text.same_location(rt.alloc(), 1u8) {
-        assert_eq!(rt; *beside, 1);
-        assert_eq!(rt; beside.location(), text.location());
+fn nodes_and_texts_are_made_or_refused(rt: HostRuntime) {
+    let alloc = rt.alloc();
+    if let Ok(node) = placed(alloc) {
+        let location = node.location();
+        check_beside(&rt, node.same_location(alloc, 1u8), 1, location);
+        check_beside(&rt, Node::new_at(alloc, 2u8, location), 2, location);
+        check_placed(&rt, &node, "old");
     }
-    check_placed_text(&rt, &text);
-    if let Ok(copy) = text.clone() {
-        check_placed_text(&rt, &copy);
+    if let Ok(text) = NodeStr::new_str(alloc, "text") {
+        if let Ok(copy) = text.to_text(alloc) {
+            check_text(&rt, copy.as_str(), "text");
+        }
+        check_text(&rt, text.as_str(), "text");
     }
-    check_placed_text(&rt, &text);
+    if let Ok(text) = placed_text(alloc) {
+        check_beside(&rt, text.same_location(alloc, 1u8), 1, text.location());
+        check_placed_text(&rt, &text);
+        if let Ok(copy) = text.clone() {
+            check_placed_text(&rt, &copy);
+        }
+        check_placed_text(&rt, &text);
+    }
 }
 
 fn check_refusal(rt: &impl Abort, error: &NameError, text: &str) {
@@ -114,14 +113,17 @@ fn check_refusal(rt: &impl Abort, error: &NameError, text: &str) {
     }
 }
 
+/// The error of a name that isn't made, and its clone.
 fn check_refused(rt: &impl Abort, made: Result<Name, NameError>, text: &str) {
-    match made {
-        Ok(_) => assert!(rt; false, "no name"),
-        Err(error) => check_refusal(rt, &error, text),
+    let error = made.err().expect(rt, "no name");
+    if let Ok(copy) = error.clone() {
+        assert_eq!(rt; copy, error);
     }
+    check_refusal(rt, &error, text);
 }
 
-/// Allocations: 7.
+/// And so are errors of names, which are cloned or refused.
+/// Allocations: 10.
 #[test]
 fn names_are_made_or_refused(rt: HostRuntime) {
     match Name::new(rt.alloc(), "abc") {
@@ -141,56 +143,7 @@ fn names_are_made_or_refused(rt: HostRuntime) {
     }
 }
 
-/// Allocations: 4.
-#[test]
-fn texts_of_names_are_shared_or_refused(rt: HostRuntime) {
-    let alloc = rt.alloc();
-    let fixed = Name::new_static_unchecked("abc");
-    if let Ok(copy) = fixed.to_cloned_arc() {
-        assert!(rt; copy.is_none());
-    } else {
-        assert!(rt; false, "a static text takes no memory");
-    }
-    if let Ok(text) = fixed.into_shared(alloc) {
-        check_text(&rt, text.as_str(), "abc");
-    }
-    let Ok(shared) = Name::new(alloc, "abc") else {
-        return;
-    };
-    match shared.into_shared(alloc) {
-        Ok(text) => assert_eq!(rt; text.as_str(), "abc"),
-        Err(AllocError) => assert!(rt; false, "a shared text takes no memory"),
-    }
-}
-
-/// The name takes no memory, nor does a clone: only a copy of its text that is shared does.
-fn check_in_place(rt: &impl Abort, alloc: Global, made: Result<Name, NameError>, text: &str) {
-    let name = made.expect(rt, "a text in place takes no memory");
-    let copy = name.clone().expect(rt, "a text in place takes no memory");
-    assert_eq!(rt; (name.as_str(), copy.as_str()), (text, text));
-    if let Ok(shared) = name.to_cloned_arc() {
-        check_text(rt, shared.expect(rt, "no static text").as_str(), text);
-    }
-    assert_eq!(rt; name.as_str(), text);
-    if let Ok(shared) = name.into_shared(alloc) {
-        check_text(rt, shared.as_str(), text);
-    }
-    assert_eq!(rt; copy.as_str(), text);
-}
-
-/// Allocations: 14.
-#[test]
-fn names_in_place_take_no_memory(rt: HostRuntime) {
-    let alloc = rt.alloc();
-    for text in ["a", "aaaaaaaaaaaaaaaaa", "aaaaaaaaaaaaaaaaaa"] {
-        check_in_place(&rt, alloc, Name::compact(alloc, text), text);
-    }
-    match Name::compact(alloc, "aaaaaaaaaaaaaaaaaaa") {
-        Ok(name) => check_text(&rt, name.as_str(), "aaaaaaaaaaaaaaaaaaa"),
-        Err(error) => assert_eq!(rt; error, NameError::Memory),
-    }
-}
-
+/// The name `abc` at bytes 10 to 13 of file 5.
 fn placed_name(alloc: Global) -> Result<Name, NameError> {
     let name = Name::new(alloc, "abc")?;
     match SourceSpan::new(FileId::new(5), 10, 13) {
@@ -199,39 +152,82 @@ fn placed_name(alloc: Global) -> Result<Name, NameError> {
     }
 }
 
-fn check_placed_name(rt: &impl Abort, name: &Name) {
-    assert_eq!(rt;
-        (name.as_str(), name.location()),
-        ("abc", SourceSpan::new(FileId::new(5), 10, 13))
-    );
-    assert!(rt; name.as_static_str().is_none());
+/// How a name is made of a text.
+#[derive(Clone, Copy, PartialEq, Eq, Debug, Drop)]
+enum By {
+    NewStatic,
+    New,
+    NewWithLocation,
+    Compact,
 }
 
-/// Allocations: 2.
-#[test]
-fn names_are_cloned_or_refused(rt: HostRuntime) {
-    let Ok(name) = placed_name(rt.alloc()) else {
-        return;
-    };
-    if let Ok(copy) = name.clone() {
-        check_placed_name(&rt, &copy);
-    }
-    check_placed_name(&rt, &name);
-    match Name::new_static_unchecked("abc").clone() {
-        Ok(copy) => assert_eq!(rt; copy.as_static_str(), Some("abc")),
-        Err(AllocError) => assert!(rt; false, "a static text takes no memory"),
+/// How a name keeps its text.
+#[derive(Clone, Copy, PartialEq, Eq, Debug, Drop)]
+enum Kept {
+    Static,
+    Shared,
+    InPlace,
+}
+
+const NAMES: [(&str, By, Kept); 7] = [
+    ("abc", By::NewStatic, Kept::Static),
+    ("abc", By::New, Kept::Shared),
+    ("abc", By::NewWithLocation, Kept::Shared),
+    ("a", By::Compact, Kept::InPlace),
+    ("aaaaaaaaaaaaaaaaa", By::Compact, Kept::InPlace),
+    ("aaaaaaaaaaaaaaaaaa", By::Compact, Kept::InPlace),
+    ("aaaaaaaaaaaaaaaaaaa", By::Compact, Kept::Shared),
+];
+
+fn made(alloc: Global, text: &'static str, by: By) -> Result<Name, NameError> {
+    match by {
+        By::NewStatic => Name::new_static(alloc, text),
+        By::New => Name::new(alloc, text),
+        By::NewWithLocation => placed_name(alloc),
+        By::Compact => Name::compact(alloc, text),
     }
 }
 
-/// Allocations: 2.
-#[test]
-fn errors_of_names_are_cloned_or_refused(rt: HostRuntime) {
-    let Err(error) = Name::new(rt.alloc(), "1nvalid") else {
-        assert!(rt; false, "no name");
-        return;
-    };
-    if let Ok(copy) = error.clone() {
-        assert_eq!(rt; copy, error);
+fn check_kept(rt: &impl Abort, name: &Name, text: &str, kept: Kept, is_placed: bool) {
+    let location = SourceSpan::new(FileId::new(5), 10, 13).filter(|_| is_placed);
+    assert_eq!(rt; (name.as_str(), name.location()), (text, location));
+    let static_text = name.as_static_str();
+    assert!(rt; static_text.is_none_or(|found| found == text), "{kept:?}");
+    assert_eq!(rt; static_text.is_some(), kept == Kept::Static, "{kept:?}");
+}
+
+/// A shared copy of the text, and then the text itself, shared. What is shared takes no memory, nor does it to find that
+/// nothing is.
+fn check_shared(rt: &impl Abort, alloc: Global, name: Name, text: &str, kept: Kept) {
+    match name.to_cloned_arc() {
+        Ok(shared) => {
+            let shared_text = shared.as_ref().map(|shared| shared.as_str());
+            let wanted = (kept != Kept::Static).then_some(text);
+            assert_eq!(rt; shared_text, wanted, "{kept:?}");
+        }
+        Err(AllocError) => assert_eq!(rt; kept, Kept::InPlace, "takes no memory"),
     }
-    check_refusal(&rt, &error, "1nvalid");
+    assert_eq!(rt; name.as_str(), text);
+    match name.into_shared(alloc) {
+        Ok(shared) => check_text(rt, shared.as_str(), text),
+        Err(AllocError) => assert_ne!(rt; kept, Kept::Shared, "takes no memory"),
+    }
+}
+
+/// Static texts and those in place take no memory, nor does a clone.
+/// Allocations: 20.
+#[test]
+fn names_are_cloned_and_their_texts_shared_or_refused(rt: HostRuntime) {
+    for (text, by, kept) in NAMES {
+        let is_placed = by == By::NewWithLocation;
+        match made(rt.alloc(), text, by) {
+            Ok(name) => {
+                let copy = name.clone().expect(&rt, "a clone takes no memory");
+                check_kept(&rt, &name, text, kept, is_placed);
+                check_shared(&rt, rt.alloc(), name, text, kept);
+                check_kept(&rt, &copy, text, kept, is_placed);
+            }
+            Err(error) => assert_eq!(rt; (error, kept), (NameError::Memory, Kept::Shared)),
+        }
+    }
 }

@@ -2,42 +2,35 @@
 
 use crate::checks::check_made;
 use graphql_base::name;
+use graphql_base::span::{FileId, SourceSpan};
 use graphql_text::engine::PrintError;
 use graphql_text::ill_formed::{IllFormed, SideCondition, ill_formed_unless};
 use graphql_text::sink::SinkFault;
 
+/// The errors of a print, what each says, and whether it is for memory.
+const ERRORS: [(PrintError, &str, bool); 3] = [
+    (
+        PrintError::LevelOverflow,
+        "indentation level overflow",
+        false,
+    ),
+    (PrintError::Memory, "out of memory", true),
+    (PrintError::Sink, "the writer failed", false),
+];
+
+/// Each is equal to itself alone.
 #[test]
 fn what_errors_say(rt: HostRuntime) {
-    for (error, wanted, is_memory) in [
-        (
-            PrintError::LevelOverflow,
-            "indentation level overflow",
-            false,
-        ),
-        (PrintError::Memory, "out of memory", true),
-        (PrintError::Sink, "the writer failed", false),
-    ] {
-        assert_eq!(rt; error.is_memory(), is_memory, "{wanted}");
-        check_made(&rt, format!(in rt.alloc(); "{error}"), wanted);
+    for (error, text, is_memory) in ERRORS {
+        assert_eq!(rt; error.is_memory(), is_memory, "{text}");
+        check_made(&rt, format!(in rt.alloc(); "{error}"), text);
+        for (other, other_text, _) in ERRORS {
+            let is_same = text == other_text;
+            assert_eq!(rt; error == other, is_same, "{text}, {other_text}");
+        }
     }
     let wanted = "the writer failed";
     check_made(&rt, format!(in rt.alloc(); "{SinkFault}"), wanted);
-}
-
-#[test]
-fn errors_are_equal_to_themselves_alone(rt: HostRuntime) {
-    use PrintError::{LevelOverflow, Memory, Sink};
-    for (first, second, is_same) in [
-        (LevelOverflow, LevelOverflow, true),
-        (Memory, Memory, true),
-        (Sink, Sink, true),
-        (LevelOverflow, Memory, false),
-        (LevelOverflow, Sink, false),
-        (Memory, Sink, false),
-    ] {
-        assert!(rt; (first == second) == is_same, "{first}, {second}");
-        assert!(rt; (second == first) == is_same, "{second}, {first}");
-    }
     assert!(rt; SinkFault == SinkFault);
 }
 
@@ -68,6 +61,10 @@ const CONDITIONS: [(SideCondition, &str); 8] = [
     ),
 ];
 
+fn location(start: u32, end: u32) -> Option<SourceSpan> {
+    SourceSpan::new(FileId::new(1), start, end)
+}
+
 #[test]
 fn what_is_ill_formed(rt: HostRuntime) {
     let alloc = rt.alloc();
@@ -93,4 +90,15 @@ fn what_is_ill_formed(rt: HostRuntime) {
     };
     let wanted = "an extension that adds nothing: `A`";
     check_made(&rt, format!(in alloc; "{named}"), wanted);
+    // the innermost node that has a location is the one that is told
+    let (inner, outer) = (location(1, 2), location(0, 3));
+    for (locations, wanted) in [
+        ([None, None], None),
+        ([None, outer], outer),
+        ([inner, None], inner),
+        ([inner, outer], inner),
+    ] {
+        let [first, second] = locations;
+        assert_eq!(rt; named.within(first).within(second).around, wanted);
+    }
 }

@@ -14,17 +14,6 @@ fn check_puts<S: TextSink>(rt: &impl Abort, sink: &mut S) {
     assert_eq!(rt; sink.faults(), 0);
 }
 
-#[test]
-fn vectors_and_writers_take_all(rt: HostRuntime) {
-    let mut sink = VecSink::new(rt.alloc());
-    check_puts(&rt, &mut sink);
-    assert_eq!(rt; sink.bytes(), TEXT);
-    assert_eq!(rt; sink.into_bytes().len(), 6);
-    let mut sink = StreamSink::new(Vec::new(rt.alloc()));
-    check_puts(&rt, &mut sink);
-    assert_eq!(rt; sink.into_inner().as_slice(), TEXT);
-}
-
 /// What a writer answers to a write.
 #[derive(Clone, Copy, Debug)]
 enum Answer {
@@ -81,9 +70,16 @@ impl Write for Answering {
     }
 }
 
-/// Each write is tried once.
+/// Vectors, and writers that take all; and the last error of one that doesn't, where each write is tried once.
 #[test]
-fn the_last_error_of_a_writer_is_kept(rt: HostRuntime) {
+fn sinks_take_all_or_keep_the_last_error(rt: HostRuntime) {
+    let mut sink = VecSink::new(rt.alloc());
+    check_puts(&rt, &mut sink);
+    assert_eq!(rt; sink.bytes(), TEXT);
+    assert_eq!(rt; sink.into_bytes().len(), 6);
+    let mut sink = StreamSink::new(Vec::new(rt.alloc()));
+    check_puts(&rt, &mut sink);
+    assert_eq!(rt; sink.into_inner().as_slice(), TEXT);
     let mut sink = StreamSink::new(Answering { writes: 0 });
     assert!(rt; sink.last_error().is_none());
     let mut faults = 0u64;

@@ -1,9 +1,17 @@
-//! A worked stack.
+//! Worked stacks.
 
 use graphql_text::writers::Stack;
 
+/// What an entry takes: 64 KiB.
+#[derive(Clone, Copy, Drop)]
+struct Large {
+    bytes: [u8; 1 << 16],
+}
+
+/// The last entry comes back first, and none where there is no room, which takes no memory. There is no more room than is asked
+/// for: of 1 GiB no byte is touched, and a stack many times as large would be refused, on a machine without such memory.
 #[test]
-fn last_in_first_out(rt: HostRuntime) {
+fn stacks_have_the_room_that_is_asked_for(rt: HostRuntime) {
     for room in [2, 5_000] {
         let mut stack = Stack::reserve(Some(rt.alloc()), room).expect(&rt, "memory");
         stack.push('a');
@@ -14,28 +22,12 @@ fn last_in_first_out(rt: HostRuntime) {
         assert_eq!(rt; stack.pop(), Some('a'), "{room}");
         assert_eq!(rt; stack.pop(), None, "{room}");
     }
-}
-
-/// With no room it takes no memory.
-#[test]
-fn empty(rt: HostRuntime) {
     let mut stack = Stack::reserve(Some(rt.alloc()), 1).expect(&rt, "memory");
     stack.push('a');
     stack.clear();
     assert_eq!(rt; stack.pop(), None, "cleared");
     let mut stack: Stack<char> = Stack::reserve(None, 0).expect(&rt, "memory");
     assert_eq!(rt; stack.pop(), None, "no room");
-}
-
-/// What an entry takes: 64 KiB.
-#[derive(Clone, Copy, Drop)]
-struct Large {
-    bytes: [u8; 1 << 16],
-}
-
-/// Room for 1 GiB, of which no byte is touched. A stack many times as large would be refused, on a machine without such memory.
-#[test]
-fn no_more_room_than_is_asked_for(rt: HostRuntime) {
     let mut stack: Stack<Large> = Stack::reserve(Some(rt.alloc()), 1 << 14).expect(&rt, "memory");
     let first = stack.pop().and_then(|large| large.bytes.first().copied());
     assert_eq!(rt; first, None);

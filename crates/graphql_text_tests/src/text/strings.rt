@@ -4,9 +4,7 @@ ghost use Rattle.std.specs.Prelude.{◌<◌};
 
 use super::page::{Page, blank_page};
 use crate::checks::check_text;
-use graphql_text::writers::{
-    Place, Target, write_description, write_first_indent, write_string_value,
-};
+use graphql_text::writers::{Place, Target, write_description, write_string_value};
 use std::alloc::Global;
 use std::process::Abort;
 
@@ -53,54 +51,51 @@ fn check_description(rt: &impl Abort, alloc: Global, place: &Place<'_>, value: &
     check_page(rt, &page, wanted);
 }
 
-/// No piece is empty, wherever escapes, quotes and line feeds stand.
+/// A prefix, a level, a value, and its text there.
+type Case = (Option<&'static str>, usize, &'static str, &'static str);
+
+const VALUES: [Case; 7] = [
+    (None, 0, "", r#""""#),
+    (None, 3, "a\nb", r#""a\nb""#),
+    (Some("  "), 0, "\u{1}\t\u{7F}", "\"\\u0001\t\u{7F}\""),
+    (Some("  "), 0, "\r\"\\\u{0}", r#""\r\"\\\u0000""#),
+    (Some("  "), 1, "a\n\n b", "\"\"\"\n  a\n\n   b\n  \"\"\""),
+    (Some(""), 9, "a\nb", "\"\"\"\na\nb\n\"\"\""),
+    (
+        Some(">"),
+        2,
+        "a\"\"\"b\n\"\"\"\"\"\"\"",
+        "\"\"\"\n>>a\\\"\"\"b\n>>\\\"\"\"\\\"\"\"\"\n>>\"\"\"",
+    ),
+];
+
+const DESCRIPTIONS: [Case; 7] = [
+    (None, 0, r#"say "hi""#, r#""say \"hi\"""#),
+    (Some("  "), 0, "", r#""""#),
+    (Some("  "), 1, "F", r#""""F""""#),
+    (Some("  "), 0, r#"""""x"#, r#""""\""""x""""#),
+    (Some("  "), 0, "a\rb", r#""a\rb""#),
+    (
+        Some("  "),
+        0,
+        r#"""""""""#,
+        "\"\"\"\n\\\"\"\"\\\"\"\"\"\n\"\"\"",
+    ),
+    (Some(" "), 3, "a\nb", "\"\"\"\n   a\n   b\n   \"\"\""),
+];
+
+/// No piece is empty, wherever escapes, quotes and line feeds stand. What takes no more ends the writing at once, at the
+/// greatest level too.
 #[test]
 fn values_and_descriptions(rt: HostRuntime) {
-    for (prefix, level, value, wanted) in [
-        (None, 0, "", r#""""#),
-        (None, 3, "a\nb", r#""a\nb""#),
-        (Some("  "), 0, "\u{1}\t\u{7F}", "\"\\u0001\t\u{7F}\""),
-        (Some("  "), 0, "\r\"\\\u{0}", r#""\r\"\\\u0000""#),
-        (Some("  "), 1, "a\n\n b", "\"\"\"\n  a\n\n   b\n  \"\"\""),
-        (Some(""), 9, "a\nb", "\"\"\"\na\nb\n\"\"\""),
-        (
-            Some(">"),
-            2,
-            "a\"\"\"b\n\"\"\"\"\"\"\"",
-            "\"\"\"\n>>a\\\"\"\"b\n>>\\\"\"\"\\\"\"\"\"\n>>\"\"\"",
-        ),
-    ] {
+    for (prefix, level, value, wanted) in VALUES {
         check_value(&rt, rt.alloc(), &Place::new(prefix, level), value, wanted);
     }
-    for (prefix, level, value, wanted) in [
-        (None, 0, r#"say "hi""#, r#""say \"hi\"""#),
-        (Some("  "), 0, "", r#""""#),
-        (Some("  "), 1, "F", r#""""F""""#),
-        (Some("  "), 0, r#"""""x"#, r#""""\""""x""""#),
-        (Some("  "), 0, "a\rb", r#""a\rb""#),
-        (
-            Some("  "),
-            0,
-            r#"""""""""#,
-            "\"\"\"\n\\\"\"\"\\\"\"\"\"\n\"\"\"",
-        ),
-        (Some(" "), 3, "a\nb", "\"\"\"\n   a\n   b\n   \"\"\""),
-    ] {
+    for (prefix, level, value, wanted) in DESCRIPTIONS {
         check_description(&rt, rt.alloc(), &Place::new(prefix, level), value, wanted);
     }
-}
-
-fn deepest(prefix: &str) -> Place<'_> {
-    Place::new(Some(prefix), usize::MAX)
-}
-
-/// What takes no more ends the writing at once, and so does an empty prefix.
-#[test]
-fn ends_at_once(rt: HostRuntime) {
     let mut out = OnePiece { pieces: 0 };
-    write_description(&mut out, &deepest("  "), "a\nb");
+    let deepest = Place::new(Some("  "), usize::MAX);
+    write_description(&mut out, &deepest, "a\nb");
     assert!(rt; out.is_stopped());
-    let mut out = blank_page(rt.alloc());
-    write_first_indent(&mut out, &deepest(""));
-    check_page(&rt, &out, "");
 }

@@ -11,6 +11,7 @@ use graphql_text::writers::{
     write_tight, write_words,
 };
 use std::alloc::Global;
+use std::process::Abort;
 
 fn page_at(alloc: Global, place: Place<'_>) -> Page
     requires { place.level < 100 }
@@ -36,39 +37,46 @@ fn page_at(alloc: Global, place: Place<'_>) -> Page
     out
 }
 
-/// A prefix, a level, and the text of a list and two names, and a third one after a blank.
-#[test]
-fn at_several_places(rt: HostRuntime) {
-    for (prefix, level, wanted) in [
-        (Some("  "), 0, "[\n  1,\n  1.5,\n]\na b\n\nc\n"),
-        (Some("\t"), 1, "\t[\n\t\t1,\n\t\t1.5,\n\t]\n\ta b\n\n\tc\n"),
-        (Some(""), 7, "[\n1,\n1.5,\n]\na b\n\nc\n"),
-        (None, 0, "[1, 1.5] a b c"),
-        (None, 7, "[1, 1.5] a b c"),
-    ] {
-        let page = page_at(rt.alloc(), Place::new(prefix, level));
-        check_text(&rt, page.text.as_str(), wanted);
-        assert!(rt; !page.has_fault, "an empty piece");
-    }
+fn check_page(rt: &impl Abort, page: &Page, wanted: &str) {
+    check_text(rt, page.text.as_str(), wanted);
+    assert!(rt; !page.has_fault, "an empty piece");
 }
 
+/// A prefix, a level, and the text of a list and two names, and a third one after a blank.
+const PAGES: [(Option<&str>, usize, &str); 5] = [
+    (Some("  "), 0, "[\n  1,\n  1.5,\n]\na b\n\nc\n"),
+    (Some("\t"), 1, "\t[\n\t\t1,\n\t\t1.5,\n\t]\n\ta b\n\n\tc\n"),
+    (Some(""), 7, "[\n1,\n1.5,\n]\na b\n\nc\n"),
+    (None, 0, "[1, 1.5] a b c"),
+    (None, 7, "[1, 1.5] a b c"),
+];
+
 /// A prefix, a level, and what stands before the closing bracket of a group.
+const ENDS: [(Option<&str>, usize, &str); 5] = [
+    (Some("  "), 1, ",\n  "),
+    (
+        Some("  "),
+        31,
+        ",\n                                                              ",
+    ),
+    (Some(" \t"), 2, ",\n \t \t"),
+    (Some(""), 7, ",\n"),
+    (None, 7, ""),
+];
+
+/// The first indent of an empty prefix ends at once, at the greatest level too.
 #[test]
-fn ends_of_groups(rt: HostRuntime) {
-    for (prefix, level, wanted) in [
-        (Some("  "), 1, ",\n  "),
-        (
-            Some("  "),
-            31,
-            ",\n                                                              ",
-        ),
-        (Some(" \t"), 2, ",\n \t \t"),
-        (Some(""), 7, ",\n"),
-        (None, 7, ""),
-    ] {
+fn at_several_places(rt: HostRuntime) {
+    for (prefix, level, wanted) in PAGES {
+        let page = page_at(rt.alloc(), Place::new(prefix, level));
+        check_page(&rt, &page, wanted);
+    }
+    for (prefix, level, wanted) in ENDS {
         let mut out = blank_page(rt.alloc());
         write_comma_end(&mut out, &Place::new(prefix, level));
-        check_text(&rt, out.text.as_str(), wanted);
-        assert!(rt; !out.has_fault, "an empty piece");
+        check_page(&rt, &out, wanted);
     }
+    let mut out = blank_page(rt.alloc());
+    write_first_indent(&mut out, &Place::new(Some(""), usize::MAX));
+    check_page(&rt, &out, "");
 }

@@ -36,7 +36,7 @@ fn check_counted(rt: &impl Abort, tree: &Value, room: usize, counts: Counts) {
     assert_eq!(rt; sink.wrong_calls, 0, "{room}");
 }
 
-/// How many items of one byte a list has, and the room.
+/// How many ints or names in place, each of one byte, a list has, and the room.
 const SMALL: [(usize, usize, Counts); 7] = [
     (1, 9, (1, 6, 0)),
     (1, 3, (1, 0, 0)),
@@ -54,6 +54,12 @@ fn long_name(rt: &impl Abort, alloc: Global, length: usize) -> Node<Value> {
     Node::new(alloc, Value::Enum(name)).expect(rt, "memory")
 }
 
+/// An enum value of one letter, whose name stands in place.
+fn name_in_place(rt: &impl Abort, alloc: Global) -> Node<Value> {
+    let name = Name::compact(alloc, "x").expect(rt, "a name");
+    Node::new(alloc, Value::Enum(name)).expect(rt, "memory")
+}
+
 /// How many letters the items of a list of two have, and the room.
 const LONG: [(usize, usize, Counts); 3] = [
     (1025, 3000, (5, 946, 0)),
@@ -64,10 +70,13 @@ const LONG: [(usize, usize, Counts); 3] = [
 /// Small pieces are gathered, and long ones aren't copied.
 #[test]
 fn pieces_of_each_length(rt: HostRuntime) {
-    let item = number(rt.alloc(), 1).expect(&rt, "memory");
+    let number = number(rt.alloc(), 1).expect(&rt, "memory");
+    let name = name_in_place(&rt, rt.alloc());
     for (count, room, counts) in SMALL {
-        let list = repeated(rt.alloc(), &item, count).expect(&rt, "memory");
-        check_counted(&rt, &list, room, counts);
+        for item in [&number, &name] {
+            let list = repeated(rt.alloc(), item, count).expect(&rt, "memory");
+            check_counted(&rt, &list, room, counts);
+        }
     }
     for (length, room, counts) in LONG {
         let item = long_name(&rt, rt.alloc(), length);

@@ -2,12 +2,21 @@
 use crate::checks::{check_made, check_text};
 use graphql_base::name::Name;
 use graphql_base::node::Node;
-use graphql_text::engine::Syntax;
+use graphql_text::engine::{Serialize, Syntax};
 use graphql_text::sink::{TextSink, VecSink};
+use graphql_values::input_value_definition::InputValueDefinition;
 use graphql_values::literal::IntValue;
+use graphql_values::types::Type;
 use graphql_values::value::Value;
 use std::alloc::Global;
 use std::process::Abort;
+
+fn check_print<T: Syntax>(rt: &impl Abort, alloc: Global, print: Serialize<'_, T>, wanted: &str) {
+    check_made(rt, print.to_text(alloc), wanted);
+    let mut sink = VecSink::new(alloc);
+    assert_eq!(rt; print.print_to(&mut sink), Ok(()));
+    assert_eq!(rt; sink.bytes(), wanted.as_bytes());
+}
 
 fn enum_value(rt: &impl Abort, alloc: Global, text: &str) -> Node<Value> {
     let name = Name::new(alloc, text).expect(rt, "a name");
@@ -27,11 +36,7 @@ fn check_piece(rt: &impl Abort, alloc: Global, filler: usize, piece: Node<Value>
     let items = vec![in alloc; first, piece, enum_value(rt, alloc, "y")].expect(rt, "memory");
     let list = Value::List(items);
     let wanted = format!(in alloc; "[{before}, {text}, y]").expect(rt, "memory");
-    let print = list.serialize().no_indent();
-    check_made(rt, print.to_text(alloc), wanted.as_str());
-    let mut sink = VecSink::new(alloc);
-    assert_eq!(rt; print.print_to(&mut sink), Ok(()));
-    assert_eq!(rt; sink.bytes(), wanted.as_bytes());
+    check_print(rt, alloc, list.serialize().no_indent(), wanted.as_str());
 }
 
 /// A string of so many letters, and but for none a name of as many and an int of as many digits.
@@ -56,6 +61,45 @@ fn pieces_about_the_end_of_the_buffer(rt: HostRuntime) {
         for filler in 978..1024 {
             check_pieces(&rt, rt.alloc(), filler, length);
         }
+    }
+}
+
+/// Prints the tree behind each number of blanks that the buffer holds: they stand as the indentation of the first line.
+fn check_at_each_fill_level<T: Syntax>(rt: &impl Abort, alloc: Global, tree: &T, text: &str) {
+    let mut blanks = String::new(alloc);
+    for _ in 0..=1024 {
+        let mut wanted = blanks.clone().expect(rt, "memory");
+        add(rt, &mut wanted, text);
+        let print = Serialize::new(tree)
+            .indent_prefix(blanks.as_str())
+            .initial_indent_level(1);
+        check_print(rt, alloc, print, wanted.as_str());
+        add(rt, &mut blanks, " ");
+    }
+}
+
+/// The name alone, and the input value `NAME: NAME!`.
+fn check_name(rt: &impl Abort, alloc: Global, text: &str) {
+    let name = Name::compact(alloc, text).expect(rt, "a name");
+    let value = Value::Enum(name.clone().expect(rt, "memory"));
+    check_at_each_fill_level(rt, alloc, &value, text);
+    let ty = Type::NonNullNamed(name.clone().expect(rt, "memory"));
+    let ty = Node::new(alloc, ty).expect(rt, "memory");
+    let mut wanted = String::new(alloc);
+    for part in [text, ": ", text, "!"] {
+        add(rt, &mut wanted, part);
+    }
+    let input = InputValueDefinition::new(alloc, name, ty);
+    check_at_each_fill_level(rt, alloc, &input, wanted.as_str());
+}
+
+/// Names of each length up to 20: those of at most 18 letters stand in place.
+#[test]
+fn names_at_each_fill_level_of_the_buffer(rt: HostRuntime) {
+    let mut text = String::new(rt.alloc());
+    for letter in "abcdefghijklmnopqrst".chars() {
+        text.push(letter).expect(&rt, "memory");
+        check_name(&rt, rt.alloc(), text.as_str());
     }
 }
 

@@ -2,7 +2,7 @@
 
 ghost use Rattle.std.specs.Prelude.{◌≡◌, Some};
 
-use crate::samples::items;
+use crate::samples::{items, one};
 use graphql_text::engine::PrintError;
 use graphql_text::sink::{SinkFault, StreamSink, TextSink, VecSink};
 use graphql_values::value::Value;
@@ -55,7 +55,7 @@ fn sink_with_room(alloc: Global, room: usize) -> Narrow
 /// What a writer answers to one of its writes.
 #[derive(Clone, Copy, Drop)]
 enum Answer {
-    Interrupted,
+    Fails(ErrorKind),
     None,
     One,
     All,
@@ -74,7 +74,7 @@ impl Write for Told {
         let answer = self.answers[self.writes.min(2)];
         self.writes = self.writes.saturating_add(1);
         let count = match answer {
-            Answer::Interrupted => return Err(io::Error::from(ErrorKind::Interrupted)),
+            Answer::Fails(kind) => return Err(io::Error::from(kind)),
             Answer::None => 0,
             Answer::One => bytes.len().min(1),
             Answer::All => bytes.len(),
@@ -130,17 +130,6 @@ fn print_to_narrow(list: &Value, alloc: Global, room: usize) -> (bool, Narrow) {
     (is_whole, sink)
 }
 
-/// The sink of so many bytes: at the first that it has no room for all ends, with one fault.
-#[test]
-fn one_byte_a_call(rt: HostRuntime) {
-    let list = items(rt.alloc()).expect(&rt, "memory");
-    for room in 0..=25 {
-        let (is_whole, sink) = print_to_narrow(&list, rt.alloc(), room);
-        let taken = room.min(TEXT.len());
-        check_taken(&rt, is_whole, sink.faults, sink.bytes.as_slice(), taken);
-    }
-}
-
 /// Prints the list, and answers whether all of it was taken, how many faults there were, and what was taken.
 fn print_to_memory(list: &Value, alloc: Global) -> (bool, u64, Vec<u8>) {
     let mut sink = StreamSink::new(Vec::new(alloc));
@@ -150,105 +139,88 @@ fn print_to_memory(list: &Value, alloc: Global) -> (bool, u64, Vec<u8>) {
     (is_whole && is_empty_taken, faults, sink.into_inner())
 }
 
+/// A sink that takes one byte a call has room for so many: at the first that it has no room for all ends, with one fault,
+/// however many pieces are left. Sinks in memory take all.
 #[test]
-fn sinks_in_memory_take_all(rt: HostRuntime) {
+fn prints_are_whole_or_end_at_a_fault(rt: HostRuntime) {
     let list = items(rt.alloc()).expect(&rt, "memory");
+    for room in 0..=25 {
+        let (is_whole, sink) = print_to_narrow(&list, rt.alloc(), room);
+        let taken = room.min(TEXT.len());
+        check_taken(&rt, is_whole, sink.faults, sink.bytes.as_slice(), taken);
+    }
+    let mut sink = StreamSink::new(Cursor::new([0; 3]));
+    let deepest = Value::Null.serialize().initial_indent_level(usize::MAX);
+    let printed = deepest.print_to(&mut sink);
+    assert_eq!(rt; (printed, sink.faults()), (Err(PrintError::Sink), 1));
+    assert_eq!(rt; sink.into_inner().into_inner(), *b"   ");
+    let mut sink = StreamSink::new(Cursor::new([0; 3]));
+    let one = one(rt.alloc()).expect(&rt, "memory");
+    let too_deep = one.serialize().initial_indent_level(usize::MAX);
+    let printed = too_deep.print_to(&mut sink);
+    let wanted = Err(PrintError::LevelOverflow);
+    assert_eq!(rt; (printed, sink.faults()), (wanted, 0));
+    assert_eq!(rt; sink.into_inner().position(), 0);
     let (is_whole, sink) = print_to_vector(&list, rt.alloc());
+    let twice = b"[1, EXAMPLE, true, null][1, EXAMPLE, true, null]".as_slice();
     assert!(rt; is_whole);
-    assert_eq!(rt;
-        (sink.bytes(), sink.faults()),
-        (
-            b"[1, EXAMPLE, true, null][1, EXAMPLE, true, null]".as_slice(),
-            0
-        )
-    );
+    assert_eq!(rt; (sink.bytes(), sink.faults()), (twice, 0));
     assert_eq!(rt; sink.into_bytes().len(), 48);
     let (is_whole, faults, bytes) = print_to_memory(&list, rt.alloc());
     check_taken(&rt, is_whole, faults, bytes.as_slice(), TEXT.len());
 }
 
-/// What the writer answers, in how many writes all ends, how many bytes are taken then, and whether it answered an error.
-/// A write that takes nothing is a fault without one.
-const AWKWARD: [([Answer; 3], usize, usize, bool); 6] = [
-    ([Answer::Interrupted, Answer::All, Answer::All], 1, 0, true),
-    ([Answer::None, Answer::All, Answer::All], 1, 0, false),
-    ([Answer::One, Answer::One, Answer::Interrupted], 3, 2, true),
-    ([Answer::One, Answer::None, Answer::All], 2, 1, false),
-    ([Answer::One, Answer::One, Answer::One], 24, 24, false),
+const FAILS: Answer = Answer::Fails(ErrorKind::Interrupted);
+
+/// What the writer answers, in how many writes all ends, how many bytes are taken then, and the error that it answered, if it
+/// did. A write that takes nothing is a fault without one.
+const AWKWARD: [([Answer; 3], usize, usize, Option<ErrorKind>); 6] = [
     (
-        [Answer::All, Answer::Interrupted, Answer::Interrupted],
+        [FAILS, Answer::All, Answer::All],
         1,
-        24,
-        false,
+        0,
+        Some(ErrorKind::Interrupted),
     ),
+    ([Answer::None, Answer::All, Answer::All], 1, 0, None),
+    (
+        [Answer::One, Answer::One, FAILS],
+        3,
+        2,
+        Some(ErrorKind::Interrupted),
+    ),
+    ([Answer::One, Answer::None, Answer::All], 2, 1, None),
+    ([Answer::One, Answer::One, Answer::One], 24, 24, None),
+    ([Answer::All, FAILS, FAILS], 1, 24, None),
 ];
 
-/// Nothing is tried again.
+/// Errors of one writer, one after another.
+const ERRORS: [ErrorKind; 3] = [
+    ErrorKind::Interrupted,
+    ErrorKind::NotFound,
+    ErrorKind::PermissionDenied,
+];
+
+/// Nothing is tried again, and of several errors the sink has the last.
 #[test]
 fn awkward_writers(rt: HostRuntime) {
     let list = items(rt.alloc()).expect(&rt, "memory");
-    for (answers, writes, taken, has_error) in AWKWARD {
+    for (answers, writes, taken, error) in AWKWARD {
         let (is_whole, faults, last, writer) = print_to_writer(&list, rt.alloc(), answers);
         assert_eq!(rt; writer.writes, writes);
         check_taken(&rt, is_whole, faults, writer.bytes.as_slice(), taken);
-        let wanted = if has_error {
-            Some(ErrorKind::Interrupted)
-        } else {
-            None
-        };
-        assert_eq!(rt; last, wanted);
+        assert_eq!(rt; last, error);
     }
-}
-
-/// Takes nothing, and answers one kind of error and then another.
-#[derive(Drop)]
-struct Failing {
-    writes: usize,
-}
-
-impl Write for Failing {
-    fn write(&mut self, _bytes: &[u8]) -> io::Result<usize> {
-        self.writes = self.writes.saturating_add(1);
-        Err(io::Error::from(match self.writes {
-            1 => ErrorKind::Interrupted,
-            2 => ErrorKind::NotFound,
-            _ => ErrorKind::PermissionDenied,
-        }))
-    }
-
-    fn flush(&mut self) -> io::Result<()> {
-        Ok(())
-    }
-}
-
-/// One error after another: the sink has the last.
-#[test]
-fn the_last_error_is_kept(rt: HostRuntime) {
-    let mut sink = StreamSink::new(Failing { writes: 0 });
+    let mut sink = StreamSink::new(Told {
+        answers: ERRORS.map(Answer::Fails),
+        writes: 0,
+        bytes: Vec::new(rt.alloc()),
+    });
     assert!(rt; sink.last_error().is_none());
-    for wanted in [
-        ErrorKind::Interrupted,
-        ErrorKind::NotFound,
-        ErrorKind::PermissionDenied,
-    ] {
+    for wanted in ERRORS {
         assert!(rt; sink.faults() < 3);
-        assert_eq!(rt;
-            Value::Null.serialize().print_to(&mut sink),
-            Err(PrintError::Sink)
-        );
+        let printed = Value::Null.serialize().print_to(&mut sink);
+        assert_eq!(rt; printed, Err(PrintError::Sink));
         assert_eq!(rt; sink.last_error().map(|error| error.kind()), Some(wanted));
     }
     assert_eq!(rt; sink.faults(), 3);
-}
-
-/// However many pieces are left.
-#[test]
-fn a_print_stops_at_a_fault(rt: HostRuntime) {
-    let mut sink = StreamSink::new(Cursor::new([0; 3]));
-    let printed = Value::Null
-        .serialize()
-        .initial_indent_level(usize::MAX)
-        .print_to(&mut sink);
-    assert_eq!(rt; (printed, sink.faults()), (Err(PrintError::Sink), 1));
-    assert_eq!(rt; sink.into_inner().into_inner(), *b"   ");
 }

@@ -16,6 +16,7 @@ use graphql_values::types::Type;
 use graphql_values::value::Value;
 use indexmap::IndexMap;
 use std::alloc::{AllocError, Global};
+use std::process::Abort;
 
 fn argument(
     alloc: Global,
@@ -141,33 +142,14 @@ fn lend(directive: &mut Directive, name: &str) -> bool {
     directive.specified_argument_by_name_mut(name).is_ok()
 }
 
-#[test]
-fn what_is_lent(rt: HostRuntime) {
-    let alloc = rt.alloc();
-    for (name, wanted) in [
-        ("x", (true, [false, true])),
-        ("y", (true, [true, false])),
-        ("z", (false, [true, true])),
-    ] {
-        let other = directive(alloc, 2).expect(&rt, "memory");
-        let mut lent = other.clone().expect(&rt, "memory");
-        let is_lent = lend(&mut lent, name);
-        assert_eq!(rt; (is_lent, sharing(&mut lent)), wanted, "{name}");
-        assert!(rt; lent == other, "{name}");
-    }
-    let other = directive(alloc, 2).expect(&rt, "memory");
-    let mut lent = other.clone().expect(&rt, "memory");
-    set_argument(&mut lent, "y", number(alloc, 3).expect(&rt, "memory")).expect(&rt, "memory");
-    assert!(rt; lent == directive(alloc, 3).expect(&rt, "memory"));
-    assert!(rt; other == directive(alloc, 2).expect(&rt, "memory"));
-}
-
-#[test]
-fn errors_of_memory(rt: HostRuntime) {
-    let mut bare = Directive::new(rt.alloc(), name!(a));
-    let error = bare.specified_argument_by_name_mut("x").err();
-    assert!(rt; error.is_some_and(|error| !error.is_memory()));
-    assert!(rt; SpecifiedArgumentError::Memory.is_memory());
+/// A directive that shares its arguments with another lends the value of this name, or has none of it. Both stay as they
+/// were.
+fn check_lent(rt: &impl Abort, alloc: Global, name: &str, is_there: bool, shared: [bool; 2]) {
+    let other = directive(alloc, 2).expect(rt, "memory");
+    let mut lent = other.clone().expect(rt, "memory");
+    let is_lent = lend(&mut lent, name);
+    assert_eq!(rt; (is_lent, sharing(&mut lent)), (is_there, shared), "{name}");
+    assert!(rt; lent == other, "{name}");
 }
 
 /// `@a(x: 1, y: 2, x: 1, y: 3)`
@@ -191,21 +173,32 @@ fn specified(directive: &Directive, name: &str) -> Option<i32> {
     directive.specified_argument_by_name(name)?.to_i32()
 }
 
+/// That of the first argument of the name, which then is no other directive's.
 #[test]
-fn the_first_of_a_name(rt: HostRuntime) {
-    let mut repeated = repeated(rt.alloc()).expect(&rt, "memory");
-    assert_eq!(rt; specified(&repeated, "y"), Some(2));
-    for name in ["z", "Y", ""] {
-        assert!(rt;
-            repeated.specified_argument_by_name(name).is_none(),
-            "{name}"
-        );
+fn specified_values_are_found_and_lent(rt: HostRuntime) {
+    let alloc = rt.alloc();
+    let mut repeated = repeated(alloc).expect(&rt, "memory");
+    for (name, wanted) in [("y", Some(2)), ("z", None), ("Y", None), ("", None)] {
+        let is_there = repeated.specified_argument_by_name(name).is_some();
+        assert_eq!(rt; is_there, wanted.is_some(), "{name}");
+        assert_eq!(rt; specified(&repeated, name), wanted, "{name}");
     }
-    let four = number(rt.alloc(), 4).expect(&rt, "memory");
+    let four = number(alloc, 4).expect(&rt, "memory");
     set_argument(&mut repeated, "y", four).expect(&rt, "memory");
-    let numbers = numbers(rt.alloc(), &repeated).expect(&rt, "memory");
-    assert_eq!(rt;
-        numbers.as_slice(),
-        [Some(1), Some(4), Some(1), Some(3)].as_slice()
-    );
+    let found = numbers(alloc, &repeated).expect(&rt, "memory");
+    let wanted = [Some(1), Some(4), Some(1), Some(3)];
+    assert_eq!(rt; found.as_slice(), wanted.as_slice());
+    check_lent(&rt, alloc, "x", true, [false, true]);
+    check_lent(&rt, alloc, "y", true, [true, false]);
+    check_lent(&rt, alloc, "z", false, [true, true]);
+    let other = directive(alloc, 2).expect(&rt, "memory");
+    let mut lent = other.clone().expect(&rt, "memory");
+    let three = number(alloc, 3).expect(&rt, "memory");
+    set_argument(&mut lent, "y", three).expect(&rt, "memory");
+    assert!(rt; lent == directive(alloc, 3).expect(&rt, "memory"));
+    assert!(rt; other == directive(alloc, 2).expect(&rt, "memory"));
+    let mut bare = Directive::new(alloc, name!(a));
+    let error = bare.specified_argument_by_name_mut("x").err();
+    assert!(rt; error.is_some_and(|error| !error.is_memory()));
+    assert!(rt; SpecifiedArgumentError::Memory.is_memory());
 }

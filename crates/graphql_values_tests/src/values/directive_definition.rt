@@ -1,10 +1,9 @@
-//! Worked definitions.
+//! Arguments of worked definitions.
 ghost use Rattle.std.specs.Prelude.{◌≡◌};
 ghost use Rattle.std.specs.Bool.{OnFalse, OnTrue};
 ghost use Rattle.graphql_values.specs.code.Loans.{first_changed};
 ghost use Rattle.graphql_values.specs.code.Queries.{is_input_value_definition_named};
 
-use crate::checks::{check_printed, check_text};
 use graphql_base::name;
 use graphql_base::name::Name;
 use graphql_base::node::{Node, NodeStr};
@@ -12,9 +11,7 @@ use graphql_values::directive_definition::DirectiveDefinition;
 use graphql_values::directive_location::DirectiveLocation;
 use graphql_values::input_value_definition::InputValueDefinition;
 use graphql_values::types::Type;
-use graphql_values::value::Value;
 use std::alloc::{AllocError, Global};
-use std::collections::HashSet;
 
 fn argument(alloc: Global, name: Name, ty: Name) -> Result<Node<InputValueDefinition>, AllocError> {
     let ty = Node::new(alloc, Type::Named(ty))?;
@@ -33,7 +30,7 @@ fn arguments(alloc: Global) -> Result<Vec<Node<InputValueDefinition>>, AllocErro
 }
 
 /// `directive @d(a: A, b: B, a: C) on FIELD`, with the same description each
-fn definition(alloc: Global) -> Result<DirectiveDefinition, AllocError> {
+pub(super) fn definition(alloc: Global) -> Result<DirectiveDefinition, AllocError> {
     let mut definition = DirectiveDefinition::new(alloc, name!(d));
     definition.arguments = arguments(alloc)?;
     definition.locations.push(DirectiveLocation::Field)?;
@@ -84,41 +81,4 @@ fn arguments_by_name(rt: HostRuntime) {
         assert_eq!(rt; found, after, "{name} after");
     }
     assert!(rt; changed.argument_by_name_mut("z").is_none());
-}
-
-#[test]
-fn new_inputs(rt: HostRuntime) {
-    let alloc = rt.alloc();
-    let int = Node::new(alloc, Type::Named(name!(Int))).expect(&rt, "memory");
-    let input = InputValueDefinition::new(alloc, name!(a), int);
-    check_printed(&rt, &input, "a: Int");
-    let null = Node::new(alloc, Value::Null).expect(&rt, "memory");
-    for (ty, default_value, is_required) in [
-        (Type::NonNullNamed(name!(Int)), None, true),
-        (Type::NonNullNamed(name!(Int)), Some(null), false),
-        (Type::Named(name!(Int)), None, false),
-    ] {
-        let ty = Node::new(alloc, ty).expect(&rt, "memory");
-        let mut input = InputValueDefinition::new(alloc, name!(a), ty);
-        input.default_value = default_value;
-        assert_eq!(rt; input.is_required(), is_required, "{input}");
-    }
-}
-
-#[test]
-fn definitions(rt: HostRuntime) {
-    let alloc = rt.alloc();
-    let bare = DirectiveDefinition::new(alloc, name!(d));
-    check_text(&rt, bare.name.as_str(), "d");
-    assert!(rt; bare.description.is_none() && bare.arguments.is_empty());
-    assert!(rt; !bare.repeatable && bare.locations.is_empty());
-    let mut changed = definition(alloc).expect(&rt, "memory");
-    let same = definition(alloc).expect(&rt, "memory");
-    assert!(rt; changed == same);
-    let mut set = HashSet::new(alloc);
-    set.insert(definition(alloc).expect(&rt, "memory"))
-        .expect(&rt, "memory");
-    assert!(rt; set.contains(&same));
-    changed.repeatable = true;
-    assert!(rt; changed != same);
 }

@@ -6,6 +6,7 @@ use graphql_base::node::Node;
 use graphql_values::directive::Directive;
 use graphql_values::directive_list::DirectiveList;
 use std::alloc::{AllocError, Global};
+use std::process::Abort;
 
 fn node(alloc: Global, name: Name, number: i32) -> Result<Node<Directive>, AllocError> {
     let bare = Directive::new(alloc, name);
@@ -59,22 +60,23 @@ fn look_ups(rt: HostRuntime) {
 }
 
 /// None is handed back where memory is ample.
-#[test]
-fn pushes(rt: HostRuntime) {
-    let mut list = DirectiveList::new(rt.alloc());
+fn pushed(rt: &impl Abort, alloc: Global, count: i32) -> DirectiveList {
+    let mut list = DirectiveList::new(alloc);
     assert!(rt; list.is_empty());
-    for count in 1..101 {
-        let node = node(rt.alloc(), name!(a), count).expect(&rt, "memory");
-        assert!(rt; list.push(node).is_ok(), "{count}");
+    for argument in 1..count.saturating_add(1) {
+        let node = node(alloc, name!(a), argument).expect(rt, "memory");
+        assert!(rt; list.push(node).is_ok(), "{argument}");
     }
-    assert_eq!(rt; list.len(), 100);
-    assert_eq!(rt; list.get("a").and_then(number), Some(1));
-    assert_eq!(rt; list.last().and_then(number), Some(100));
+    list
 }
 
 #[test]
-fn the_nodes_are_collected_and_lent(rt: HostRuntime) {
+fn nodes_are_pushed_collected_and_gone_over(rt: HostRuntime) {
     let alloc = rt.alloc();
+    let pushed = pushed(&rt, alloc, 100);
+    assert_eq!(rt; pushed.len(), 100);
+    assert_eq!(rt; pushed.get("a").and_then(number), Some(1));
+    assert_eq!(rt; pushed.last().and_then(number), Some(100));
     let nodes = list(alloc).expect(&rt, "memory").into_iter();
     let mut collected = DirectiveList::collect_from(alloc, nodes).expect(&rt, "memory");
     assert!(rt; collected == list(alloc).expect(&rt, "memory"));
@@ -83,12 +85,8 @@ fn the_nodes_are_collected_and_lent(rt: HostRuntime) {
     collected.reverse();
     let first = collected.first().map(|node| node.name.as_str());
     assert_eq!(rt; first, Some("b"));
-}
-
-#[test]
-fn gone_over(rt: HostRuntime) {
-    let mut list = list(rt.alloc()).expect(&rt, "memory");
-    let mut lent = Vec::new(rt.alloc());
+    let mut list = list(alloc).expect(&rt, "memory");
+    let mut lent = Vec::new(alloc);
     for node in &list {
         lent.push(number(node)).expect(&rt, "memory");
     }
@@ -96,7 +94,7 @@ fn gone_over(rt: HostRuntime) {
         node.make_mut().expect(&rt, "memory").name = name!(c);
     }
     assert_eq!(rt; list.get_all("c").count(), 3);
-    let mut taken = Vec::new(rt.alloc());
+    let mut taken = Vec::new(alloc);
     for node in list {
         taken.push(number(&node)).expect(&rt, "memory");
     }

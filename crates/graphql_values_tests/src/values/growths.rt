@@ -1,42 +1,39 @@
-//! How often calls ask for memory. A test `NAME_built` makes what a call is given, and `NAME_then_CALL_takes_COUNT` makes it and
-//! calls. Each fails where any of its growths is refused, and `tools/refused_growths.py` compares how many those are.
-use crate::checks::check_printed;
+//! How often calls ask for memory. `calls_built` makes what the calls are given, and `calls_called` makes it and calls. Where
+//! a request of a call is refused, the test fails, and says which call it was, and how often that asks. With
+//! `tools/refused_growths.py` each is refused in turn: each of these messages has to come as often as it says, and
+//! `calls_called` has to ask so much more often than `calls_built`.
+ghost use Rattle.std.specs.Prelude.{◌<◌};
+
+use crate::checks::{check_taken, printed};
 use crate::samples::{directive, input, items};
+use graphql_text::engine::Syntax;
 use graphql_values::directive::{Directive, SpecifiedArgumentError};
 use std::alloc::{AllocError, Global};
 use std::process::Abort;
 
-#[test]
-fn list_built(rt: HostRuntime) {
-    let _list = items(rt.alloc()).expect(&rt, "memory");
+/// What is done with what is made: nothing, and it has to be there, or the calls.
+#[derive(Clone, Copy, PartialEq, Eq, Debug, Drop)]
+enum Calls {
+    Nothing,
+    Made,
 }
 
-#[test]
-fn list_then_printed_takes_1(rt: HostRuntime) {
-    let list = items(rt.alloc()).expect(&rt, "memory");
-    check_printed(&rt, &list, "[1, EXAMPLE, true, null]");
-}
-
-#[test]
-fn directive_built(rt: HostRuntime) {
-    let _directive = directive(rt.alloc()).expect(&rt, "memory");
-}
-
-#[test]
-fn directive_then_printed_takes_1(rt: HostRuntime) {
-    let directive = directive(rt.alloc()).expect(&rt, "memory");
-    check_printed(&rt, &directive, "@a(x: true, y: false)");
-}
-
-#[test]
-fn input_value_definition_built(rt: HostRuntime) {
-    let _input = input(rt.alloc()).expect(&rt, "memory");
-}
-
-#[test]
-fn input_value_definition_then_printed_takes_2(rt: HostRuntime) {
-    let input = input(rt.alloc()).expect(&rt, "memory");
-    check_printed(&rt, &input, "a: [[I!]] = [[], 1.5]");
+fn check_print<T: Syntax + Drop>(
+    rt: &impl Abort,
+    calls: Calls,
+    made: Result<T, AllocError>,
+    wanted: &str,
+    takes: &str,
+) {
+    let Ok(tree) = made else {
+        assert_eq!(rt; calls, Calls::Made, "{wanted} isn't built");
+        return;
+    };
+    if calls == Calls::Made {
+        let (result, taken) = printed(rt, &tree);
+        assert_eq!(rt; result, Ok(()), "{takes}");
+        check_taken(rt, taken, wanted);
+    }
 }
 
 /// `@a(x: true, y: false)` twice, which share both arguments.
@@ -46,45 +43,78 @@ fn all_shared(alloc: Global) -> Result<(Directive, Directive), AllocError> {
     Ok((directive, copy))
 }
 
-fn check_lent(rt: &impl Abort, directive: &mut Directive, name: &str) {
-    assert!(rt; directive.specified_argument_by_name_mut(name).is_ok());
+/// The same of one of both arguments alone.
+fn one_shared(alloc: Global, index: usize) -> Result<(Directive, Directive), AllocError>
+    requires { index < 2 }
+{
+    let mut directive = directive(alloc)?;
+    if directive.arguments.len() == 2 {
+        directive.arguments.remove(1 - index);
+    }
+    let copy = directive.clone()?;
+    Ok((directive, copy))
+}
+
+/// The values of these names are lent, one after another, or are not there.
+fn check_loans(
+    rt: &impl Abort,
+    calls: Calls,
+    made: Result<(Directive, Directive), AllocError>,
+    (names, are_there, takes): (&[&str], bool, &str),
+) {
+    let Ok((directive, mut lent)) = made else {
+        assert_eq!(rt; calls, Calls::Made, "the directives aren't built");
+        return;
+    };
+    if calls == Calls::Made {
+        for name in names {
+            let error = lent.specified_argument_by_name_mut(name).err();
+            let wanted = (!are_there).then_some(SpecifiedArgumentError::NotSpecified);
+            assert_eq!(rt; error, wanted, "{takes}");
+        }
+    }
+    assert!(rt; lent == directive);
+}
+
+/// Of a directive a value is copied once, where it is lent, and not those that were lent before.
+fn check_all(rt: &impl Abort, calls: Calls, alloc: Global) {
+    let wanted = "[1, EXAMPLE, true, null]";
+    check_print(rt, calls, items(alloc), wanted, "a list takes 1");
+    let wanted = "@a(x: true, y: false)";
+    let made = directive(alloc);
+    check_print(rt, calls, made, wanted, "a directive takes 1");
+    let wanted = "a: [[I!]] = [[], 1.5]";
+    let made = input(alloc);
+    check_print(rt, calls, made, wanted, "an input value takes 2");
+    for loans in [
+        (["x"].as_slice(), true, "a loan of x takes 1"),
+        (["y"].as_slice(), true, "a loan of y takes 1"),
+        (["z"].as_slice(), false, "a loan of z takes 0"),
+        (
+            ["y", "x"].as_slice(),
+            true,
+            "a loan of y, then of x takes 2",
+        ),
+        (
+            ["x", "y"].as_slice(),
+            true,
+            "a loan of x, then of y takes 2",
+        ),
+    ] {
+        check_loans(rt, calls, all_shared(alloc), loans);
+    }
+    let loans = (["x"].as_slice(), true, "a loan of x alone takes 1");
+    check_loans(rt, calls, one_shared(alloc, 0), loans);
+    let loans = (["y"].as_slice(), true, "a loan of y alone takes 1");
+    check_loans(rt, calls, one_shared(alloc, 1), loans);
 }
 
 #[test]
-fn all_shared_built(rt: HostRuntime) {
-    let _both = all_shared(rt.alloc()).expect(&rt, "memory");
+fn calls_built(rt: HostRuntime) {
+    check_all(&rt, Calls::Nothing, rt.alloc());
 }
 
 #[test]
-fn all_shared_then_x_lent_takes_1(rt: HostRuntime) {
-    let (_directive, mut lent) = all_shared(rt.alloc()).expect(&rt, "memory");
-    check_lent(&rt, &mut lent, "x");
-}
-
-#[test]
-fn all_shared_then_y_lent_takes_1(rt: HostRuntime) {
-    let (_directive, mut lent) = all_shared(rt.alloc()).expect(&rt, "memory");
-    check_lent(&rt, &mut lent, "y");
-}
-
-#[test]
-fn all_shared_then_z_not_lent_takes_0(rt: HostRuntime) {
-    let (_directive, mut lent) = all_shared(rt.alloc()).expect(&rt, "memory");
-    let error = lent.specified_argument_by_name_mut("z").err();
-    assert_eq!(rt; error, Some(SpecifiedArgumentError::NotSpecified));
-}
-
-/// Each value once, and not those that were lent before.
-#[test]
-fn all_shared_then_y_and_x_lent_takes_2(rt: HostRuntime) {
-    let (_directive, mut lent) = all_shared(rt.alloc()).expect(&rt, "memory");
-    check_lent(&rt, &mut lent, "y");
-    check_lent(&rt, &mut lent, "x");
-}
-
-#[test]
-fn all_shared_then_x_and_y_lent_takes_2(rt: HostRuntime) {
-    let (_directive, mut lent) = all_shared(rt.alloc()).expect(&rt, "memory");
-    check_lent(&rt, &mut lent, "x");
-    check_lent(&rt, &mut lent, "y");
+fn calls_called(rt: HostRuntime) {
+    check_all(&rt, Calls::Made, rt.alloc());
 }

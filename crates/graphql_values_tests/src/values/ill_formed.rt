@@ -18,17 +18,6 @@ fn at(start: u32, end: u32) -> Option<SourceSpan> {
     SourceSpan::new(FileId::new(7), start, end)
 }
 
-fn node<T: Drop>(
-    alloc: Global,
-    value: T,
-    location: Option<SourceSpan>,
-) -> Result<Node<T>, AllocError> {
-    match location {
-        Some(span) => Node::new_parsed(alloc, value, span),
-        None => Node::new(alloc, value),
-    }
-}
-
 /// The enum value `true`, which is no boolean.
 fn reserved() -> Value {
     Value::Enum(name!("true"))
@@ -44,12 +33,12 @@ fn placed_name() -> Name {
 
 /// `[ITEM]`, where the item stands at a location.
 fn around(alloc: Global, item: Value, location: Option<SourceSpan>) -> Result<Value, AllocError> {
-    Ok(Value::List(vec![in alloc; node(alloc, item, location)?]?))
+    Ok(Value::List(vec![in alloc; Node::new_at(alloc, item, location)?]?))
 }
 
 /// `{a: ITEM}`, where the item stands at a location.
 fn object(alloc: Global, item: Value, location: Option<SourceSpan>) -> Result<Value, AllocError> {
-    let item = node(alloc, item, location)?;
+    let item = Node::new_at(alloc, item, location)?;
     Ok(Value::Object(vec![in alloc; (name!(a), item)]?))
 }
 
@@ -84,13 +73,13 @@ fn placed_list(
     argument: Option<SourceSpan>,
     directive: Option<SourceSpan>,
 ) -> Result<DirectiveList, AllocError> {
-    let value = node(alloc, Value::Enum(name), value)?;
-    let argument = node(alloc, Argument::new(name!(a), value), argument)?;
+    let value = Node::new_at(alloc, Value::Enum(name), value)?;
+    let argument = Node::new_at(alloc, Argument::new(name!(a), value), argument)?;
     let parent = Directive {
         arguments: vec![in alloc; argument]?,
         ..Directive::new(alloc, name!(d))
     };
-    Ok(DirectiveList(vec![in alloc; node(alloc, parent, directive)?]?))
+    Ok(DirectiveList(vec![in alloc; Node::new_at(alloc, parent, directive)?]?))
 }
 
 fn placed_lists(alloc: Global) -> Result<Vec<(DirectiveList, Option<Flaw>)>, AllocError> {
@@ -137,7 +126,7 @@ fn placed_input(
 ) -> Result<InputValueDefinition, AllocError> {
     let mut input = InputValueDefinition::new(alloc, name!("true"), Node::new(alloc, ty!(Int))?);
     if let Some(location) = first {
-        input.default_value = Some(node(alloc, reserved(), location)?);
+        input.default_value = Some(Node::new_at(alloc, reserved(), location)?);
     }
     input.directives = placed_list(alloc, name!("true"), second, None, None)?;
     Ok(input)
@@ -163,7 +152,7 @@ fn placed_definition(
 ) -> Result<DirectiveDefinition, AllocError> {
     let input = placed_input(alloc, Some(value), None)?;
     Ok(DirectiveDefinition {
-        arguments: vec![in alloc; node(alloc, input, argument)?]?,
+        arguments: vec![in alloc; Node::new_at(alloc, input, argument)?]?,
         ..DirectiveDefinition::new(alloc, placed_name())
     })
 }

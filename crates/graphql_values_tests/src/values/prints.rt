@@ -1,9 +1,12 @@
-//! Whole prints of the five kinds, where memory is ample. How trees are laid out is told by the cases of another program.
-use crate::checks::check_text;
-use crate::samples::{definition, directive, directives, input, nested};
+//! Prints of the five kinds, where memory is ample. How trees are laid out is told by the cases of another program.
+use crate::checks::{Page, check_made, check_text};
+use crate::samples::{definition, directive, directives, input, nested, one};
 use graphql_text::engine::{Serialize, Syntax};
 use graphql_text::sink::{TextSink, VecSink};
+use graphql_values::ty;
+use graphql_values::value::Value;
 use std::alloc::Global;
+use std::fmt::{self, Write};
 use std::process::Abort;
 
 /// The print as a text, and into a sink.
@@ -39,4 +42,21 @@ fn of_each_kind(rt: HostRuntime) {
     let definition = definition(alloc).expect(&rt, "memory");
     let wanted = "directive @d(a: [[I!]] = [[], 1.5])";
     check_print(&rt, alloc, definition.serialize(), wanted);
+}
+
+/// Width and precision do not reach trees, and a writer that refuses ends the print.
+#[test]
+fn into_formatters(rt: HostRuntime) {
+    let alloc = rt.alloc();
+    let list = one(alloc).expect(&rt, "memory");
+    let print = list.serialize();
+    let number = Value::from_i32(alloc, 47).expect(&rt, "memory");
+    let ty = ty!(in alloc; [Foo!]!).expect(&rt, "memory");
+    check_made(&rt, format!(in alloc; "{list:>9.1}"), "[\n  1,\n]");
+    check_made(&rt, format!(in alloc; "{print:>9.1}"), "[\n  1,\n]");
+    check_made(&rt, format!(in alloc; "{number:>9.1}"), "47");
+    check_made(&rt, format!(in alloc; "{ty:>9.1}"), "[Foo!]!");
+    let mut page = Page::new();
+    let print = list.serialize().initial_indent_level(24);
+    assert_eq!(rt; write!(page, "{print}"), Err(fmt::Error));
 }

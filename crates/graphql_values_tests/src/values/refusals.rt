@@ -3,11 +3,14 @@
 mod made;
 mod prints;
 
+use crate::checks::{check_cloned, check_printed, check_text};
 use crate::samples::{directive, directives};
 use graphql_base::name;
 use graphql_base::node::Node;
 use graphql_values::directive::{Directive, SpecifiedArgumentError};
 use graphql_values::directive_list::DirectiveList;
+use graphql_values::literal::{FloatValue, IntValue};
+use graphql_values::value::Value;
 
 /// No memory is asked for what is not specified, nor of one owner.
 /// Allocations: 12.
@@ -55,4 +58,32 @@ fn nodes_are_pushed_and_collected_or_handed_back(rt: HostRuntime) {
     if let Ok(collected) = DirectiveList::collect_from(alloc, list.into_iter()) {
         assert!(rt; collected == before);
     }
+}
+
+/// For short literals, and for trees without lists and arguments.
+#[test]
+fn no_memory_is_asked_for(rt: HostRuntime) {
+    let alloc = rt.alloc();
+    for made in [
+        IntValue::from_i32(alloc, -2147483648),
+        IntValue::from_i64(alloc, -9223372036854775808),
+    ] {
+        check_cloned(&rt, &made.expect(&rt, "no memory"));
+    }
+    let int = IntValue::new(alloc, "-12").expect(&rt, "no memory");
+    check_text(&rt, int.as_str(), "-12");
+    let text = "1.5000000000000000000000000002";
+    let float = FloatValue::new_parsed(alloc, text).expect(&rt, "no memory");
+    check_text(&rt, float.as_str(), text);
+    check_cloned(&rt, &float);
+    let float = FloatValue::new(alloc, text).expect(&rt, "no memory");
+    assert_eq!(rt; float.as_str().len(), 30);
+    for (value, wanted) in [
+        (Value::Null, "null"),
+        (Value::Enum(name!(ON)), "ON"),
+        (Value::List(Vec::new(alloc)), "[]"),
+    ] {
+        check_printed(&rt, &value, wanted);
+    }
+    check_printed(&rt, &Directive::new(alloc, name!(a)), "@a");
 }

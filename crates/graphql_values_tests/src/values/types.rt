@@ -1,9 +1,8 @@
 //! Worked types.
 use crate::checks::{check_made, check_text};
 use graphql_base::name;
-use graphql_base::span::{FileId, SourceSpan};
 use graphql_values::ty;
-use graphql_values::types::{NamedType, Type};
+use graphql_values::types::Type;
 use std::alloc::{AllocError, Global};
 
 /// A type of the tests, by its text.
@@ -55,18 +54,6 @@ const ASSIGNABLE: [(&str, &str, bool); 12] = [
     ("[Foo!]!", "Foo!", false),
 ];
 
-#[test]
-fn assignability(rt: HostRuntime) {
-    for (source, target, is_assignable) in ASSIGNABLE {
-        let given = of_text(rt.alloc(), source).expect(&rt, "memory");
-        let wanted = of_text(rt.alloc(), target).expect(&rt, "memory");
-        assert!(rt;
-            given.is_assignable_to(&wanted) == is_assignable,
-            "{source} to {target}"
-        );
-    }
-}
-
 /// A type, its item type, and whether it is a list, named and not null.
 const ITEMS: [(&str, &str, [bool; 3]); 2] = [
     ("[Foo!]", "Foo!", [true, false, false]),
@@ -74,7 +61,7 @@ const ITEMS: [(&str, &str, [bool; 3]); 2] = [
 ];
 
 #[test]
-fn texts_and_parts(rt: HostRuntime) {
+fn texts_parts_and_assignability(rt: HostRuntime) {
     for text in TEXTS {
         let ty = of_text(rt.alloc(), text).expect(&rt, "memory");
         check_made(&rt, format!(in rt.alloc(); "{ty}"), text);
@@ -83,10 +70,14 @@ fn texts_and_parts(rt: HostRuntime) {
         let ty = of_text(rt.alloc(), text).expect(&rt, "memory");
         let wanted = of_text(rt.alloc(), item).expect(&rt, "memory");
         assert!(rt; *ty.item_type() == wanted, "{text}");
-        assert!(rt;
-            [ty.is_list(), ty.is_named(), ty.is_non_null()] == kinds,
-            "{text}"
-        );
+        let found = [ty.is_list(), ty.is_named(), ty.is_non_null()];
+        assert_eq!(rt; found, kinds, "{text}");
+    }
+    for (source, target, is_assignable) in ASSIGNABLE {
+        let given = of_text(rt.alloc(), source).expect(&rt, "memory");
+        let wanted = of_text(rt.alloc(), target).expect(&rt, "memory");
+        let found = given.is_assignable_to(&wanted);
+        assert_eq!(rt; found, is_assignable, "{source} to {target}");
     }
     let bare = of_text(rt.alloc(), "[Foo!]").expect(&rt, "memory");
     let whole = of_text(rt.alloc(), "[Foo!]!").expect(&rt, "memory");
@@ -95,25 +86,4 @@ fn texts_and_parts(rt: HostRuntime) {
     assert!(rt; nullable.non_null() == whole);
     let nested = of_text(rt.alloc(), "[[a!]]!").expect(&rt, "memory");
     check_text(&rt, nested.inner_named_type().as_str(), "a");
-}
-
-/// A name that stands in a file.
-fn name_in(file: u64) -> NamedType {
-    match SourceSpan::new(FileId::new(file), 1, 4) {
-        Some(span) => name!(Foo).with_location(span),
-        None => name!(Foo),
-    }
-}
-
-/// A clone keeps them, and equality leaves them out.
-#[test]
-fn locations(rt: HostRuntime) {
-    let ty = Type::NonNullNamed(name_in(7))
-        .list(rt.alloc())
-        .expect(&rt, "memory");
-    let copy = ty.clone().expect(&rt, "memory");
-    assert!(rt; copy.inner_named_type().location().is_some());
-    assert_eq!(rt; copy.inner_named_type().location(), name_in(7).location());
-    assert!(rt; ty == of_text(rt.alloc(), "[Foo!]").expect(&rt, "memory"));
-    assert!(rt; ty != of_text(rt.alloc(), "[Foo]").expect(&rt, "memory"));
 }

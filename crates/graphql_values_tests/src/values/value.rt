@@ -15,7 +15,7 @@ fn placed(alloc: Global, file: u64) -> Result<Node<Value>, AllocError> {
 }
 
 /// The list of 1 at a place, and of a variable.
-fn list(alloc: Global, file: u64) -> Result<Value, AllocError> {
+pub(super) fn list(alloc: Global, file: u64) -> Result<Value, AllocError> {
     let items = vec![in alloc;
         placed(alloc, file)?,
         Node::new(alloc, Value::Variable(name!(v)))?,
@@ -23,7 +23,8 @@ fn list(alloc: Global, file: u64) -> Result<Value, AllocError> {
     Ok(Value::List(items))
 }
 
-fn object(alloc: Global, file: u64) -> Result<Value, AllocError> {
+/// `{a: [1, $v], a: null}`, where `null` is an enum value, and 1 stands at a place.
+pub(super) fn object(alloc: Global, file: u64) -> Result<Value, AllocError> {
     let fields = vec![in alloc;
         (name!(a), Node::new(alloc, list(alloc, file)?)?),
         (name!(a), Node::new(alloc, Value::Enum(name!("null")))?),
@@ -48,20 +49,4 @@ fn queries(rt: HostRuntime) {
     let field = value.as_object().and_then(|fields| fields.first());
     let items = field.and_then(|field| field.1.as_list());
     assert_eq!(rt; items.map(|items| items.len()), Some(2));
-}
-
-/// Equality leaves them out, and a clone keeps them.
-#[test]
-fn locations(rt: HostRuntime) {
-    let alloc = rt.alloc();
-    let value = object(alloc, 1).expect(&rt, "memory");
-    assert!(rt; value == object(alloc, 2).expect(&rt, "memory"));
-    let list = list(alloc, 7).expect(&rt, "memory");
-    assert!(rt; value != list);
-    let copy = list.clone().expect(&rt, "memory");
-    let first = copy.as_list().and_then(|items| items.first());
-    assert_eq!(rt;
-        first.and_then(|node| node.location()),
-        SourceSpan::new(FileId::new(7), 3, 4)
-    );
 }

@@ -1,15 +1,12 @@
 //! Trees that are copied, printed and displayed, or refused.
 use crate::checks::{
-    check_cloned_or_refused, check_displayed_or_refused, check_print_or_refused, check_printed,
+    check_cloned_or_refused, check_displayed_or_refused, check_print_or_refused,
     check_text_or_refused,
 };
 use crate::samples::{FORMS, definition, directive, directives, input, items, nested, value_of};
-use graphql_base::name;
 use graphql_text::engine::{PrintError, Syntax};
 use graphql_text::sink::{TextSink, VecSink};
-use graphql_values::directive::Directive;
 use graphql_values::ty;
-use graphql_values::value::Value;
 use std::alloc::{AllocError, Global};
 use std::fmt::Display;
 use std::process::Abort;
@@ -30,63 +27,30 @@ fn check_calls<T: Clone + PartialEq + Display + Syntax + Drop>(
     }
 }
 
-/// Allocations: 16.
+/// Trees of each kind: of a directive and more the text is on one line in each layout.
+/// Allocations: 76.
 #[test]
-fn a_value_is_printed_or_nothing_is(rt: HostRuntime) {
+fn trees_are_copied_printed_and_displayed_or_refused(rt: HostRuntime) {
     let alloc = rt.alloc();
     let displayed = "[\n  [],\n  1.5,\n]";
     check_calls(&rt, alloc, nested(alloc), "[[], 1.5]", displayed);
     if let Ok(value) = items(alloc) {
         check_print_or_refused(&rt, &value, "[1, EXAMPLE, true, null]");
     }
-}
-
-/// Allocations: 12.
-#[test]
-fn a_value_of_each_form_is_copied_or_refused(rt: HostRuntime) {
-    for form in FORMS {
-        if let Ok(value) = value_of(rt.alloc(), form) {
-            check_cloned_or_refused(&rt, &value);
-        }
-    }
-}
-
-#[test]
-fn no_memory_is_asked_without_lists_and_arguments(rt: HostRuntime) {
-    for (value, wanted) in [
-        (Value::Null, "null"),
-        (Value::Enum(name!(ON)), "ON"),
-        (Value::List(Vec::new(rt.alloc())), "[]"),
-    ] {
-        check_printed(&rt, &value, wanted);
-    }
-    check_printed(&rt, &Directive::new(rt.alloc(), name!(a)), "@a");
-}
-
-/// Allocations: 15.
-#[test]
-fn directives_are_printed_or_nothing_is(rt: HostRuntime) {
-    let alloc = rt.alloc();
     let one = "@a(x: true, y: false)";
     check_calls(&rt, alloc, directive(alloc), one, one);
     let two = " @a @b";
     check_calls(&rt, alloc, directives(alloc), two, two);
-}
-
-/// Allocations: 15.
-#[test]
-fn an_input_value_definition_is_printed_or_nothing_is(rt: HostRuntime) {
-    let alloc = rt.alloc();
     let flat = "a: [[I!]] = [[], 1.5]";
     let displayed = "a: [[I!]] = [\n  [],\n  1.5,\n]";
     check_calls(&rt, alloc, input(alloc), flat, displayed);
-}
-
-/// Allocations: 18.
-#[test]
-fn a_definition_is_printed_or_nothing_is(rt: HostRuntime) {
     let text = "directive @d(a: [[I!]] = [[], 1.5])";
-    check_calls(&rt, rt.alloc(), definition(rt.alloc()), text, text);
+    check_calls(&rt, alloc, definition(alloc), text, text);
+    for form in FORMS {
+        if let Ok(value) = value_of(alloc, form) {
+            check_cloned_or_refused(&rt, &value);
+        }
+    }
 }
 
 /// Allocations: 7.

@@ -1,0 +1,103 @@
+//! The words of operation types and of directive locations.
+use crate::checks::check_made;
+use graphql_values::directive_location::DirectiveLocation;
+use graphql_values::operation_type::OperationType;
+
+/// An operation type, its word, the same in twelve columns, the name of its root type, its place for
+/// directives, and whether it is each of the three.
+const OPERATION_TYPES: [(
+    OperationType,
+    &str,
+    &str,
+    &str,
+    DirectiveLocation,
+    [bool; 3],
+); 3] = [
+    (
+        OperationType::Query,
+        "query",
+        "       query",
+        "Query",
+        DirectiveLocation::Query,
+        [true, false, false],
+    ),
+    (
+        OperationType::Mutation,
+        "mutation",
+        "    mutation",
+        "Mutation",
+        DirectiveLocation::Mutation,
+        [false, true, false],
+    ),
+    (
+        OperationType::Subscription,
+        "subscription",
+        "subscription",
+        "Subscription",
+        DirectiveLocation::Subscription,
+        [false, false, true],
+    ),
+];
+
+/// A location, and its word.
+const LOCATIONS: [(DirectiveLocation, &str); 19] = [
+    (DirectiveLocation::Query, "QUERY"),
+    (DirectiveLocation::Mutation, "MUTATION"),
+    (DirectiveLocation::Subscription, "SUBSCRIPTION"),
+    (DirectiveLocation::Field, "FIELD"),
+    (DirectiveLocation::FragmentDefinition, "FRAGMENT_DEFINITION"),
+    (DirectiveLocation::FragmentSpread, "FRAGMENT_SPREAD"),
+    (DirectiveLocation::InlineFragment, "INLINE_FRAGMENT"),
+    (DirectiveLocation::VariableDefinition, "VARIABLE_DEFINITION"),
+    (DirectiveLocation::Schema, "SCHEMA"),
+    (DirectiveLocation::Scalar, "SCALAR"),
+    (DirectiveLocation::Object, "OBJECT"),
+    (DirectiveLocation::FieldDefinition, "FIELD_DEFINITION"),
+    (DirectiveLocation::ArgumentDefinition, "ARGUMENT_DEFINITION"),
+    (DirectiveLocation::Interface, "INTERFACE"),
+    (DirectiveLocation::Union, "UNION"),
+    (DirectiveLocation::Enum, "ENUM"),
+    (DirectiveLocation::EnumValue, "ENUM_VALUE"),
+    (DirectiveLocation::InputObject, "INPUT_OBJECT"),
+    (
+        DirectiveLocation::InputFieldDefinition,
+        "INPUT_FIELD_DEFINITION",
+    ),
+];
+
+/// Some that are shorter than twelve columns, as long or longer.
+const PADDED: [(DirectiveLocation, &str); 3] = [
+    (DirectiveLocation::Field, "       FIELD"),
+    (DirectiveLocation::Subscription, "SUBSCRIPTION"),
+    (DirectiveLocation::FragmentSpread, "FRAGMENT_SPREAD"),
+];
+
+#[test]
+fn of_operation_types_and_locations(rt: HostRuntime) {
+    for (operation_type, word, padded, type_name, location, kinds) in OPERATION_TYPES {
+        assert_eq!(rt; operation_type.name(), word);
+        check_made(&rt, format!(in rt.alloc(); "{operation_type}"), word);
+        check_made(&rt, format!(in rt.alloc(); "{operation_type:>12}"), padded);
+        assert_eq!(rt;
+            operation_type.default_type_name().as_static_str(),
+            Some(type_name)
+        );
+        assert_eq!(rt;
+            [
+                operation_type.is_query(),
+                operation_type.is_mutation(),
+                operation_type.is_subscription(),
+            ],
+            kinds,
+            "{word}"
+        );
+        assert_eq!(rt; DirectiveLocation::from(operation_type), location);
+    }
+    for (location, word) in LOCATIONS {
+        assert_eq!(rt; location.name(), word);
+        check_made(&rt, format!(in rt.alloc(); "{location}"), word);
+    }
+    for (location, wanted) in PADDED {
+        check_made(&rt, format!(in rt.alloc(); "{location:>12}"), wanted);
+    }
+}

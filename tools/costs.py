@@ -8,7 +8,9 @@ Without a word it counts prints and misses. Each number is that of one round: of
 - prints: instructions a byte that is printed to a text, of each tree of docs/COST.md in the default layout and on one line, with names by `Name::compact`
   and, in brackets, with names that have memory of their own;
 - misses: last-level read misses for 1,000 bytes of a document or a list of 1,000, with a cache of 1 MiB, by cachegrind;
-- calls: instructions, in millions, of each operation of op_speed over that document in AST JSON.
+- calls: of each operation of op_speed over that document in AST JSON the instructions, in millions and a byte, and the memory that it asks for, a byte: of
+  the GraphQL that is printed of the tree, or of the AST JSON where that is read or written. Of a look-up the instructions an item of its list. The bytes
+  that a call asks for are those that dhat counts, also where they are given back within it.
 
 It needs valgrind (`apt-get install valgrind` on Debian). The counts of one program don't depend on what else the machine does.
 """
@@ -20,10 +22,13 @@ from concurrent.futures import ThreadPoolExecutor
 from pathlib import Path
 
 CRATES = Path(__file__).resolve().parent.parent / "crates"
-PRINTS = [("objects", 200), ("texts", 1000), ("operations", 200), ("queries", 200), ("types", 500), ("schema", 500), ("document", 440)]
+PRINTS = [("objects", 200), ("texts", 1000), ("escapes", 1000), ("operations", 200), ("queries", 200), ("types", 500), ("schema", 500), ("document", 440)]
 MISSES = [("objects", 1000), ("schema", 1000), ("queries", 1000)]
-CALLS = ["equal", "well_formed", "clone", "look_up", "print", "walk", "rebuild", "read", "write"]
+CALLS = ["equal", "well_formed", "clone", "look_up", "print", "walk", "rebuild", "build", "build_drop", "build_print", "read", "write"]
+FINDS = ["find_directive", "find_argument", "find_field", "find_enum_value", "find_variable", "find_type"]
+ITEMS = 10000
 INSTRUCTIONS = (["--tool=callgrind", "--callgrind-out-file=/dev/null"], re.compile(r"Collected : (\d+)"))
+MEMORY = (["--tool=dhat", "--dhat-out-file=/dev/null"], re.compile(r"Total: +([\d,]+) bytes"))
 READ_MISSES = (
     ["--tool=cachegrind", "--cache-sim=yes", "--LL=1048576,16,64", "--cachegrind-out-file=/dev/null"],
     re.compile(r"LLd misses: +[\d,]+ +\( *([\d,]+) rd"),
@@ -83,10 +88,21 @@ def of_misses(pool):
 
 
 def of_calls(pool, document):
-    asked = [(it, pool.submit(round_of, INSTRUCTIONS, lambda rounds, it=it: [program("op_speed"), it, rounds], document)) for it in CALLS]
-    print(f"millions of instructions, {Path(document).stat().st_size} bytes of AST JSON")
-    for operation, count in asked:
-        print(f"{operation}: {count.result()[0] / 1e6:.3f}", flush=True)
+    def ask(counter, operation):
+        return pool.submit(round_of, counter, lambda rounds: [program("op_speed"), operation, rounds], document)
+
+    counts = {it: ask(INSTRUCTIONS, it) for it in CALLS + FINDS}
+    memory = {it: ask(MEMORY, it) for it in CALLS}
+    found = {it: (counts[it].result()[0], memory[it].result()[0]) for it in CALLS}
+    found["drop"] = (found["build_drop"][0] - found["build"][0], 0)
+    text, json = counts["print"].result()[1], Path(document).stat().st_size
+    bytes_of = {"read": json, "write": json} | {it: counts["build_print"].result()[1] for it in ["build", "build_drop", "drop", "build_print"]}
+    print(f"{json} bytes of AST JSON, {text} of GraphQL, {bytes_of['build']} of what is built: millions of instructions, instructions a byte, bytes of memory a byte")
+    for operation, (instructions, asked) in found.items():
+        size = bytes_of.get(operation, text)
+        print(f"{operation}: {instructions / 1e6:.3f}, {instructions / size:.2f}, {asked / size:.2f}", flush=True)
+    for operation in FINDS:
+        print(f"{operation}: {counts[operation].result()[0] / ITEMS:.1f} instructions an item", flush=True)
 
 
 def main():

@@ -12,13 +12,23 @@
 //! - `look_up`: each argument of each directive of a definition is looked up by its name;
 //! - `print`: the tree is printed to a text, in the default layout;
 //! - `walk`: each node of the tree is visited, and counted;
-//! - `rebuild`: the document is rebuilt by a rewriter that changes nothing, since no field has the name that it looks for.
+//! - `rebuild`: the document is rebuilt by a rewriter that changes nothing, since no field has the name that it looks for;
+//! - `build`: another document of as many definitions is built by constructors and pushes, and forgotten, so that it is not dropped;
+//! - `build_drop`: the same, and dropped;
+//! - `build_print`: the same, but for a print to a text before it is dropped; the number is the length of that;
+//! - `find_directive`, `find_argument`, `find_field`, `find_enum_value`, `find_variable`, `find_type`: the last item of a list of
+//!   10,000 is looked up by its name.
 //!
 //! It prints a number that a round came to.
 #![tactic(auto)]
 
 ghost use Rattle.std.specs.Prelude.{⊤};
 
+mod built;
+mod lists;
+
+use crate::built::build;
+use crate::lists::{Items, Lists};
 use anyhow::{Context, Result, bail};
 use graphql_ast::ast::{Definition, Document};
 use graphql_ast::name;
@@ -29,6 +39,7 @@ use graphql_visit::{NodeRef, Reader, read_document};
 use std::alloc::Global;
 use std::env::Env;
 use std::io::{BufReader, Read};
+use std::mem;
 
 /// What is done in each round.
 #[derive(Clone, Copy)]
@@ -42,9 +53,13 @@ enum Operation {
     Print,
     Walk,
     Rebuild,
+    Build,
+    BuildDrop,
+    BuildPrint,
+    Find(Items),
 }
 
-const OPERATIONS: [(&str, Operation); 9] = [
+const OPERATIONS: [(&str, Operation); 18] = [
     ("read", Operation::Read),
     ("write", Operation::Write),
     ("equal", Operation::Equal),
@@ -54,6 +69,15 @@ const OPERATIONS: [(&str, Operation); 9] = [
     ("print", Operation::Print),
     ("walk", Operation::Walk),
     ("rebuild", Operation::Rebuild),
+    ("build", Operation::Build),
+    ("build_drop", Operation::BuildDrop),
+    ("build_print", Operation::BuildPrint),
+    ("find_directive", Operation::Find(Items::Directives)),
+    ("find_argument", Operation::Find(Items::Arguments)),
+    ("find_field", Operation::Find(Items::Fields)),
+    ("find_enum_value", Operation::Find(Items::EnumValues)),
+    ("find_variable", Operation::Find(Items::Variables)),
+    ("find_type", Operation::Find(Items::Types)),
 ];
 
 /// The word at an index of the command line, in a buffer.
@@ -132,18 +156,43 @@ fn nodes(document: &Document) -> usize {
     count.nodes
 }
 
+/// What the operations are done to.
+#[derive(Drop)]
+struct Subject<'t> {
+    text: &'t str,
+    document: Document,
+    /// The same document, which shares nothing with it.
+    other: Document,
+    lists: Lists,
+}
+
+impl<'t> Subject<'t> {
+    fn read(alloc: Global, text: &'t str) -> Result<Subject<'t>> {
+        Ok(Subject {
+            text,
+            document: read_tree(alloc, text)?,
+            other: read_tree(alloc, text)?,
+            lists: Lists::new(alloc)?,
+        })
+    }
+}
+
+/// How many definitions a document has that was built, and is never dropped.
+fn build_and_forget(alloc: Global, definitions: usize) -> Result<usize> {
+    let document = build(alloc, definitions)?;
+    let count = document.definitions.len();
+    mem::forget(document);
+    Ok(count)
+}
+
 /// One round, and a number that it comes to.
-fn round(
-    alloc: Global,
-    operation: Operation,
-    text: &str,
-    document: &Document,
-    other: &Document,
-) -> Result<usize> {
+fn round(alloc: Global, operation: Operation, subject: &Subject<'_>) -> Result<usize> {
+    let document = &subject.document;
+    let definitions = document.definitions.len();
     match operation {
-        Operation::Read => Ok(read_tree(alloc, text)?.definitions.len()),
+        Operation::Read => Ok(read_tree(alloc, subject.text)?.definitions.len()),
         Operation::Write => Ok(document.to_ast_json(alloc)?.to_string(alloc)?.len()),
-        Operation::Equal => Ok((document == other) as usize),
+        Operation::Equal => Ok((*document == subject.other) as usize),
         Operation::Clone => Ok(document.clone()?.definitions.len()),
         Operation::WellFormed => Ok(document.is_well_formed() as usize),
         Operation::LookUp => Ok(look_up_all(document)),
@@ -152,15 +201,18 @@ fn round(
         Operation::Rebuild => Ok(
             rename_fields(alloc, document, "no_such_field", &name!(a))?.is_some() as usize,
         ),
+        Operation::Build => build_and_forget(alloc, definitions),
+        Operation::BuildDrop => Ok(build(alloc, definitions)?.definitions.len()),
+        Operation::BuildPrint => Ok(build(alloc, definitions)?.serialize().to_text(alloc)?.len()),
+        Operation::Find(items) => Ok(subject.lists.finds_last(items) as usize),
     }
 }
 
 fn run(alloc: Global, operation: Operation, rounds: usize, text: &str) -> Result<usize> {
-    let document = read_tree(alloc, text)?;
-    let other = read_tree(alloc, text)?;
+    let subject = Subject::read(alloc, text)?;
     let mut number = 0;
     for _ in 0..rounds {
-        number = round(alloc, operation, text, &document, &other)?;
+        number = round(alloc, operation, &subject)?;
     }
     Ok(number)
 }
@@ -169,7 +221,7 @@ fn main(rt: HostRuntime) -> Result<()> {
     let alloc = rt.alloc();
     let (Some(operation), Some(rounds)) = (read_operation(&rt), rounds(&rt)) else {
         bail!(
-            "usage: op_speed read|write|equal|clone|well_formed|look_up|print|walk ROUNDS < DOCUMENT.json"
+            "usage: op_speed OPERATION ROUNDS < DOCUMENT.json, with an OPERATION of those at the head of src/main.rt"
         );
     };
     let mut text = String::new(alloc);

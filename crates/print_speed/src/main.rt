@@ -3,7 +3,7 @@
 //! the other.
 //!
 //! - TREE: `objects` (a list of COUNT objects with values of every kind), `texts` (a list of COUNT plain strings of 80 bytes),
-//!   `nested` (COUNT lists in one another), `operations` (COUNT queries of three levels), `types` (COUNT object types of ten
+//!   `escapes` (a list of COUNT strings of 80 bytes, of which each second is a line feed), `nested` (COUNT lists in one another), `operations` (COUNT queries of three levels), `types` (COUNT object types of ten
 //!   fields), `queries`, `schema` (one document of COUNT such queries or types) or `document` (one of COUNT such types and as
 //!   many such queries). Operations and types are printed one after another, each into a text of its own, or all into one sink.
 //! - LAYOUT: `default`, `one_line`, or `two_tabs`, which has the bytes of the default layout with two tabs for each prefix.
@@ -34,7 +34,7 @@ use thiserror::Error;
 /// Why nothing was printed.
 #[derive(Debug, Drop, Error)]
 enum SpeedError {
-    #[error("usage: print_speed objects|texts|nested|operations|types|queries|schema|document COUNT ROUNDS default|one_line|two_tabs text|sink|stream own|compact|shared|static grown|exact")]
+    #[error("usage: print_speed objects|texts|escapes|nested|operations|types|queries|schema|document COUNT ROUNDS default|one_line|two_tabs text|sink|stream own|compact|shared|static grown|exact")]
     Usage,
     #[error("out of memory")]
     Memory,
@@ -59,6 +59,7 @@ impl From<PrintError> for SpeedError {
 enum Tree {
     Objects,
     Texts,
+    Escapes,
     Nested,
     Operations,
     Types,
@@ -119,9 +120,10 @@ fn number<R: Env>(env: &R, place: usize) -> Option<usize> {
     word(env, place, &mut buffer)?.parse().ok()
 }
 
-const TREES: [(&str, Tree); 8] = [
+const TREES: [(&str, Tree); 9] = [
     ("objects", Tree::Objects),
     ("texts", Tree::Texts),
+    ("escapes", Tree::Escapes),
     ("nested", Tree::Nested),
     ("operations", Tree::Operations),
     ("types", Tree::Types),
@@ -242,6 +244,7 @@ fn run(alloc: Global, task: &Task) -> Result<usize, SpeedError> {
     match task.tree {
         Tree::Objects => print_rounds(alloc, task, &[builder.objects(task.count)?]),
         Tree::Texts => print_rounds(alloc, task, &[builder.texts(task.count)?]),
+        Tree::Escapes => print_rounds(alloc, task, &[builder.escapes(task.count)?]),
         Tree::Nested => print_rounds(alloc, task, &[builder.nested(task.count)?]),
         Tree::Operations => print_rounds(alloc, task, &builder.operations(task.count)?),
         Tree::Types => print_rounds(alloc, task, &builder.types(task.count)?),

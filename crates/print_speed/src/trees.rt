@@ -240,6 +240,16 @@ impl Builder {
         Ok(Value::List(items))
     }
 
+    /// A list of strings of 80 bytes, of which each second is escaped. They end with a line feed, so none can be a block string.
+    pub fn escapes(&self, count: usize) -> Result<Value, AllocError> {
+        let mut items = self.list(count)?;
+        let text = "a\n".repeat(self.alloc, 40)?;
+        for _ in 0..count {
+            self.push(&mut items, Value::from_text(self.alloc, text.as_str())?)?;
+        }
+        Ok(Value::List(items))
+    }
+
     /// As many lists, each the one item of the one around it.
     pub fn nested(&self, count: usize) -> Result<Value, AllocError> {
         let mut value = Value::Null;

@@ -7,6 +7,7 @@ function below(limit) {
   state = (state * 6364136223846793005n + 1442695040888963407n) & ((1n << 64n) - 1n);
   return Number((state >> 33n) % BigInt(limit));
 }
+exports.below = below;
 
 const pick = (...choices) => choices[below(choices.length)];
 const some = (most, make) => Array.from({ length: below(most + 1) }, make);

@@ -6,7 +6,7 @@ ghost use Rattle.serde_json.specs.View.{view};
 ghost use Rattle.graphql_base.specs.Node.{node_location, node_value};
 ghost use Rattle.graphql_base.specs.declared.span.SourceSpan.{SourceSpan};
 ghost use Rattle.graphql_ast_json.specs.code.Drafts.{location_of};
-ghost use Rattle.graphql_ast_json.specs.code.Errors.{IsMemory};
+ghost use Rattle.graphql_ast_json.specs.code.Errors.{DepthIsTold, IsMemory};
 ghost use Rattle.graphql_ast_json.specs.code.JsonNodes.{IsFromNone, IsReadFrom, node_data};
 ghost use Rattle.graphql_ast_json.specs.code.NodeReading.{IsInFile, IsOfNone, IsReadAs, StandsAt, node_json};
 ghost use Rattle.graphql_ast_json.specs.declared.read.Unknown.{Unknown};
@@ -257,8 +257,8 @@ pub(crate) fn node_at<T: Drop>(
 
 /// The tree that a text of AST JSON is of: `AstJson::from_ast_json` of the JSON that the text is.
 ///
-/// `AstJsonError::TooDeep` where the nesting depth of arrays and objects of the text is above 127, at which the reader
-/// of JSON gives up, and `AstJsonError::NotJson` where the text is otherwise no JSON.
+/// `AstJsonError::TooDeep` where arrays and objects of the text stand in one another more than 127 deep before it has
+/// another fault (`is_too_deep` of `parsed_json`), and `AstJsonError::NotJson` where it is otherwise no JSON.
 pub fn from_ast_json_str<T: AstJson>(
     alloc: Global,
     text: &str,
@@ -272,6 +272,7 @@ pub fn from_ast_json_str<T: AstJson>(
     ensures err { IfErr result (λ error. ¬ IsMemory error
         → (json : Data) → read text.now ≡ Some json
         → (tree : T.Tree) → ¬ T.is_json_of Refuse tree json) }
+    ensures depth { IfErr result (DepthIsTold text.now) }
 {
     if T::reads_parsed() {
         if let Some(value) = read_parsed(alloc, text, source)? {
@@ -299,6 +300,7 @@ fn read_parsed<T: AstJson>(
     ensures err { IfErr result (λ error. ¬ IsMemory error
         → (json : Data) → read text.now ≡ Some json
         → (tree : T.Tree) → ¬ T.is_json_of Refuse tree json) }
+    ensures depth { IfErr result (DepthIsTold text.now) }
 {
     let mut scratch = Scratch::new(alloc);
     match parse_json(alloc, text, &mut scratch)? {
@@ -322,6 +324,7 @@ fn read_otherwise<T: AstJson>(alloc: Global, text: &str, source: FileId) -> Resu
     ensures err { IfErr result (λ error. ¬ IsMemory error
         → (json : Data) → read text.now ≡ Some json
         → (tree : T.Tree) → ¬ T.is_json_of Refuse tree json) }
+    ensures depth { IfErr result (DepthIsTold text.now) }
 {
     let json = read_json(alloc, text)?;
     T::from_ast_json(alloc, &json, source)

@@ -56,4 +56,4 @@ pub use crate::well_formed::{
     BrokenCondition, WellFormedError, from_well_formed_ast_json_str, read_well_formed_ast_json,
     read_well_formed_json,
 };
-pub use parsed_json::{AnyItems, AnyJson, parse_json};
+pub use parsed_json::{AnyItems, AnyJson, is_too_deep, parse_json};

@@ -3,7 +3,7 @@ ghost use Rattle.std.specs.Prelude.{◌≡◌, ◌↔◌, IfOk, IfErr, IfSome, I
 ghost use Rattle.serde_json.specs.Data.{Data};
 ghost use Rattle.serde_json.specs.Read.{read};
 ghost use Rattle.graphql_text.specs.kinds.Flaws.{first_flaw};
-ghost use Rattle.graphql_ast_json.specs.code.Errors.{IsMemory};
+ghost use Rattle.graphql_ast_json.specs.code.Errors.{DepthIsTold, IsMemory};
 ghost use Rattle.graphql_ast_json.specs.code.JsonNodes.{IsFromNone, IsReadFrom, node_data};
 ghost use Rattle.graphql_ast_json.specs.code.NodeReading.{IsInFile, IsOfNone, IsReadAs, node_json};
 ghost use Rattle.graphql_ast_json.specs.code.WellFormed.{IfIllFormed, IfNotRead};
@@ -210,6 +210,7 @@ pub fn from_well_formed_ast_json_str<T: AstJson + SyntaxTree + Drop>(
         (value : T) × (json : Data)
         × (read text.now ≡ Some json) × T.is_json_of Refuse (T.AstJson.tree value) json
         × (first_flaw (T.kind.flaws (T.SyntaxTree.tree value)) ≡ Some flaw))) }
+    ensures depth { IfErr result (λ error. IfNotRead error (DepthIsTold text.now)) }
 {
     if T::reads_parsed() {
         if let Some(value) = read_parsed(alloc, text, source)? {
@@ -243,6 +244,7 @@ fn read_parsed<T: AstJson + SyntaxTree + Drop>(
         (value : T) × (json : Data)
         × (read text.now ≡ Some json) × T.is_json_of Refuse (T.AstJson.tree value) json
         × (first_flaw (T.kind.flaws (T.SyntaxTree.tree value)) ≡ Some flaw))) }
+    ensures depth { IfErr result (λ error. IfNotRead error (DepthIsTold text.now)) }
 {
     let mut scratch = Scratch::new(alloc);
     match parse_json(alloc, text, &mut scratch)? {
@@ -276,6 +278,7 @@ fn read_otherwise<T: AstJson + SyntaxTree + Drop>(
         (value : T) × (json : Data)
         × (read text.now ≡ Some json) × T.is_json_of Refuse (T.AstJson.tree value) json
         × (first_flaw (T.kind.flaws (T.SyntaxTree.tree value)) ≡ Some flaw))) }
+    ensures depth { IfErr result (λ error. IfNotRead error (DepthIsTold text.now)) }
 {
     let json = match read_json(alloc, text) {
         Ok(json) => json,

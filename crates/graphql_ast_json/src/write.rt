@@ -16,11 +16,9 @@ ghost use Rattle.graphql_ast_json.specs.nodes.Nodes.{Each, IsNode, IsOptional};
 
 use crate::ast_json::AstNode;
 use crate::form::{Form, OnOneLine};
+use graphql_ast::ast::{Directive, DirectiveList, Value};
 use graphql_base::node::Node;
 use graphql_base::span::SourceSpan;
-use graphql_values::directive::Directive;
-use graphql_values::directive_list::DirectiveList;
-use graphql_values::value::Value;
 use serde_json::{Map, Value as Json, json, push, put};
 use std::alloc::{AllocError, Global};
 

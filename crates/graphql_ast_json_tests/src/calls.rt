@@ -2,8 +2,8 @@
 use graphql_ast::ast::ScalarTypeExtension;
 use graphql_ast_json::{
     AstJson, AstJsonError, AstNode, JsonNode, NodeReader, Unknown, WellFormedError,
-    from_ast_json_str, from_well_formed_ast_json_str, parse_json, read_well_formed_ast_json,
-    read_well_formed_json,
+    from_ast_json_str, from_well_formed_ast_json_str, is_too_deep, parse_json,
+    read_well_formed_ast_json, read_well_formed_json,
 };
 use graphql_base::span::{FileId, SourceSpan};
 use json::{Scratch, Value as Parsed};
@@ -70,6 +70,9 @@ fn check_text(
     check_read(rt, refused, from_ast_json_str(alloc, text, source), wanted);
     let answer = from_well_formed_ast_json_str(alloc, text, source);
     check_well_formed(rt, refused, answer, wanted);
+    if let Some(is_deep) = refused.made(is_too_deep(alloc, text)) {
+        assert!(rt; !is_deep);
+    }
     let mut scratch = Scratch::new(alloc);
     if let Some(parsed) = refused.made(parse_json(alloc, text, &mut scratch)) {
         let value = parsed.expect(rt, "JSON");

@@ -1,5 +1,5 @@
 //! Errors of texts, and of memory. Those of JSON are cases of the golden program.
-use graphql_ast_json::{AstJsonError, from_ast_json_str};
+use graphql_ast_json::{AstJsonError, from_ast_json_str, is_too_deep};
 use graphql_base::span::FileId;
 use graphql_values::value::Value;
 use serde_json::Value as Json;
@@ -14,7 +14,7 @@ const NO_OBJECT: &str = "at the root: found an array where an object was wanted"
 type Row = (&'static [(&'static str, usize)], &'static str);
 
 /// Of JSON.
-const JSON: [Row; 7] = [
+const JSON: [Row; 9] = [
     (&[("[", 127), ("]", 127)], NO_OBJECT),
     (&[("[", 128)], TOO_DEEP),
     (&[("{\"a\":", 128)], TOO_DEEP),
@@ -22,14 +22,19 @@ const JSON: [Row; 7] = [
     (&[("[\n\"]\",\n", 1), ("[", 127)], TOO_DEEP),
     (&[("[\"\\\\\",", 1), ("[", 127)], TOO_DEEP),
     (&[(" ", 5000), ("[", 128)], TOO_DEEP),
+    (&[("[", 128), ("nothing", 1)], TOO_DEEP),
+    (&[("[[],{},", 1), ("[", 127), ("]", 200)], TOO_DEEP),
 ];
 
 /// Texts that are no JSON, of which is said what `serde_json` says of them.
-const NO_JSON: [&[(&str, usize)]; 13] = [
+const NO_JSON: [&[(&str, usize)]; 16] = [
     &[("{\"kind\": nothing}", 1)],
     &[("[", 127)],
     &[("{\"a\":", 127)],
     &[("nothing", 1), ("[", 128)],
+    &[("[1e999,", 1), ("[", 127)],
+    &[("{\"a\"", 1), ("[", 128)],
+    &[("[}", 1), ("[", 128)],
     &[("[]", 1), ("[", 128)],
     &[("\"", 1), ("[", 128)],
     &[("\"\\\"", 1), ("[", 128)],
@@ -66,6 +71,8 @@ fn texts_and_memory_are_named(rt: HostRuntime) {
         let text = text_of(alloc, parts).expect(&rt, "memory");
         let said = refusal(&rt, alloc, text.as_str());
         assert_eq!(rt; said.as_str(), wanted, "{text}");
+        let is_deep = is_too_deep(alloc, text.as_str()).expect(&rt, "memory");
+        assert_eq!(rt; is_deep, wanted == TOO_DEEP, "{text}");
     }
     for parts in NO_JSON {
         let text = text_of(alloc, parts).expect(&rt, "memory");
@@ -75,6 +82,8 @@ fn texts_and_memory_are_named(rt: HostRuntime) {
         let wanted = format!(in alloc; "not JSON: {error}").expect(&rt, "memory");
         let said = refusal(&rt, alloc, text.as_str());
         assert_eq!(rt; said.as_str(), wanted.as_str(), "{text}");
+        let is_deep = is_too_deep(alloc, text.as_str()).expect(&rt, "memory");
+        assert!(rt; !is_deep, "{text}");
     }
     let error = AstJsonError::Memory;
     assert!(rt; error.is_memory());

@@ -59,8 +59,8 @@ fn a_definition_is_written_or_memory_was_refused(rt: HostRuntime) {
     }
 }
 
-/// An unknown member; a text that is no JSON, which has an escape and is read twice; and a flaw.
-/// Allocations: 40.
+/// An unknown member; a text that is no JSON, which has an escape and is read three times; and a flaw.
+/// Allocations: 43.
 #[test]
 fn what_is_wrong_is_told_or_memory_was_refused(rt: HostRuntime) {
     let alloc = rt.alloc();
@@ -87,7 +87,7 @@ fn what_is_wrong_is_told_or_memory_was_refused(rt: HostRuntime) {
     }
 }
 
-/// Allocations: 225.
+/// Allocations: 244.
 #[test]
 fn calls_are_whole_or_memory_was_refused(rt: HostRuntime) {
     let mut refused = Refused::none();

@@ -20,7 +20,8 @@ pub trait FindFlaws: SyntaxTree {
     ///
     /// The tree is the part that the search is at. `flaws` is the call for users. `AllocError` if an allocation fails.
     fn push_flaws<'a>(&'a self, search: &mut FlawSearch<'a>) -> Result<(), AllocError>
-        ensures { OnOk result (Finds (Self.kind.flaws (Self.tree self.now)) search.old search.new) };
+        ensures { OnOk result
+            (Finds (Self.kind.flaws (Self.tree self.now)) search.old search.new) };
 
     /// All flaws of the tree, in the order of print, each with its path.
     ///

@@ -110,7 +110,8 @@ fn task_of(matches: &ArgMatches<'_>) -> Task
 
 /// What becomes of what is unknown.
 fn unknown_of(matches: &ArgMatches<'_>) -> Unknown
-    ensures { result ≡ reading (is_given (codes "pass-over-unknown") (rows_of (found_of matches.now))) }
+    ensures { result ≡ reading
+        (is_given (codes "pass-over-unknown") (rows_of (found_of matches.now))) }
 {
     if is_given(matches, "pass-over-unknown") {
         Unknown::PassOver

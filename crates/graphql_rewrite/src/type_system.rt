@@ -196,7 +196,8 @@ impl Rebuild for EnumTypeDefinition {
 
     ghost tree = { enum_type_definition_tree };
 
-    ghost rewritten = { λ f. with_body (rewritten_braced_type f (rewritten_enum_value_definition f)) };
+    ghost rewritten = { λ f.
+        with_body (rewritten_braced_type f (rewritten_enum_value_definition f)) };
 
     fn rebuild<R: Rewriter>(&self, alloc: Global, rewriter: &R) -> Rebuilt<EnumTypeDefinition> {
         let directives = rebuild_directives(alloc, rewriter, &self.directives)?;
@@ -218,7 +219,8 @@ impl Rebuild for InputObjectTypeDefinition {
 
     ghost tree = { input_object_type_definition_tree };
 
-    ghost rewritten = { λ f. with_body (rewritten_braced_type f (rewritten_input_value_definition f)) };
+    ghost rewritten = { λ f.
+        with_body (rewritten_braced_type f (rewritten_input_value_definition f)) };
 
     fn rebuild<R: Rewriter>(
         &self,

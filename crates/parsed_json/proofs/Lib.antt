@@ -6,6 +6,8 @@ pub mod ParsedMembers
 pub mod ParsedNumbers
 -- of ParsedJson: what is read of no text, whatever follows
 pub mod Refused
+-- of Depth: what has begun is the beginning of some JSON, and which texts are too deep
+pub mod Begun
 -- of OpenJson: what comes of the arrays and objects that are open
 pub mod OpenJson
 -- numbers that are written by digits alone

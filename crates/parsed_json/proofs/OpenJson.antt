@@ -14,6 +14,8 @@ use Rattle.json.specs.Tree.{depth, json_tokens, items_depth, items_tokens, membe
 use Rattle.json.specs.Value.{items_view, members_view, value_view}
 use Rattle.json.specs.declared.value.Value.{Value}
 use Rattle.std.proofs.lemmas.Grind.{flat_map-append}
+use Rattle.parsed_json.proofs.Begun.{all_members, both_true, is_too_deep, none_begins, none_behind, not_deep, open_begins, refused_not_deep}
+use Rattle.parsed_json.proofs.Begun.{true_both, value_begins, within_more}
 use Rattle.parsed_json.proofs.Refused.{all_read, array_refused, first_member_refused, none_read, nothing, object_refused, this_one}
 use Rattle.json.specs.Lex.{tokens as tokens_of}
 use Rattle.json.specs.Reads.{token_of}
@@ -22,13 +24,15 @@ use Rattle.json.specs.declared.token.Token.TheVariants as tokens
 use Rattle.json.proofs.Printed.Trees.{value-json_tokens}
 use Rattle.serde_json.specs.Data.{Data}
 use Rattle.serde_json.specs.Read.{max_depth, number_of, of_json, read}
-use Rattle.parsed_json.specs.OpenJson.{AreWithin, IsProgress, IsWithin, ended_array, ended_object, HasPlaceFor, innermost_takes_value}
+use Rattle.parsed_json.specs.Depth.{Begins, IsWithin}
+use Rattle.parsed_json.specs.OpenJson.{AreRefused, AreWithin, IsProgress, IsReadingOf, ended_array, ended_object, HasPlaceFor, innermost_takes_value}
 use Rattle.parsed_json.specs.OpenJson.{member_tokens, name_tokens, open_tokens, read_tokens, so_far, takes_name, takes_value, value_tokens}
 use Rattle.parsed_json.specs.ParsedJson.{NoneWith, leaf_of, parsed_data, has_numbers, items_have_numbers, members_have_numbers}
 use Rattle.parsed_json.specs.declared.parse.Open.{Open}
 use Rattle.parsed_json.specs.declared.parse.Open.TheVariants as opened
 use Rattle.parsed_json.specs.declared.parse.Members.{Members}
 use Rattle.parsed_json.specs.declared.parse.Progress.TheVariants as progress
+use Rattle.parsed_json.specs.declared.parse.Reading.TheVariants as reading
 
 read_tokens-append : (os : List Open) (o : Open) → read_tokens (os ++ o ∷ []) ≡ read_tokens os ++ open_tokens o
 read_tokens-append os o = flat_map-append open_tokens os (o ∷ []) ∙ ap (λ ts. read_tokens os ++ ts) (append-nil (open_tokens o))
@@ -75,6 +79,11 @@ all_within d [] o are takes is = (subst (λ n. IsWithin n (so_far o)) (none_less
 all_within d (p ∷ []) o are takes is = (are.0, takes, (is, tt, tt))
 all_within d (p ∷ q ∷ os) o are takes is =
     (are.0, are.1, all_within (d - 1) (q ∷ os) o are.2 takes (subst (λ n. IsWithin n (so_far o)) (sym (one_less d (length (q ∷ os)))) is))
+
+are_within_more : (d e : ℕ) (os : List Open) → d ≤ e → AreWithin d os → AreWithin e os
+are_within_more d e [] more are = tt
+are_within_more d e (o ∷ os) more are =
+    (within_more d e (so_far o) more are.0, are.1, are_within_more (d - 1) (e - 1) os (omega (arith, more)) are.2)
 
 -- WHAT IS REFUSED
 
@@ -170,19 +179,20 @@ grown os k o p ts len is are same keeps =
       all_within max_depth front p (outer_within max_depth front o parts) (has_place max_depth front o parts) kept,
     )
 
-stuck_at : (front : List Open) (o : Open) (os : List Open) (rest : List spec.Token) → os ≡ front ++ o ∷ [] → AreWithin max_depth os →
-    ((d : ℕ) → IsWithin d (so_far o) → NoneWith has_numbers (value d (open_tokens o ++ rest))) → NoneWith has_numbers (value max_depth (read_tokens os ++ rest))
-stuck_at front o os rest is are none =
-    let parts = subst (AreWithin max_depth) is are in
-    subst (λ ps. NoneWith has_numbers (value max_depth (read_tokens ps ++ rest))) (sym is)
-    (refused_within max_depth front o rest (outer_within max_depth front o parts) (none (max_depth - length front) (inner_within max_depth front o parts)))
+stuck_at : (d : ℕ) (front : List Open) (o : Open) (os : List Open) (rest : List spec.Token) → os ≡ front ++ o ∷ [] → AreWithin d os →
+    ((n : ℕ) → IsWithin n (so_far o) → NoneWith has_numbers (value n (open_tokens o ++ rest))) → NoneWith has_numbers (value d (read_tokens os ++ rest))
+stuck_at d front o os rest is are none =
+    let parts = subst (AreWithin d) is are in
+    subst (λ ps. NoneWith has_numbers (value d (read_tokens ps ++ rest))) (sym is)
+    (refused_within d front o rest (outer_within d front o parts) (none (d - length front) (inner_within d front o parts)))
 
--- the rest is refused in the innermost
-stuck : (os : List Open) (k : ℕ) (o : Open) (rest : List spec.Token) → length os ≡ suc k → o ≡ slice_index_or os k o → AreWithin max_depth os →
-    ((d : ℕ) → IsWithin d (so_far o) → NoneWith has_numbers (value d (open_tokens o ++ rest))) → NoneWith has_numbers (value max_depth (read_tokens os ++ rest))
-stuck os k o rest len is are none =
-    let last = last_is os k o len is in
-    stuck_at last.0 o os rest last.1 are none
+-- these tokens are refused in the innermost, so behind all that was read
+stuck : (os : List Open) (front : List Open) (o : Open) (ts : List spec.Token) → os ≡ front ++ o ∷ [] → AreWithin max_depth os →
+    ((rest : List spec.Token) (n : ℕ) → IsWithin n (so_far o) → NoneWith has_numbers (value n (open_tokens o ++ (ts ++ rest)))) →
+    IsProgress (read_tokens os ++ ts) progress.Refused os
+stuck os front o ts is are none d more rest =
+    subst (λ us. NoneWith has_numbers (value d us)) (sym (append_assoc (read_tokens os) ts rest))
+    (stuck_at d front o os (ts ++ rest) is (are_within_more max_depth d os more are) (none rest))
 
 -- nothing but a name comes next in an object that has none
 unnamed : (d : ℕ) (o : Open) (rest : List spec.Token) → takes_value o ≡ false → read_key rest ≡ None → IsWithin d (so_far o) →
@@ -192,10 +202,9 @@ unnamed d (opened.Object ms) rest none no_name is = refused_in_object d ms rest 
 
 pub no_value_place : (os : List Open) (k : ℕ) (o : Open) (v : Value Global) → length os ≡ suc k → o ≡ slice_index_or os k o → AreWithin max_depth os →
     takes_value o ≡ false → IsProgress (read_tokens os ++ value_tokens v) progress.Refused os
-no_value_place os k o v len is are none rest =
-    let ts = value_tokens v ++ rest in
-    subst (λ us. NoneWith has_numbers (value max_depth us)) (sym (append_assoc (read_tokens os) (value_tokens v) rest))
-    (stuck os k o ts len is are (λ d. unnamed d o ts none (value_is_no_key (value_view v) rest)))
+no_value_place os k o v len is are none =
+    let last = last_is os k o len is in
+    stuck os last.0 o (value_tokens v) last.1 are (λ rest n. unnamed n o (value_tokens v ++ rest) none (value_is_no_key (value_view v) rest))
 
 last_takes : (os : List Open) (o : Open) → innermost_takes_value (os ++ o ∷ []) ≡ takes_value o
 last_takes [] o = refl
@@ -216,10 +225,9 @@ last_without_place (o ∷ p ∷ os) none =
 
 pub no_open_place : (os : List Open) (p : Open) → AreWithin max_depth os → innermost_takes_value os ≡ false →
     IsProgress (read_tokens os ++ open_tokens p) progress.Refused os
-no_open_place os p are none rest =
+no_open_place os p are none =
     let last = last_without_place os none in
-    subst (λ us. NoneWith has_numbers (value max_depth us)) (sym (append_assoc (read_tokens os) (open_tokens p) rest))
-    (stuck_at last.0 last.1 os (open_tokens p ++ rest) last.2 are (λ d. unnamed d last.1 (open_tokens p ++ rest) last.3 (no_key p rest)))
+    stuck os last.0 last.1 (open_tokens p) last.2 are (λ rest n. unnamed n last.1 (open_tokens p ++ rest) last.3 (no_key p rest))
 
 key_refused : (d : ℕ) (k : List ℕ) (rest : List spec.Token) → NoneWith has_numbers (value d (spec.key k ∷ rest))
 key_refused d k rest = nothing has_numbers _ (value_is d (spec.key k ∷ rest))
@@ -239,22 +247,22 @@ key_in d (opened.Object ms) k rest none is =
 
 pub no_name_place : (os : List Open) (k : ℕ) (o : Open) (name : List ℕ) → length os ≡ suc k → o ≡ slice_index_or os k o → AreWithin max_depth os →
     takes_name o ≡ false → IsProgress (read_tokens os ++ spec.key name ∷ []) progress.Refused os
-no_name_place os k o name len is are none rest =
-    subst (λ us. NoneWith has_numbers (value max_depth us)) (sym (append_assoc (read_tokens os) (spec.key name ∷ []) rest))
-    (stuck os k o (spec.key name ∷ rest) len is are (λ d. key_in d o name rest none))
+no_name_place os k o name len is are none =
+    let last = last_is os k o len is in
+    stuck os last.0 o (spec.key name ∷ []) last.1 are (λ rest n. key_in n o name rest none)
 
 -- nothing is open
-none_open : (os : List Open) (t : spec.Token) → length os ≡ 0 → ((rest : List spec.Token) → NoneWith has_numbers (value max_depth (t ∷ rest))) →
+none_open : (os : List Open) (t : spec.Token) → length os ≡ 0 → ((d : ℕ) (rest : List spec.Token) → NoneWith has_numbers (value d (t ∷ rest))) →
     IsProgress (read_tokens os ++ t ∷ []) progress.Refused os
-none_open [] t len none rest = none rest
-none_open (o ∷ os) t len none rest = absurd (omega arith)
+none_open [] t len none d more rest = none d rest
+none_open (o ∷ os) t len none d more rest = absurd (omega arith)
 
 pub none_there : (n : ℕ) → (0 < n → false ≡ true) → n ≡ 0
 none_there zero some = refl
 none_there (suc n) some = absurd (true≢false (sym (some (omega arith))))
 
 pub name_alone : (os : List Open) (name : List ℕ) → length os ≡ 0 → IsProgress (read_tokens os ++ spec.key name ∷ []) progress.Refused os
-name_alone os name len = none_open os (spec.key name) len (key_refused max_depth name)
+name_alone os name len = none_open os (spec.key name) len (λ d. key_refused d name)
 
 -- BEGINNING AND ENDING
 
@@ -268,13 +276,24 @@ unfolding value
 none_so_deep (opened.Array vs) rest = nothing has_numbers _ refl
 none_so_deep (opened.Object ms) rest = nothing has_numbers _ refl
 
-pub too_deep : (os : List Open) (o : Open) → AreWithin max_depth os → length os ≡ max_depth →
-    IsProgress (read_tokens os ++ open_tokens o) progress.Refused os
-too_deep os o are full rest =
+refused_deep : (os : List Open) (o : Open) → AreWithin max_depth os → length os ≡ max_depth → AreRefused max_depth (read_tokens os ++ open_tokens o)
+refused_deep os o are full rest =
     let none_left : 0 ≡ max_depth - length os = omega arith in
     subst (λ ts. NoneWith has_numbers (value max_depth ts)) (sym (append_assoc (read_tokens os) (open_tokens o) rest))
     (value_refused max_depth os (open_tokens o ++ rest) are (no_end o rest) (no_key o rest)
     (subst (λ d. NoneWith has_numbers (value d (open_tokens o ++ rest))) none_left (none_so_deep o rest)))
+
+-- one more would nest deeper than is read
+pub too_deep : (os : List Open) (o : Open) → AreWithin max_depth os → IsTrue (innermost_takes_value os) → IsWithin 1 (so_far o) → length os ≡ max_depth →
+    IsProgress (read_tokens os ++ open_tokens o) progress.TooDeep os
+too_deep os o are takes is full =
+    let room : suc max_depth - length os ≡ 1 = omega arith in
+    let more : max_depth ≤ suc max_depth = omega arith in
+    let wide = all_within (suc max_depth) os o (are_within_more max_depth (suc max_depth) os more are) takes
+    (subst (λ n. IsWithin n (so_far o)) (sym room) is) in (
+      (suc max_depth, subst (Begins (suc max_depth)) (read_tokens-append os o) (open_begins (suc max_depth) (os ++ o ∷ []) wide)),
+      refused_deep os o are full,
+    )
 
 pub popped : (os front : List Open) (o : Open) → os ≡ front ++ o ∷ [] → AreWithin max_depth os →
     AreWithin max_depth front × IsWithin (max_depth - length front) (so_far o)
@@ -284,11 +303,6 @@ popped os front o is are =
 all_items : (vs : List (Value Global)) → items_tokens (items_view vs) ≡ flat_map value_tokens vs ++ spec.end_array ∷ []
 all_items [] = refl
 all_items (v ∷ vs) = ap (λ ts. value_tokens v ++ ts) (all_items vs) ∙ sym (append_assoc (value_tokens v) (flat_map value_tokens vs) (spec.end_array ∷ []))
-
-all_members : (ms : List (Bor (List ℕ) × Value Global)) → members_tokens (members_view ms) ≡ flat_map member_tokens ms ++ spec.end_object ∷ []
-all_members [] = refl
-all_members (m ∷ ms) =
-    ap (λ ts. member_tokens m ++ ts) (all_members ms) ∙ sym (append_assoc (member_tokens m) (flat_map member_tokens ms) (spec.end_object ∷ []))
 
 ends : (os front : List Open) (o : Open) (v : Value Global) (end : spec.Token) → os ≡ front ++ o ∷ [] → value_tokens v ≡ open_tokens o ++ end ∷ [] →
     read_tokens front ++ value_tokens v ≡ read_tokens os ++ end ∷ []
@@ -321,9 +335,7 @@ no_array (opened.Object ms) none rest d is = refused_in_object d ms (spec.end_ar
 
 pub no_array_ends : (os front : List Open) (o : Open) → os ≡ front ++ o ∷ [] → AreWithin max_depth os → None ≡ ended_array o →
     IsProgress (read_tokens os ++ spec.end_array ∷ []) progress.Refused front
-no_array_ends os front o is are none rest =
-    subst (λ us. NoneWith has_numbers (value max_depth us)) (sym (append_assoc (read_tokens os) (spec.end_array ∷ []) rest))
-    (stuck_at front o os (spec.end_array ∷ rest) is are (no_array o none rest))
+no_array_ends os front o is are none = stuck os front o (spec.end_array ∷ []) is are (no_array o none)
 
 object_when : (named : Bool) (j k : Json) → Some k ≡ (if named then None else Some j) → (named ≡ false) × (k ≡ j)
 object_when true j k is = none_is_some k (sym is)
@@ -361,15 +373,13 @@ no_object (opened.Object ms) none rest d is =
 
 pub no_object_ends : (os front : List Open) (o : Open) → os ≡ front ++ o ∷ [] → AreWithin max_depth os → None ≡ ended_object o →
     IsProgress (read_tokens os ++ spec.end_object ∷ []) progress.Refused front
-no_object_ends os front o is are none rest =
-    subst (λ us. NoneWith has_numbers (value max_depth us)) (sym (append_assoc (read_tokens os) (spec.end_object ∷ []) rest))
-    (stuck_at front o os (spec.end_object ∷ rest) is are (no_object o none rest))
+no_object_ends os front o is are none = stuck os front o (spec.end_object ∷ []) is are (no_object o none)
 
 pub array_end_alone : (os : List Open) → length os ≡ 0 → IsProgress (read_tokens os ++ spec.end_array ∷ []) progress.Refused os
-array_end_alone os len = none_open os spec.end_array len (end_array_refused max_depth)
+array_end_alone os len = none_open os spec.end_array len end_array_refused
 
 pub object_end_alone : (os : List Open) → length os ≡ 0 → IsProgress (read_tokens os ++ spec.end_object ∷ []) progress.Refused os
-object_end_alone os len = none_open os spec.end_object len (end_object_refused max_depth)
+object_end_alone os len = none_open os spec.end_object len end_object_refused
 
 -- ONE MORE
 
@@ -382,13 +392,6 @@ members_deep : (d : ℕ) (ms : List (Bor (List ℕ) × Value Global)) (m : Bor (
     depth (value_view m.1) ≤ d → members_depth (members_view (ms ++ m ∷ [])) ≤ d
 members_deep d [] m are is = omega arith
 members_deep d (w ∷ ms) m are is = omega (arith, members_deep d ms m (omega arith) is)
-
-both_true : (a b : Bool) → IsTrue (a && b) → IsTrue a × IsTrue b
-both_true true b is = (refl, is)
-both_true false b is = absurd (true≢false (sym is))
-
-true_both : (a b : Bool) → IsTrue a → IsTrue b → IsTrue (a && b)
-true_both a b is also = rw (is, also) refl
 
 items_numbers : (vs : List (Value Global)) (v : Value Global) → IsTrue (items_have_numbers (items_view vs)) → IsTrue (has_numbers (value_view v)) →
     IsTrue (items_have_numbers (items_view (vs ++ v ∷ [])))
@@ -445,9 +448,9 @@ number_refused d s rest none = this_one has_numbers _ (json.number s) rest (valu
 single_refused : (os : List Open) (t : spec.Token) → AreWithin max_depth os →
     ((rest : List spec.Token) → (after_end_array (t ∷ rest) ≡ None) × (read_key (t ∷ rest) ≡ None)) →
     ((d : ℕ) (rest : List spec.Token) → NoneWith has_numbers (value d (t ∷ rest))) → IsProgress (read_tokens os ++ t ∷ []) progress.Refused os
-single_refused os t are bare none rest =
-    subst (λ ts. NoneWith has_numbers (value max_depth ts)) (sym (append_assoc (read_tokens os) (t ∷ []) rest))
-    (value_refused max_depth os (t ∷ rest) are (bare rest).0 (bare rest).1 (none (max_depth - length os) rest))
+single_refused os t are bare none d more rest =
+    subst (λ ts. NoneWith has_numbers (value d ts)) (sym (append_assoc (read_tokens os) (t ∷ []) rest))
+    (value_refused d os (t ∷ rest) (are_within_more max_depth d os more are) (bare rest).0 (bare rest).1 (none (d - length os) rest))
 
 pub leaf_refused : (os : List Open) (t : Token) → AreWithin max_depth os → None ≡ leaf_of (token_of t) →
     (t ≡ tokens.BeginArray → ⊥) → (t ≡ tokens.EndArray → ⊥) → (t ≡ tokens.BeginObject → ⊥) → (t ≡ tokens.EndObject → ⊥) →
@@ -471,37 +474,62 @@ leaf_refused os tokens.Bad are none a b c d e =
 abbrev of_value : Option (Json × List spec.Token) → Option Data
 of_value parsed = option_and_then of_json (option_and_then (λ p. if_last p.0 p.1) parsed)
 
-text_refused : (text : List ℕ) (ts : List spec.Token) → ts ≡ tokens_of text → NoneWith has_numbers (value max_depth ts) → None ≡ read text
-text_refused text ts is none = sym (none_read (value max_depth ts) none) ∙ ap (λ us. of_value (value max_depth us)) is
+text_refused : (text : List ℕ) (ts : List spec.Token) → tokens_of text ≡ ts → NoneWith has_numbers (value max_depth ts) → None ≡ read text
+text_refused text ts is none = sym (none_read (value max_depth ts) none) ∙ ap (λ us. of_value (value max_depth us)) (sym is)
 
-next_token : (os : List Open) (t : spec.Token) (rest ts : List spec.Token) → ts ≡ t ∷ rest → read_tokens os ++ ts ≡ (read_tokens os ++ t ∷ []) ++ rest
-next_token os t rest ts is = ap (λ us. read_tokens os ++ us) is ∙ sym (append_assoc (read_tokens os) (t ∷ []) rest)
+value_read : (text : List ℕ) (v : Value Global) (rest : List spec.Token) → tokens_of text ≡ value_tokens v ++ rest →
+    IsWithin max_depth (value_view v) → read text ≡ option_and_then of_json (if_last (value_view v) rest)
+value_read text v rest is within =
+    ap (λ us. of_value (value max_depth us)) is ∙ ap of_value (value-json_tokens (value_view v) max_depth rest within.0)
+
+-- all tokens, of which so many were read
+all_tokens : (text : List ℕ) (all ts read rest : List spec.Token) → all ≡ tokens_of text → all ≡ read ++ ts → ts ≡ rest → tokens_of text ≡ read ++ rest
+all_tokens text all ts read rest is comes next = sym is ∙ comes ∙ ap (λ us. read ++ us) next
+
+one_more : (text : List ℕ) (read rest : List spec.Token) (t : spec.Token) → tokens_of text ≡ read ++ t ∷ rest → tokens_of text ≡ (read ++ t ∷ []) ++ rest
+one_more text read rest t is = is ∙ sym (append_assoc read (t ∷ []) rest)
 
 pub unfinished : (text : List ℕ) (os : List Open) (all ts : List spec.Token) → all ≡ tokens_of text → all ≡ read_tokens os ++ ts →
-    AreWithin max_depth os → ts ≡ [] → None ≡ read text
+    AreWithin max_depth os → ts ≡ [] → IsReadingOf text reading.NotJson
 unfinished text os all ts is comes are none_left =
-    text_refused text all is (subst (λ us. NoneWith has_numbers (value max_depth us)) (sym (comes ∙ ap (λ us. read_tokens os ++ us) none_left))
-    (value_refused max_depth os [] are refl refl (nothing has_numbers _ (value_is (max_depth - length os) []))))
+    let whole = all_tokens text all ts (read_tokens os) [] is comes none_left in
+    let none = nothing has_numbers _ (value_is (max_depth - length os) []) in (
+      text_refused text (read_tokens os ++ []) whole (value_refused max_depth os [] are refl refl none),
+      not_deep text (read_tokens os) (whole ∙ append-nil (read_tokens os)) (open_begins max_depth os are),
+    )
 
 pub refused : (text : List ℕ) (os ps : List Open) (t : spec.Token) (all rest ts : List spec.Token) → all ≡ tokens_of text →
-    all ≡ read_tokens os ++ ts → ts ≡ t ∷ rest → IsProgress (read_tokens os ++ t ∷ []) progress.Refused ps → None ≡ read text
-refused text os ps t all rest ts is comes next none =
-    text_refused text all is (subst (λ us. NoneWith has_numbers (value max_depth us)) (sym (comes ∙ next_token os t rest ts next)) (none rest))
+    all ≡ read_tokens os ++ ts → ts ≡ t ∷ rest → AreWithin max_depth os → IsProgress (read_tokens os ++ t ∷ []) progress.Refused ps →
+    IsReadingOf text reading.NotJson
+refused text os ps t all rest ts is comes next are none =
+    let parts = all_tokens text all ts (read_tokens os) (t ∷ rest) is comes next in (
+      text_refused text ((read_tokens os ++ t ∷ []) ++ rest) (one_more text (read_tokens os) rest t parts) (none max_depth (omega arith) rest),
+      refused_not_deep text (read_tokens os) rest t parts (open_begins max_depth os are) (λ d more. none_begins d (read_tokens os ++ t ∷ []) (none d more)),
+    )
 
-value_read : (text : List ℕ) (v : Value Global) (os : List Open) (t : spec.Token) (all rest ts : List spec.Token) → all ≡ tokens_of text →
-    all ≡ read_tokens os ++ ts → ts ≡ t ∷ rest → (read_tokens os ++ t ∷ [] ≡ value_tokens v) → IsWithin max_depth (value_view v) →
-    read text ≡ option_and_then of_json (if_last (value_view v) rest)
-value_read text v os t all rest ts is comes next same within =
-    ap (λ us. of_value (value max_depth us)) (sym is ∙ comes ∙ next_token os t rest ts next ∙ ap (λ us. us ++ rest) same)
-    ∙ ap of_value (value-json_tokens (value_view v) max_depth rest within.0)
+pub deep : (text : List ℕ) (os ps : List Open) (t : spec.Token) (all rest ts : List spec.Token) → all ≡ tokens_of text →
+    all ≡ read_tokens os ++ ts → ts ≡ t ∷ rest → IsProgress (read_tokens os ++ t ∷ []) progress.TooDeep ps → IsReadingOf text reading.TooDeep
+deep text os ps t all rest ts is comes next so =
+    let read = read_tokens os ++ t ∷ [] in
+    let parts = one_more text (read_tokens os) rest t (all_tokens text all ts (read_tokens os) (t ∷ rest) is comes next) in
+    (text_refused text (read ++ rest) parts (so.1 rest), is_too_deep text read rest parts so.0 so.1)
 
 pub whole : (text : List ℕ) (v : Value Global) (os ps : List Open) (t : spec.Token) (all rest ts : List spec.Token) → all ≡ tokens_of text →
-    all ≡ read_tokens os ++ ts → ts ≡ t ∷ rest → IsProgress (read_tokens os ++ t ∷ []) (progress.Whole v) ps → rest ≡ [] → Some (parsed_data v) ≡ read text
+    all ≡ read_tokens os ++ ts → ts ≡ t ∷ rest → IsProgress (read_tokens os ++ t ∷ []) (progress.Whole v) ps → rest ≡ [] →
+    IsReadingOf text (reading.Json v)
 whole text v os ps t all rest ts is comes next done none_left =
-    sym (value_read text v os t all rest ts is comes next done.0 done.1
-    ∙ ap (λ us. option_and_then of_json (if_last (value_view v) us)) none_left ∙ all_read (value_view v) done.1.1)
+    let parts = one_more text (read_tokens os) rest t (all_tokens text all ts (read_tokens os) (t ∷ rest) is comes next) in
+    let same = parts ∙ ap (λ us. us ++ rest) done.0 ∙ ap (λ us. value_tokens v ++ us) none_left in (
+      sym (value_read text v [] same done.1 ∙ all_read (value_view v) done.1.1),
+      not_deep text (value_tokens v) (same ∙ append-nil (value_tokens v)) (value_begins max_depth v done.1),
+    )
 
 pub more : (text : List ℕ) (v : Value Global) (os ps : List Open) (t u : spec.Token) (all rest others ts : List spec.Token) → all ≡ tokens_of text →
-    all ≡ read_tokens os ++ ts → ts ≡ t ∷ rest → IsProgress (read_tokens os ++ t ∷ []) (progress.Whole v) ps → rest ≡ u ∷ others → None ≡ read text
+    all ≡ read_tokens os ++ ts → ts ≡ t ∷ rest → IsProgress (read_tokens os ++ t ∷ []) (progress.Whole v) ps → rest ≡ u ∷ others →
+    IsReadingOf text reading.NotJson
 more text v os ps t u all rest others ts is comes next done left =
-    sym (value_read text v os t all rest ts is comes next done.0 done.1 ∙ ap (λ us. option_and_then of_json (if_last (value_view v) us)) left)
+    let parts = one_more text (read_tokens os) rest t (all_tokens text all ts (read_tokens os) (t ∷ rest) is comes next) in
+    let same = parts ∙ ap (λ us. us ++ rest) done.0 ∙ ap (λ us. value_tokens v ++ us) left in (
+      sym (value_read text v (u ∷ others) same done.1),
+      refused_not_deep text (value_tokens v) others u same (value_begins max_depth v done.1) (λ d more. none_behind d v u (omega (arith, done.1.0))),
+    )

@@ -6,15 +6,18 @@ use Rattle.std.specs.declared.alloc.Global.{Global}
 use Rattle.json.specs.Json.{Json, array, object, value}
 use Rattle.json.specs.Token as token
 use Rattle.json.specs.Token.{Token}
-use Rattle.json.specs.Tree.{depth, json_tokens}
+use Rattle.json.specs.Tree.{json_tokens}
 use Rattle.json.specs.Value.{items_view, members_view, value_view}
 use Rattle.json.specs.declared.value.Value.{Value}
-use Rattle.serde_json.specs.Read.{max_depth}
-use Rattle.parsed_json.specs.ParsedJson.{NoneWith, has_numbers}
+use Rattle.serde_json.specs.Read.{max_depth, read}
+use Rattle.parsed_json.specs.Depth.{Begins, IsTooDeep, IsWithin}
+use Rattle.parsed_json.specs.ParsedJson.{NoneWith, has_numbers, parsed_data}
 use Rattle.parsed_json.specs.declared.parse.Open.{Open}
 use Rattle.parsed_json.specs.declared.parse.Open.TheVariants as opened
 use Rattle.parsed_json.specs.declared.parse.Progress.{Progress}
 use Rattle.parsed_json.specs.declared.parse.Progress.TheVariants as progress
+use Rattle.parsed_json.specs.declared.parse.Reading.{Reading}
+use Rattle.parsed_json.specs.declared.parse.Reading.TheVariants as reading
 
 -- THE TOKENS THAT WERE READ
 
@@ -38,9 +41,9 @@ read_tokens os = flat_map open_tokens os
 
 -- WHAT IS READ OF THEM
 
--- arrays and objects nest that deep at most, and no number is too large
-abbrev pub IsWithin : ℕ → Json → Type 0
-IsWithin d j = (depth j ≤ d) × IsTrue (has_numbers j)
+-- whatever follows these tokens, no JSON that nests that deep at most is read of them
+abbrev pub AreRefused : ℕ → List Token → Type 0
+AreRefused d ts = (rest : List Token) → NoneWith has_numbers (value d (ts ++ rest))
 
 -- the value that an array or object is where it ends here
 abbrev pub so_far : Open → Json
@@ -85,4 +88,11 @@ ended_object (opened.Object ms) = if is_some ms.name then None else Some (object
 abbrev pub IsProgress : List Token → Progress → List Open → Type 0
 IsProgress read progress.Unfinished os = (read ≡ read_tokens os) × AreWithin max_depth os
 IsProgress read (progress.Whole v) os = (read ≡ value_tokens v) × IsWithin max_depth (value_view v)
-IsProgress read progress.Refused os = (rest : List Token) → NoneWith has_numbers (value max_depth (read ++ rest))
+IsProgress read progress.TooDeep os = ((d : ℕ) × Begins d read) × AreRefused max_depth read
+IsProgress read progress.Refused os = (d : ℕ) → max_depth ≤ d → AreRefused d read
+
+-- what a text is
+abbrev pub IsReadingOf : List ℕ → Reading → Type 0
+IsReadingOf text (reading.Json v) = (Some (parsed_data v) ≡ read text) × ¬ (IsTooDeep text)
+IsReadingOf text reading.TooDeep = (None ≡ read text) × IsTooDeep text
+IsReadingOf text reading.NotJson = (None ≡ read text) × ¬ (IsTooDeep text)

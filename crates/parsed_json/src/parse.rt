@@ -1,12 +1,13 @@
 //! JSON is parsed from a text, in which its own texts lie then: one loop goes over the tokens, and keeps the arrays and objects
 //! that are open in a list.
-ghost use Rattle.std.specs.Prelude.{◌≡◌, ℕ, ◌-◌, ◌++◌, ◌∷◌, [], IfOk, IsTrue, false, length, not, option_map, vec_len};
+ghost use Rattle.std.specs.Prelude.{◌≡◌, ℕ, ◌-◌, ◌++◌, ◌∷◌, [], IfOk, IsTrue, None, false, length, not, option_map, vec_len};
 ghost use Rattle.std.specs.Bool.{MatchBool};
 ghost use Rattle.json.specs.Reads.{token_of};
 ghost use Rattle.json.specs.Token as token;
 ghost use Rattle.json.specs.Value.{value_view};
 ghost use Rattle.serde_json.specs.Read.{max_depth, read};
-ghost use Rattle.parsed_json.specs.OpenJson.{AreWithin, IsProgress, IsWithin, ended_array, ended_object, innermost_takes_value, open_tokens, read_tokens, so_far, takes_name, takes_value, value_tokens};
+ghost use Rattle.parsed_json.specs.Depth.{IsTooDeep, IsWithin};
+ghost use Rattle.parsed_json.specs.OpenJson.{AreWithin, IsProgress, IsReadingOf, ended_array, ended_object, innermost_takes_value, open_tokens, read_tokens, so_far, takes_name, takes_value, value_tokens};
 ghost use Rattle.parsed_json.specs.ParsedJson.{leaf_of, parsed_data};
 
 use crate::numbers::number_of;
@@ -45,8 +46,19 @@ enum Progress<'t> {
     Unfinished,
     /// They are a value.
     Whole(Parsed<'t>),
-    /// Nothing that is read begins so.
+    /// Some JSON begins so, but it nests deeper than is read.
+    TooDeep,
+    /// No JSON that is read begins so, however deep it nests.
     Refused,
+}
+
+/// What a text is.
+#[derive(Drop)]
+enum Reading<'t> {
+    Json(Parsed<'t>),
+    /// Its arrays and objects nest deeper than is read.
+    TooDeep,
+    NotJson,
 }
 
 impl<'t> Open<'t> {
@@ -209,8 +221,11 @@ fn begin<'t>(opened: &mut Vec<Open<'t>>, empty: Open<'t>) -> Result<Progress<'t>
     ensures { IfOk result (λ progress. IsProgress
         (read_tokens opened.old.items ++ open_tokens empty.entry) progress opened.new.items) }
 {
-    if !innermost_takes_value(opened) || opened.len() == MAX_DEPTH {
+    if !innermost_takes_value(opened) {
         return Ok(Progress::Refused);
+    }
+    if opened.len() == MAX_DEPTH {
+        return Ok(Progress::TooDeep);
     }
     opened.push(empty)?;
     Ok(Progress::Unfinished)
@@ -270,6 +285,34 @@ fn read_token<'t>(
     }
 }
 
+/// Reads a text.
+#[inline(always)]
+fn read_text<'t>(
+    alloc: Global,
+    text: &'t str,
+    scratch: &'t mut Scratch,
+) -> Result<Reading<'t>, AllocError>
+    ensures { IfOk result (λ reading. IsReadingOf text.now reading) }
+{
+    if text.len() >= LONG {
+        scratch.reserve(text.len() + SPARE)?;
+    }
+    let mut reader = Reader::new(text, scratch)?;
+    let mut opened = Vec::new(alloc);
+    while let Some(token) = reader.next() {
+        match read_token(alloc, &mut opened, token)? {
+            Progress::Unfinished => {}
+            Progress::Whole(value) => match reader.next() {
+                None => return Ok(Reading::Json(value)),
+                Some(_) => return Ok(Reading::NotJson),
+            },
+            Progress::TooDeep => return Ok(Reading::TooDeep),
+            Progress::Refused => return Ok(Reading::NotJson),
+        }
+    }
+    Ok(Reading::NotJson)
+}
+
 /// The JSON that a text is, or `None` where it is none that is read.
 ///
 /// It may be no JSON, the nesting depth of its arrays and objects may be above 127, or a number may be too large.
@@ -285,20 +328,32 @@ pub fn parse_json<'t>(
 ) -> Result<Option<Parsed<'t>>, AllocError>
     ensures { IfOk result (λ found. option_map parsed_data found ≡ read text.now) }
 {
-    if text.len() >= LONG {
-        scratch.reserve(text.len() + SPARE)?;
+    match read_text(alloc, text, scratch)? {
+        Reading::Json(value) => Ok(Some(value)),
+        Reading::TooDeep | Reading::NotJson => Ok(None),
     }
-    let mut reader = Reader::new(text, scratch)?;
-    let mut opened = Vec::new(alloc);
-    while let Some(token) = reader.next() {
-        match read_token(alloc, &mut opened, token)? {
-            Progress::Unfinished => {}
-            Progress::Whole(value) => match reader.next() {
-                None => return Ok(Some(value)),
-                Some(_) => return Ok(None),
-            },
-            Progress::Refused => return Ok(None),
-        }
+}
+
+/// Whether a text is no JSON that is read because its arrays and objects nest deeper than 127 levels.
+///
+/// It begins as some JSON does, and as none does that nests at most 127 deep: a fault before the bracket or brace of level
+/// 128 counts, and whatever follows that doesn't.
+///
+/// `AllocError` if an allocation fails: it takes the memory that `parse_json` takes.
+///
+/// ```
+/// let deep = "[".repeat(alloc, 128)?;
+/// println!(rt; "{} {}", is_too_deep(alloc, deep.as_str())?, is_too_deep(alloc, "[")?)?; // true false
+/// ```
+#[inline(never)]
+pub fn is_too_deep(alloc: Global, text: &str) -> Result<bool, AllocError>
+    ensures deep { IfOk result (λ deep. MatchBool deep
+        (IsTooDeep text.now) (¬ IsTooDeep text.now)) }
+    ensures unread { IfOk result (λ deep. IsTrue deep → read text.now ≡ None) }
+{
+    let mut scratch = Scratch::new(alloc);
+    match read_text(alloc, text, &mut scratch)? {
+        Reading::TooDeep => Ok(true),
+        Reading::Json(_) | Reading::NotJson => Ok(false),
     }
-    Ok(None)
 }

@@ -16,10 +16,9 @@ ghost use Rattle.graphql_ast_json.specs.nodes.Nodes.{Each, IsFlag, IsLocated, Is
 use crate::error::{AstJsonError, AstJsonProblem, JsonType};
 use crate::form::Form;
 use crate::read::{JsonNode, member, type_of};
+use graphql_ast::ast::{Directive, DirectiveList};
 use graphql_base::node::Node;
 use graphql_base::span::SourceSpan;
-use graphql_values::directive::Directive;
-use graphql_values::directive_list::DirectiveList;
 use parsed_json::{AnyItems, AnyJson};
 use std::alloc::AllocError;
 

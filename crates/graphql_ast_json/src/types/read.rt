@@ -74,7 +74,8 @@ fn type_within<'j, 't>(
         (IsNode node.entry.unknown kind.now (codes "type" ∷ []) (node_data node.entry)) }
     ensures json { IfOk result (λ inner.
         member_of (codes "type") (node_data node.entry) ≡ Some (any_data inner.0)) }
-    ensures inside { IfOk result (λ inner. depth (any_data inner.0) < depth (node_data node.entry)) }
+    ensures inside { IfOk result (λ inner.
+        depth (any_data inner.0) < depth (node_data node.entry)) }
     ensures located { IfOk result (λ inner. IsLocated node.entry.unknown (any_data inner.0)) }
     ensures kind { IfOk result (λ inner.
         member_of (codes "kind") (any_data inner.0) ≡ Some (string inner.1.now)) }

@@ -1,7 +1,7 @@
 use Rattle.std.proofs.Common.{◌≡◌, ◌-◌, ◌<◌, arith, refl, subst}
 use Rattle.json.specs.Value.{value_view}
 use Rattle.serde_json.specs.Read.{max_depth}
-use Rattle.parsed_json.specs.OpenJson.{IsWithin}
+use Rattle.parsed_json.specs.Depth.{IsWithin}
 use Rattle.parsed_json.proofs.OpenJson.{grown, no_value_place}
 use Rattle.parsed_json.proofs.parse.add.Goals as goal
 

@@ -1,6 +1,6 @@
 use Rattle.std.proofs.Common.{◌-◌, ◌<◌, arith, refl, subst, sym}
 use Rattle.serde_json.specs.Read.{max_depth}
-use Rattle.parsed_json.specs.OpenJson.{IsWithin}
+use Rattle.parsed_json.specs.Depth.{IsWithin}
 use Rattle.parsed_json.proofs.OpenJson.{grown, name_alone, no_name_place, none_there}
 use Rattle.parsed_json.proofs.parse.add_name.Goals as goal
 

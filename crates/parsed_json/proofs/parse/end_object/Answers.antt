@@ -1,7 +1,8 @@
 use Rattle.std.proofs.Common.{◌≡◌, ◌-◌, IfOk, List, length, arith, subst}
 use Rattle.json.specs.Token.{Token}
 use Rattle.serde_json.specs.Read.{max_depth}
-use Rattle.parsed_json.specs.OpenJson.{IsProgress, IsWithin, so_far}
+use Rattle.parsed_json.specs.Depth.{IsWithin}
+use Rattle.parsed_json.specs.OpenJson.{IsProgress, so_far}
 use Rattle.parsed_json.proofs.OpenJson.{object_end_alone, object_ends, object_within, no_object_ends, popped}
 use Rattle.parsed_json.proofs.parse.end_object.Goals as goal
 

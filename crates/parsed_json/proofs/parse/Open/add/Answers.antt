@@ -1,7 +1,8 @@
 use Rattle.std.proofs.Common.{sym, subst}
 use Rattle.json.specs.Json.{array}
 use Rattle.json.specs.Value.{items_view}
-use Rattle.parsed_json.specs.OpenJson.{IsWithin, so_far}
+use Rattle.parsed_json.specs.Depth.{IsWithin}
+use Rattle.parsed_json.specs.OpenJson.{so_far}
 use Rattle.parsed_json.proofs.OpenJson.{added_within, item_within}
 use Rattle.parsed_json.proofs.parse.Open.add.Goals as goal
 

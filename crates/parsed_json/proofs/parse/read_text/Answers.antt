@@ -1,8 +1,8 @@
 use Rattle.std.proofs.Common.{◌++◌, ◌∷◌, [], subst}
 use Rattle.json.specs.Reads.{token_of}
 use Rattle.parsed_json.specs.OpenJson.{IsProgress, read_tokens}
-use Rattle.parsed_json.proofs.OpenJson.{more, refused, unfinished, whole}
-use Rattle.parsed_json.proofs.parse.parse_json.Goals as goal
+use Rattle.parsed_json.proofs.OpenJson.{deep, more, refused, unfinished, whole}
+use Rattle.parsed_json.proofs.parse.read_text.Goals as goal
 
 pub returns-in-Refused : goal.returns-in-Refused
 returns-in-Refused c =
@@ -10,8 +10,17 @@ returns-in-Refused c =
     let t = token_of c.in-Some.token in
     let ps = c.read_token.new.opened.items in
     refused c.args.text.now before.opened.items ps t c.in_ok-reader.reader c.next.new.self before.reader c.in_ok-reader.ensures.ok
-    before.invariant.0 c.in-Some.ensures.value
+    before.invariant.0 c.in-Some.ensures.value before.invariant.1
     (subst (λ progress. IsProgress (read_tokens before.opened.items ++ t ∷ []) progress ps) c.in-Refused.is c.in_ok-read_token.ensures)
+
+pub returns-in-TooDeep : goal.returns-in-TooDeep
+returns-in-TooDeep c =
+    let before = c.loop-token in
+    let t = token_of c.in-Some.token in
+    let ps = c.read_token.new.opened.items in
+    deep c.args.text.now before.opened.items ps t c.in_ok-reader.reader c.next.new.self before.reader c.in_ok-reader.ensures.ok
+    before.invariant.0 c.in-Some.ensures.value
+    (subst (λ progress. IsProgress (read_tokens before.opened.items ++ t ∷ []) progress ps) c.in-TooDeep.is c.in_ok-read_token.ensures)
 
 pub returns : goal.returns
 returns c =

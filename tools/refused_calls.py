@@ -7,7 +7,7 @@ The calls are the public functions and methods that docs/API.md names and those 
 `Result` or a status, or returns an error of memory; and the `clone` of each public type that isn't `Copy`.
 
 A call is in a test where a file calls it that a test of refused memory (its name has `refused_memory`, or `refusals` before it) stands in, or that such a file
-uses: a file of the crate of tests, or of `worked_trees`. Text alone is looked at, as `.make_mut(`, `Node::new(` or `concat(`; a type is cloned where such a file
+uses: a file of the crate of tests, of `worked_trees` or of `graphql_checks`. Text alone is looked at, as `.make_mut(`, `Node::new(` or `concat(`; a type is cloned where such a file
 has a function that returns it, or names it as `check_clone::<NodeStr>`.
 """
 import re
@@ -17,6 +17,8 @@ from pathlib import Path
 import api
 
 CRATES = Path(__file__).resolve().parent.parent / "crates"
+# the libraries for the crates of tests
+SHARED = ("worked_trees", "graphql_checks")
 OF_MEMORY = re.compile(r"\b(AllocError|NameError|LiteralError|PrintError|SpecifiedArgumentError|AstJsonError|WellFormedError|WordsError|SinkFault|Rebuilt)\b")
 CLONE = re.compile(r"#\[derive\(([^)]*)\)\]\n(?:#\[[^\n]*\n)*pub (?:struct|enum) (\w+)|^impl(?:<[^{\n]*?>)? Clone for (\w+)", re.M)
 
@@ -73,10 +75,10 @@ def has_refusals(path, text):
 
 
 def used_by(path, root):
-    """The files of a crate of tests, or of the worked trees, that a file uses."""
+    """The files of a crate of tests, or of a library for these, that a file uses."""
     text = path.read_text(encoding="utf-8")
-    for whole, base, rest in re.findall(r"^use ((crate|worked_trees)((?:::\w+)+))", text, re.M):
-        top = root if base == "crate" else CRATES / "worked_trees/src"
+    for base, rest in re.findall(rf"^use (crate|{'|'.join(SHARED)})((?:::\w+)+)", text, re.M):
+        top = root if base == "crate" else CRATES / base / "src"
         parts = rest.strip(":").split("::")
         for end in range(len(parts), 0, -1):
             file = top.joinpath(*parts[:end]).with_suffix(".rt")
@@ -95,8 +97,8 @@ def texts_of_tests():
             path = waiting.pop()
             if path not in found:
                 found[path] = path.read_text(encoding="utf-8")
-                inner = root if path.is_relative_to(root) else CRATES / "worked_trees/src"
-                waiting += used_by(path, inner)
+                inner = path.relative_to(CRATES).parts[0]
+                waiting += used_by(path, CRATES / inner / "src")
     return "\n".join(found.values())
 
 

@@ -1,8 +1,8 @@
 //! What this crate passes on, or writes anew over what stands below it: the macros of types and values, lists of directives, texts of errors.
-use crate::checks::check_line;
 use graphql_ast::ast::{Directive, DirectiveList, SpecifiedArgumentError, Type};
 use graphql_ast::node::Node;
 use graphql_ast::{name, ty, value};
+use graphql_checks::trees::check_line;
 use std::alloc::{AllocError, Global};
 
 /// Each form of the macro of types.
@@ -30,7 +30,7 @@ fn types_values_lists_and_errors(rt: HostRuntime) {
     }
     let value = value!(in alloc; {min: 0, max: $max, tags: ["new", NEW], other: null});
     let wanted = "{min: 0, max: $max, tags: [\"new\", NEW], other: null}";
-    check_line(&rt, alloc, &value.expect(&rt, "memory"), wanted, true);
+    check_line(alloc, &value.expect(&rt, "memory"), wanted, true).expect(&rt, wanted);
     let mut list = DirectiveList::new(alloc);
     let node = Node::new(list.allocator(), Directive::new(alloc, name!(d)));
     list.0

@@ -1,11 +1,11 @@
 //! Whole prints of documents, where memory is ample.
-use crate::checks::{check_line, check_print};
 use crate::samples::{
     EACH_VARIANT, anonymous_query, described_query, directives, document, each_variant, query,
     type_a, type_and_query,
 };
 use graphql_ast::ast::{Definition, Document};
 use graphql_ast::node::Node;
+use graphql_checks::trees::{check_line, check_print};
 use std::alloc::{AllocError, Global};
 use std::process::Abort;
 
@@ -66,9 +66,9 @@ fn check_laid_out(rt: &impl Abort, alloc: Global, document: &Document, cases: &[
             None => print.no_indent(),
             Some(prefix) => print.indent_prefix(prefix),
         };
-        check_print(rt, alloc, laid_out.initial_indent_level(*level), wanted);
+        check_print(alloc, laid_out.initial_indent_level(*level), wanted).expect(rt, wanted);
         if *prefix == Some("  ") && *level == 0 {
-            check_print(rt, alloc, print, wanted);
+            check_print(alloc, print, wanted).expect(rt, wanted);
             let text = format!(in alloc; "{document}").expect(rt, "memory");
             assert_eq!(rt; text.as_str(), *wanted);
         }
@@ -93,7 +93,7 @@ fn of_documents(rt: HostRuntime) {
     let alloc = rt.alloc();
     let each_variant = each_variant(alloc).expect(&rt, "memory");
     let each_variant = document(alloc, each_variant);
-    check_line(&rt, alloc, &each_variant, EACH_VARIANT, true);
+    check_line(alloc, &each_variant, EACH_VARIANT, true).expect(&rt, "each variant");
     check_document(&rt, alloc, type_and_query(alloc), true, &TYPE_AND_QUERY);
     check_document(&rt, alloc, query_and_type(alloc), true, &QUERY_AND_TYPE);
     let described = described_query(alloc).expect(&rt, "memory");

@@ -2,18 +2,18 @@
 mod calls;
 mod each_kind;
 
-use crate::checks::{check_cloned_or_refused, check_text_or_refused};
 use crate::samples::{EACH_VARIANT, document, each_variant};
 use graphql_ast::ast::{Document, ScalarTypeDefinition};
 use graphql_ast::name;
+use graphql_checks::refused::{check_cloned_or_refused, check_text_or_refused};
 
 /// Allocations: 62.
 #[test]
 fn a_document_is_copied_and_printed_or_refused(rt: HostRuntime) {
     if let Ok(all) = each_variant(rt.alloc()) {
         let document = document(rt.alloc(), all);
-        check_cloned_or_refused(&rt, &document);
-        check_text_or_refused(&rt, rt.alloc(), &document, EACH_VARIANT);
+        check_cloned_or_refused(&document).expect(&rt, "a clone");
+        check_text_or_refused(rt.alloc(), &document, EACH_VARIANT).expect(&rt, "a text");
     }
 }
 

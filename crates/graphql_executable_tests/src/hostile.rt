@@ -1,6 +1,6 @@
 //! Trees and sinks at the edges.
-use crate::checks::Narrow;
 use crate::samples::{fields, nested, operation, query};
+use graphql_checks::sinks::Narrow;
 use graphql_executable::operation_definition::OperationDefinition;
 use graphql_text::engine::PrintError;
 use std::alloc::Global;

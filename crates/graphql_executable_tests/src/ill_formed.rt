@@ -1,30 +1,23 @@
 //! Why operations, fragments, selections and variable definitions aren't well formed, and where.
-use crate::checks::{Flaw, check_flaws};
 use crate::samples::{a, field, fragment, only, operation, query, query_of_a, variable};
 use graphql_base::name;
 use graphql_base::name::Name;
 use graphql_base::node::Node;
 use graphql_base::span::{FileId, SourceSpan};
+use graphql_checks::flaws::{Cases, Flaw, at, check_flaws};
 use graphql_executable::field::Field;
 use graphql_executable::fragment_spread::FragmentSpread;
 use graphql_executable::inline_fragment::InlineFragment;
 use graphql_executable::operation_definition::OperationDefinition;
 use graphql_executable::selection::Selection;
 use graphql_executable::variable_definition::VariableDefinition;
-use graphql_text::ill_formed::SideCondition::{
-    self, HasSelection, IsConstant, IsNotOn, IsNotReserved,
-};
+use graphql_text::ill_formed::SideCondition::{HasSelection, IsConstant, IsNotOn, IsNotReserved};
 use graphql_values::argument::Argument;
 use graphql_values::directive::Directive;
 use graphql_values::directive_list::DirectiveList;
 use graphql_values::ty;
 use graphql_values::value::Value;
 use std::alloc::{AllocError, Global};
-
-/// The flaw of a name without a location, in nodes without one.
-fn flaw(condition: SideCondition, name: &'static str) -> Option<Flaw> {
-    Some((condition, Some(name), None))
-}
 
 /// The enum value `true`, which is no boolean.
 fn reserved() -> Value {
@@ -95,10 +88,6 @@ fn variable_of(
 
 // LOCATIONS
 
-fn at(start: u32, end: u32) -> Option<SourceSpan> {
-    SourceSpan::new(FileId::new(7), start, end)
-}
-
 /// The name `on`, with a location.
 fn placed_on() -> Name {
     match SourceSpan::new(FileId::new(7), 20, 22) {
@@ -164,7 +153,7 @@ fn on_at(location: Option<SourceSpan>) -> Option<Flaw> {
     Some((IsNotOn, Some("on"), location))
 }
 
-fn placed_spreads(alloc: Global) -> Result<Vec<(OperationDefinition, Option<Flaw>)>, AllocError> {
+fn placed_spreads(alloc: Global) -> Cases<OperationDefinition> {
     let (outer, inner, name) = (at(10, 30), at(15, 25), at(20, 22));
     Ok(vec![in alloc;
         (
@@ -187,7 +176,7 @@ fn placed_spreads(alloc: Global) -> Result<Vec<(OperationDefinition, Option<Flaw
 }
 
 /// A spread in an inline fragment that stands at a location or doesn't.
-fn deep_spreads(alloc: Global) -> Result<Vec<(OperationDefinition, Option<Flaw>)>, AllocError> {
+fn deep_spreads(alloc: Global) -> Cases<OperationDefinition> {
     let (outer, inner) = (at(10, 30), at(15, 25));
     let deep = vec![in alloc; spread_at(alloc, name!(on), None)?]?;
     let placed = inline_at(alloc, Some(placed_on()), deep.clone()?, inner)?;
@@ -203,7 +192,7 @@ fn empty_at(name: Option<&'static str>, location: Option<SourceSpan>) -> Option<
     Some((HasSelection, name, location))
 }
 
-fn named_sets(alloc: Global) -> Result<Vec<(OperationDefinition, Option<Flaw>)>, AllocError> {
+fn named_sets(alloc: Global) -> Cases<OperationDefinition> {
     let (outer, inner, name) = (at(10, 30), at(15, 25), at(20, 22));
     let placed = inline_at(alloc, Some(placed_on()), Vec::new(alloc), inner)?;
     let bare = inline_at(alloc, Some(name!(on)), Vec::new(alloc), inner)?;
@@ -213,7 +202,7 @@ fn named_sets(alloc: Global) -> Result<Vec<(OperationDefinition, Option<Flaw>)>,
     ]?)
 }
 
-fn nameless_sets(alloc: Global) -> Result<Vec<(OperationDefinition, Option<Flaw>)>, AllocError> {
+fn nameless_sets(alloc: Global) -> Cases<OperationDefinition> {
     let (outer, inner) = (at(10, 30), at(15, 25));
     let placed = inline_at(alloc, None, Vec::new(alloc), inner)?;
     let bare = inline_at(alloc, None, Vec::new(alloc), None)?;
@@ -241,7 +230,7 @@ fn placed_head(
     Ok(operation)
 }
 
-fn placed_heads(alloc: Global) -> Result<Vec<(OperationDefinition, Option<Flaw>)>, AllocError> {
+fn placed_heads(alloc: Global) -> Cases<OperationDefinition> {
     let (outer, inner) = (at(10, 30), at(15, 25));
     Ok(vec![in alloc;
         (
@@ -260,7 +249,7 @@ fn placed_heads(alloc: Global) -> Result<Vec<(OperationDefinition, Option<Flaw>)
 }
 
 /// A reserved value in a field, and in the directives of an inline fragment, with a location and without one.
-fn placed_parts(alloc: Global) -> Result<Vec<(OperationDefinition, Option<Flaw>)>, AllocError> {
+fn placed_parts(alloc: Global) -> Cases<OperationDefinition> {
     let (outer, inner) = (at(10, 30), at(15, 25));
     let told_inner = Some((IsNotReserved, Some("true"), inner));
     let told_outer = Some((IsNotReserved, Some("true"), outer));
@@ -281,10 +270,10 @@ fn placed_parts(alloc: Global) -> Result<Vec<(OperationDefinition, Option<Flaw>)
 #[test]
 fn locations(rt: HostRuntime) {
     let alloc = rt.alloc();
-    check_flaws(&rt, &placed_spreads(alloc).expect(&rt, "memory"));
-    check_flaws(&rt, &deep_spreads(alloc).expect(&rt, "memory"));
-    check_flaws(&rt, &named_sets(alloc).expect(&rt, "memory"));
-    check_flaws(&rt, &nameless_sets(alloc).expect(&rt, "memory"));
-    check_flaws(&rt, &placed_heads(alloc).expect(&rt, "memory"));
-    check_flaws(&rt, &placed_parts(alloc).expect(&rt, "memory"));
+    check_flaws(placed_spreads(alloc)).expect(&rt, "placed spreads");
+    check_flaws(deep_spreads(alloc)).expect(&rt, "deep spreads");
+    check_flaws(named_sets(alloc)).expect(&rt, "named sets");
+    check_flaws(nameless_sets(alloc)).expect(&rt, "nameless sets");
+    check_flaws(placed_heads(alloc)).expect(&rt, "placed heads");
+    check_flaws(placed_parts(alloc)).expect(&rt, "placed parts");
 }

@@ -1,9 +1,10 @@
 //! Whole prints of the seven kinds, as each is made anew too, where memory is ample. What breaks a side condition is printed all
 //! the same. How trees are laid out is told by the cases of another program.
-use crate::checks::{Trees, check_print, check_trees};
+use crate::checks::{Trees, check_trees};
 use crate::samples::{a, field, fragment, inline_fragment, operation, query, query_of_a, variable};
 use graphql_base::name;
 use graphql_base::node::{Node, NodeStr};
+use graphql_checks::trees::check_print;
 use graphql_executable::field::Field;
 use graphql_executable::fragment_definition::FragmentDefinition;
 use graphql_executable::fragment_spread::FragmentSpread;
@@ -55,7 +56,7 @@ fn of_selections(rt: HostRuntime) {
     check_trees(&rt, alloc, selections(alloc));
     let inline = inline_fragment(alloc).expect(&rt, "memory");
     let print = inline.serialize().initial_indent_level(1);
-    check_print(&rt, alloc, print, "  ... on T {\n    id\n  }");
+    check_print(alloc, print, "  ... on T {\n    id\n  }").expect(&rt, "a selection");
 }
 
 /// The last selects `a` twice.
@@ -108,12 +109,12 @@ fn of_definitions(rt: HostRuntime) {
     check_trees(&rt, alloc, variables(alloc));
     let mut query = query_of_a(alloc).expect(&rt, "memory");
     let print = query.serialize().initial_indent_level(1);
-    check_print(&rt, alloc, print, "  query {\n    a\n  }");
+    check_print(alloc, print, "  query {\n    a\n  }").expect(&rt, "a query");
     query.description = Some(NodeStr::new_str(alloc, "D").expect(&rt, "memory"));
     let wanted = "\"\"\"D\"\"\"\nquery {\n  a\n}";
-    check_print(&rt, alloc, query.serialize(), wanted);
+    check_print(alloc, query.serialize(), wanted).expect(&rt, wanted);
     let mut variable = variable(alloc).expect(&rt, "memory");
     variable.description = Some(NodeStr::new_str(alloc, "V").expect(&rt, "memory"));
     let wanted = "\"\"\"V\"\"\"\n$v: Int = 1 @d";
-    check_print(&rt, alloc, variable.serialize(), wanted);
+    check_print(alloc, variable.serialize(), wanted).expect(&rt, wanted);
 }

@@ -3,11 +3,11 @@ ghost use Rattle.std.specs.Prelude.{OnErr, OnOk};
 ghost use Rattle.graphql_executable.specs.code.SelectionLoans.{IsSelectionWith};
 ghost use Rattle.graphql_executable.specs.code.SelectionQueries.{selection_directives};
 
-use crate::checks::{check_cloned, check_line};
 use crate::samples::{a, field, inline_fragment, only, variable};
 use graphql_base::name;
 use graphql_base::node::Node;
 use graphql_base::span::{FileId, SourceSpan};
+use graphql_checks::trees::{check_cloned, check_line};
 use graphql_executable::field::Field;
 use graphql_executable::fragment_spread::FragmentSpread;
 use graphql_executable::operation_definition::OperationDefinition;
@@ -55,7 +55,7 @@ fn check_written(rt: &impl Abort, alloc: Global, mut selection: Selection, wante
     let other = selection.clone().expect(rt, "memory");
     let directives = only(alloc, Directive::new(alloc, name!(d))).expect(rt, "memory");
     set_directives(&mut selection, directives).expect(rt, "memory");
-    check_line(rt, alloc, &selection, wanted, true);
+    check_line(alloc, &selection, wanted, true).expect(rt, wanted);
     assert!(rt; !other.directives().has("d"));
 }
 
@@ -100,8 +100,8 @@ fn of_selections(rt: HostRuntime) {
         ),
     ] {
         let selection = made.expect(&rt, "memory");
-        check_line(&rt, alloc, &selection, wanted, true);
-        check_cloned(&rt, &selection);
+        check_line(alloc, &selection, wanted, true).expect(&rt, wanted);
+        check_cloned(&selection).expect(&rt, wanted);
         assert!(&rt; form(&selection) == wanted_form, "{wanted}");
         assert!(&rt; selection.location().is_none(), "{wanted}");
         check_contents(&rt, selection, None, count);

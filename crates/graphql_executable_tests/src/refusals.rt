@@ -1,7 +1,7 @@
 //! What is made, copied and printed, or refused.
-use crate::checks::{check_cloned_or_refused, check_text_or_refused};
 use crate::samples::{field, fragment, inline_fragment, operation};
 use graphql_base::name;
+use graphql_checks::refused::{check_cloned_or_refused, check_text_or_refused};
 use graphql_executable::field::Field;
 use graphql_executable::fragment_spread::FragmentSpread;
 use graphql_executable::operation_definition::OperationDefinition;
@@ -13,10 +13,10 @@ use std::alloc::AllocError;
 fn an_operation_is_copied_and_printed_or_refused(rt: HostRuntime) {
     let operation: Result<OperationDefinition, _> = operation(rt.alloc());
     if let Ok(operation) = operation {
-        check_cloned_or_refused(&rt, &operation);
+        check_cloned_or_refused(&operation).expect(&rt, "a clone");
         let wanted =
             "query N($v: Int = 1 @d) { r: s(a: $v) @include(if: true) { ...F ... on T { id } } }";
-        check_text_or_refused(&rt, rt.alloc(), &operation, wanted);
+        check_text_or_refused(rt.alloc(), &operation, wanted).expect(&rt, wanted);
     }
 }
 
@@ -24,9 +24,9 @@ fn an_operation_is_copied_and_printed_or_refused(rt: HostRuntime) {
 #[test]
 fn a_fragment_is_copied_and_printed_or_refused(rt: HostRuntime) {
     if let Ok(fragment) = fragment(rt.alloc()) {
-        check_cloned_or_refused(&rt, &fragment);
+        check_cloned_or_refused(&fragment).expect(&rt, "a clone");
         let wanted = "\"D\" fragment F on T { a }";
-        check_text_or_refused(&rt, rt.alloc(), &fragment, wanted);
+        check_text_or_refused(rt.alloc(), &fragment, wanted).expect(&rt, wanted);
     }
 }
 
@@ -45,7 +45,7 @@ fn a_selection_is_made_or_refused(rt: HostRuntime) {
         (inline, "... on T { id }"),
     ] {
         if let Ok(selection) = made {
-            check_text_or_refused(&rt, alloc, &selection, wanted);
+            check_text_or_refused(alloc, &selection, wanted).expect(&rt, wanted);
         }
     }
 }

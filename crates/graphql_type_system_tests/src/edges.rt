@@ -1,12 +1,10 @@
 //! Prints at their edges.
-ghost use Rattle.std.specs.Prelude.{None};
-
 use crate::checks::check_displayed;
 use crate::samples::object;
 use graphql_base::name;
 use graphql_base::node::{Node, NodeStr};
+use graphql_checks::sinks::Narrow;
 use graphql_text::engine::PrintError;
-use graphql_text::sink::{SinkFault, TextSink};
 use graphql_type_system::field_definition::FieldDefinition;
 use graphql_type_system::object_type::ObjectTypeDefinition;
 use graphql_type_system::scalar_type::ScalarTypeDefinition;
@@ -71,48 +69,16 @@ fn levels_at_the_edge(rt: HostRuntime) {
     assert!(rt; same == wide);
 }
 
-/// A sink that takes so many bytes, one a call, and then faults.
-#[derive(Drop)]
-struct Short {
-    room: usize,
-    faults: u64,
-}
-
-impl TextSink for Short {
-    ghost taken = { λ sink. None };
-
-    ghost fault_count = { λ sink. sink.faults };
-
-    fn put(&mut self, bytes: &[u8]) -> Result<usize, SinkFault> {
-        if bytes.is_empty() {
-            return Ok(0);
-        }
-        if self.room > 0 {
-            self.room -= 1;
-            return Ok(1);
-        }
-        self.faults += 1;
-        Err(SinkFault)
-    }
-
-    fn faults(&self) -> u64 {
-        self.faults
-    }
-}
-
 #[test]
 fn a_sink_that_faults_after_each_byte(rt: HostRuntime) {
     let object = object(rt.alloc()).expect(&rt, "memory");
     let print = object.serialize().no_indent();
     for room in 0..63 {
-        let mut sink = Short { room, faults: 0 };
+        let mut sink = Narrow::with_room(rt.alloc(), room);
         let answer = print.print_to(&mut sink);
         assert_eq!(rt; answer, Err(PrintError::Sink), "{room}");
         assert_eq!(rt; sink.faults, 1, "{room}");
     }
-    let mut sink = Short {
-        room: 63,
-        faults: 0,
-    };
+    let mut sink = Narrow::with_room(rt.alloc(), 63);
     assert_eq!(rt; print.print_to(&mut sink), Ok(()));
 }

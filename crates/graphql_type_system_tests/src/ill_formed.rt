@@ -1,11 +1,11 @@
 //! Why definitions and extensions of the type system aren't well formed, and where.
-use crate::checks::{Flaw, check_flaws};
 use crate::samples::object;
 use graphql_base::name;
 use graphql_base::name::Name;
 use graphql_base::node::Node;
 use graphql_base::span::{FileId, SourceSpan};
-use graphql_text::ill_formed::SideCondition::{self, AddsSomething, IsConstant, IsNotReserved};
+use graphql_checks::flaws::{Cases, Flaw, at, check_flaws};
+use graphql_text::ill_formed::SideCondition::{AddsSomething, IsConstant, IsNotReserved};
 use graphql_type_system::enum_type::{EnumTypeDefinition, EnumTypeExtension};
 use graphql_type_system::enum_value_definition::EnumValueDefinition;
 use graphql_type_system::field_definition::FieldDefinition;
@@ -18,14 +18,6 @@ use graphql_values::operation_type::OperationType;
 use graphql_values::ty;
 use graphql_values::value::Value;
 use std::alloc::{AllocError, Global};
-
-/// Trees of a kind, and the first flaw of each.
-type Cases<T> = Result<Vec<(T, Option<Flaw>)>, AllocError>;
-
-/// The flaw of a name without a location, in nodes without one.
-fn flaw(condition: SideCondition, name: &'static str) -> Option<Flaw> {
-    Some((condition, Some(name), None))
-}
 
 /// The flaw of the variable in `flawed_input`.
 const IN_A_DEFAULT: Option<Flaw> = Some((IsConstant, Some("w"), None));
@@ -90,10 +82,6 @@ fn enum_of(
 
 // LOCATIONS
 
-fn at(start: u32, end: u32) -> Option<SourceSpan> {
-    SourceSpan::new(FileId::new(7), start, end)
-}
-
 /// The name `null`, with a location.
 fn placed_null() -> Name {
     match SourceSpan::new(FileId::new(7), 20, 24) {
@@ -128,7 +116,10 @@ fn placed_enums(alloc: Global) -> Cases<EnumTypeDefinition> {
             placed_enum(alloc, null.clone()?, inner)?,
             Some((IsNotReserved, Some("null"), inner))
         ),
-        (placed_enum(alloc, null, None)?, flaw(IsNotReserved, "null")),
+        (
+            placed_enum(alloc, null, None)?,
+            Some((IsNotReserved, Some("null"), None))
+        ),
     ]?)
 }
 
@@ -170,13 +161,18 @@ fn placed_objects(alloc: Global) -> Cases<ObjectTypeDefinition> {
     ]?)
 }
 
+/// `extend enum null`, which adds nothing, where the name has a location.
+fn placed_extensions(alloc: Global) -> Cases<EnumTypeExtension> {
+    let extension = EnumTypeExtension::new(alloc, placed_null());
+    let wanted = Some((AddsSomething, Some("null"), at(20, 24)));
+    Ok(vec![in alloc; (extension, wanted)]?)
+}
+
 /// The name's, or else that of the innermost node around it that has one.
 #[test]
 fn locations(rt: HostRuntime) {
     let alloc = rt.alloc();
-    check_flaws(&rt, &placed_enums(alloc).expect(&rt, "memory"));
-    check_flaws(&rt, &placed_objects(alloc).expect(&rt, "memory"));
-    let extension = EnumTypeExtension::new(alloc, placed_null());
-    let wanted = Some((AddsSomething, Some("null"), at(20, 24)));
-    check_flaws(&rt, &[(extension, wanted)]);
+    check_flaws(placed_enums(alloc)).expect(&rt, "placed enums");
+    check_flaws(placed_objects(alloc)).expect(&rt, "placed objects");
+    check_flaws(placed_extensions(alloc)).expect(&rt, "placed extensions");
 }

@@ -1,11 +1,8 @@
 //! What the examples compare, and the writers and sinks that they print into.
 ghost use Rattle.std.specs.Prelude.{◌≡◌, None};
 
-use graphql_base::span::SourceSpan;
 use graphql_text::engine::{PrintError, Serialize, Syntax};
-use graphql_text::ill_formed::SideCondition;
 use graphql_text::sink::{SinkFault, StreamSink, TextSink};
-use std::alloc::Global;
 use std::fmt::{self, Debug, Display, Write};
 use std::io::{self, Cursor};
 use std::process::Abort;
@@ -18,48 +15,6 @@ pub(crate) fn check_text(rt: &impl Abort, found: &str, wanted: &str) {
 pub(crate) fn check_made<E: Debug>(rt: &impl Abort, made: Result<String, E>, wanted: &str) {
     let text = made.expect(rt, "memory");
     check_text(rt, text.as_str(), wanted);
-}
-
-/// A clone: memory is ample.
-pub(crate) fn check_cloned<T: Clone + PartialEq + Drop>(rt: &impl Abort, original: &T) {
-    let copy = original.clone().expect(rt, "memory");
-    assert!(rt; copy == *original);
-}
-
-/// A clone, where memory may be refused.
-pub(crate) fn check_cloned_or_refused<T: Clone + PartialEq + Drop>(rt: &impl Abort, original: &T) {
-    if let Ok(copy) = original.clone() {
-        assert!(rt; copy == *original);
-    }
-}
-
-/// A flaw of a tree: the side condition, the text of the name, and the location.
-pub(crate) type Flaw = (SideCondition, Option<&'static str>, Option<SourceSpan>);
-
-/// The first flaw of each tree, and that it is well formed without one.
-pub(crate) fn check_flaws<T: Syntax + Display>(rt: &impl Abort, cases: &[(T, Option<Flaw>)]) {
-    for (tree, wanted) in cases {
-        let found = tree.find_ill_formed();
-        assert_eq!(rt; tree.is_well_formed(), found.is_none(), "{tree}");
-        let flaw = found.map(|found| {
-            let name = found.name.map(|name| name.as_str());
-            (found.condition, name, found.location())
-        });
-        assert_eq!(rt; flaw, *wanted, "{tree}");
-    }
-}
-
-/// The text on one line, where memory may be refused.
-pub(crate) fn check_text_or_refused<T: Syntax>(
-    rt: &impl Abort,
-    alloc: Global,
-    tree: &T,
-    wanted: &str,
-) {
-    match Serialize::new(tree).no_indent().to_text(alloc) {
-        Ok(text) => check_text(rt, text.as_str(), wanted),
-        Err(error) => assert_eq!(rt; error, PrintError::Memory),
-    }
 }
 
 /// The print on one line into a writer that asks for no memory, and what the writer took.

@@ -1,22 +1,15 @@
 //! Prints whose pieces begin and end at each place about the end of the buffer, which holds 1,024 bytes.
-use crate::checks::{check_made, check_text};
+use crate::checks::check_text;
 use graphql_base::name::Name;
 use graphql_base::node::Node;
+use graphql_checks::trees::check_print;
 use graphql_text::engine::{Serialize, Syntax};
-use graphql_text::sink::{TextSink, VecSink};
 use graphql_values::input_value_definition::InputValueDefinition;
 use graphql_values::literal::IntValue;
 use graphql_values::types::Type;
 use graphql_values::value::Value;
 use std::alloc::Global;
 use std::process::Abort;
-
-fn check_print<T: Syntax>(rt: &impl Abort, alloc: Global, print: Serialize<'_, T>, wanted: &str) {
-    check_made(rt, print.to_text(alloc), wanted);
-    let mut sink = VecSink::new(alloc);
-    assert_eq!(rt; print.print_to(&mut sink), Ok(()));
-    assert_eq!(rt; sink.bytes(), wanted.as_bytes());
-}
 
 fn enum_value(rt: &impl Abort, alloc: Global, text: &str) -> Node<Value> {
     let name = Name::new(alloc, text).expect(rt, "a name");
@@ -36,7 +29,7 @@ fn check_piece(rt: &impl Abort, alloc: Global, filler: usize, piece: Node<Value>
     let items = vec![in alloc; first, piece, enum_value(rt, alloc, "y")].expect(rt, "memory");
     let list = Value::List(items);
     let wanted = format!(in alloc; "[{before}, {text}, y]").expect(rt, "memory");
-    check_print(rt, alloc, list.serialize().no_indent(), wanted.as_str());
+    check_print(alloc, list.serialize().no_indent(), wanted.as_str()).expect(rt, text);
 }
 
 /// A string of so many letters, and but for none a name of as many and an int of as many digits.
@@ -73,7 +66,7 @@ fn check_at_each_fill_level<T: Syntax>(rt: &impl Abort, alloc: Global, tree: &T,
         let print = Serialize::new(tree)
             .indent_prefix(blanks.as_str())
             .initial_indent_level(1);
-        check_print(rt, alloc, print, wanted.as_str());
+        check_print(alloc, print, wanted.as_str()).expect(rt, text);
         add(rt, &mut blanks, " ");
     }
 }

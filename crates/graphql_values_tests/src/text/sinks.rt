@@ -1,56 +1,15 @@
 //! Sinks and writers that take little, or fault.
 
-ghost use Rattle.std.specs.Prelude.{◌≡◌, Some};
-
 use crate::samples::{items, one};
+use graphql_checks::sinks::Narrow;
 use graphql_text::engine::PrintError;
-use graphql_text::sink::{SinkFault, StreamSink, TextSink, VecSink};
+use graphql_text::sink::{StreamSink, TextSink, VecSink};
 use graphql_values::value::Value;
 use std::alloc::Global;
 use std::io::{self, Cursor, ErrorKind, Write};
 use std::process::Abort;
 
 const TEXT: &[u8] = b"[1, EXAMPLE, true, null]";
-
-/// Takes one byte a call, so many in all, and then faults.
-#[derive(Drop)]
-struct Narrow {
-    bytes: Vec<u8>,
-    room: usize,
-    faults: u64,
-}
-
-impl TextSink for Narrow {
-    ghost taken = { λ sink. Some sink.bytes.items };
-
-    ghost fault_count = { λ sink. sink.faults };
-
-    fn put(&mut self, bytes: &[u8]) -> Result<usize, SinkFault> {
-        let Some(byte) = bytes.first() else {
-            return Ok(0);
-        };
-        if self.room > 0 && self.bytes.push(*byte).is_ok() {
-            self.room -= 1;
-            return Ok(1);
-        }
-        self.faults += 1;
-        Err(SinkFault)
-    }
-
-    fn faults(&self) -> u64 {
-        self.faults
-    }
-}
-
-fn sink_with_room(alloc: Global, room: usize) -> Narrow
-    ensures { result.faults ≡ 0 }
-{
-    Narrow {
-        bytes: Vec::new(alloc),
-        room,
-        faults: 0,
-    }
-}
 
 /// What a writer answers to one of its writes.
 #[derive(Clone, Copy, Drop)]
@@ -125,7 +84,7 @@ fn check_taken(rt: &impl Abort, is_whole: bool, faults: u64, bytes: &[u8], taken
 
 /// Prints the list into so much room, and answers whether all of it was taken, and the sink.
 fn print_to_narrow(list: &Value, alloc: Global, room: usize) -> (bool, Narrow) {
-    let mut sink = sink_with_room(alloc, room);
+    let mut sink = Narrow::with_room(alloc, room);
     let is_whole = list.serialize().no_indent().print_to(&mut sink).is_ok();
     (is_whole, sink)
 }

@@ -1,7 +1,8 @@
 //! Clones where memory is ample.
-use crate::checks::{check_cloned, check_made};
+use crate::checks::check_made;
 use crate::samples::{FORMS, definition, directive, directives, input, nested, number, value_of};
 use graphql_base::name;
+use graphql_checks::trees::check_cloned;
 use graphql_values::argument::Argument;
 use graphql_values::literal::{FloatValue, IntValue};
 use graphql_values::ty;
@@ -28,30 +29,26 @@ fn argument(alloc: Global) -> Result<Argument, AllocError> {
 #[test]
 fn of_trees_and_prints(rt: HostRuntime) {
     for form in FORMS {
-        check_cloned(&rt, &value_of(rt.alloc(), form).expect(&rt, "memory"));
+        check_cloned(&value_of(rt.alloc(), form).expect(&rt, "memory")).expect(&rt, "a clone");
     }
     for text in ["A", "A!", "[A!]", "[[A]!]!"] {
-        check_cloned(&rt, &type_of(rt.alloc(), text).expect(&rt, "memory"));
+        check_cloned(&type_of(rt.alloc(), text).expect(&rt, "memory")).expect(&rt, "a clone");
     }
     let int = IntValue::new_parsed(rt.alloc(), "-120").expect(&rt, "memory");
-    check_cloned(&rt, &int);
+    check_cloned(&int).expect(&rt, "a clone");
     let float = FloatValue::new_parsed(rt.alloc(), "1.50").expect(&rt, "memory");
-    check_cloned(&rt, &float);
+    check_cloned(&float).expect(&rt, "a clone");
     let long = "-100000000000000000000000000002";
-    check_cloned(
-        &rt,
-        &IntValue::new_parsed(rt.alloc(), long).expect(&rt, "memory"),
-    );
+    let int = IntValue::new_parsed(rt.alloc(), long).expect(&rt, "memory");
+    check_cloned(&int).expect(&rt, long);
     let long = "1.50000000000000000000000000002";
-    check_cloned(
-        &rt,
-        &FloatValue::new_parsed(rt.alloc(), long).expect(&rt, "memory"),
-    );
-    check_cloned(&rt, &argument(rt.alloc()).expect(&rt, "memory"));
-    check_cloned(&rt, &directive(rt.alloc()).expect(&rt, "memory"));
-    check_cloned(&rt, &directives(rt.alloc()).expect(&rt, "memory"));
-    check_cloned(&rt, &input(rt.alloc()).expect(&rt, "memory"));
-    check_cloned(&rt, &definition(rt.alloc()).expect(&rt, "memory"));
+    let float = FloatValue::new_parsed(rt.alloc(), long).expect(&rt, "memory");
+    check_cloned(&float).expect(&rt, long);
+    check_cloned(&argument(rt.alloc()).expect(&rt, "memory")).expect(&rt, "a clone");
+    check_cloned(&directive(rt.alloc()).expect(&rt, "memory")).expect(&rt, "a clone");
+    check_cloned(&directives(rt.alloc()).expect(&rt, "memory")).expect(&rt, "a clone");
+    check_cloned(&input(rt.alloc()).expect(&rt, "memory")).expect(&rt, "a clone");
+    check_cloned(&definition(rt.alloc()).expect(&rt, "memory")).expect(&rt, "a clone");
     let value = nested(rt.alloc()).expect(&rt, "memory");
     let print = value.serialize().indent_prefix("-").initial_indent_level(1);
     let copy = print.clone().expect(&rt, "memory");

@@ -1,11 +1,11 @@
 //! Equality and hashes of trees, which leave locations out. Clones keep these.
 use super::directive_definition::definition;
 use super::value::{list, object};
-use crate::checks::check_cloned;
 use crate::samples::number;
 use graphql_base::name;
 use graphql_base::node::Node;
 use graphql_base::span::{FileId, SourceSpan};
+use graphql_checks::trees::check_cloned;
 use graphql_values::argument::Argument;
 use graphql_values::directive::Directive;
 use graphql_values::ty;
@@ -38,7 +38,7 @@ fn placed(alloc: Global, file: u64) -> Result<Directive, AllocError> {
 fn check_compared<T: Clone + PartialEq + Drop>(rt: &impl Abort, tree: &T, same: &T, other: &T) {
     assert!(rt; *tree == *same);
     assert!(rt; *tree != *other);
-    check_cloned(rt, tree);
+    check_cloned(tree).expect(rt, "a clone");
 }
 
 #[test]

@@ -1,9 +1,9 @@
 //! Where values, directives and definitions aren't well formed.
-use crate::checks::{Flaw, check_flaws};
 use graphql_base::name;
 use graphql_base::name::Name;
 use graphql_base::node::Node;
 use graphql_base::span::{FileId, SourceSpan};
+use graphql_checks::flaws::{Cases, Flaw, at, check_flaws};
 use graphql_text::ill_formed::SideCondition::{HasLocation, IsNotReserved};
 use graphql_values::argument::Argument;
 use graphql_values::directive::Directive;
@@ -13,10 +13,6 @@ use graphql_values::input_value_definition::InputValueDefinition;
 use graphql_values::ty;
 use graphql_values::value::Value;
 use std::alloc::{AllocError, Global};
-
-fn at(start: u32, end: u32) -> Option<SourceSpan> {
-    SourceSpan::new(FileId::new(7), start, end)
-}
 
 /// The enum value `true`, which is no boolean.
 fn reserved() -> Value {
@@ -47,7 +43,7 @@ fn reserved_at(location: Option<SourceSpan>) -> Option<Flaw> {
     Some((IsNotReserved, Some("true"), location))
 }
 
-fn placed_values(alloc: Global) -> Result<Vec<(Value, Option<Flaw>)>, AllocError> {
+fn placed_values(alloc: Global) -> Cases<Value> {
     let (outer, inner) = (at(10, 30), at(15, 25));
     let list = around(alloc, reserved(), None)?;
     let placed_list = around(alloc, reserved(), inner)?;
@@ -82,7 +78,7 @@ fn placed_list(
     Ok(DirectiveList(vec![in alloc; Node::new_at(alloc, parent, directive)?]?))
 }
 
-fn placed_lists(alloc: Global) -> Result<Vec<(DirectiveList, Option<Flaw>)>, AllocError> {
+fn placed_lists(alloc: Global) -> Cases<DirectiveList> {
     let (outer, middle, inner) = (at(10, 30), at(13, 29), at(15, 25));
     let bare = name!("true");
     Ok(vec![in alloc;
@@ -132,7 +128,7 @@ fn placed_input(
     Ok(input)
 }
 
-fn placed_inputs(alloc: Global) -> Result<Vec<(InputValueDefinition, Option<Flaw>)>, AllocError> {
+fn placed_inputs(alloc: Global) -> Cases<InputValueDefinition> {
     let (first, second) = (at(10, 14), at(21, 25));
     Ok(vec![in alloc;
         (
@@ -157,9 +153,7 @@ fn placed_definition(
     })
 }
 
-fn placed_definitions(
-    alloc: Global,
-) -> Result<Vec<(DirectiveDefinition, Option<Flaw>)>, AllocError> {
+fn placed_definitions(alloc: Global) -> Cases<DirectiveDefinition> {
     let (outer, inner) = (at(10, 30), at(15, 25));
     let bare = DirectiveDefinition::new(alloc, placed_name());
     Ok(vec![in alloc;
@@ -174,8 +168,8 @@ fn placed_definitions(
 #[test]
 fn locations(rt: HostRuntime) {
     let alloc = rt.alloc();
-    check_flaws(&rt, &placed_values(alloc).expect(&rt, "memory"));
-    check_flaws(&rt, &placed_lists(alloc).expect(&rt, "memory"));
-    check_flaws(&rt, &placed_inputs(alloc).expect(&rt, "memory"));
-    check_flaws(&rt, &placed_definitions(alloc).expect(&rt, "memory"));
+    check_flaws(placed_values(alloc)).expect(&rt, "placed values");
+    check_flaws(placed_lists(alloc)).expect(&rt, "placed lists");
+    check_flaws(placed_inputs(alloc)).expect(&rt, "placed inputs");
+    check_flaws(placed_definitions(alloc)).expect(&rt, "placed definitions");
 }

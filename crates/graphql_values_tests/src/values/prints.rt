@@ -1,22 +1,10 @@
 //! Prints of the five kinds, where memory is ample. How trees are laid out is told by the cases of another program.
-use crate::checks::{Page, check_made, check_text};
+use crate::checks::{Page, check_made};
 use crate::samples::{definition, directive, directives, input, nested, one};
-use graphql_text::engine::{Serialize, Syntax};
-use graphql_text::sink::{TextSink, VecSink};
+use graphql_checks::trees::check_print;
 use graphql_values::ty;
 use graphql_values::value::Value;
-use std::alloc::Global;
 use std::fmt::{self, Write};
-use std::process::Abort;
-
-/// The print as a text, and into a sink.
-fn check_print<T: Syntax>(rt: &impl Abort, alloc: Global, print: Serialize<'_, T>, wanted: &str) {
-    let text = print.to_text(alloc).expect(rt, "memory");
-    check_text(rt, text.as_str(), wanted);
-    let mut sink = VecSink::new(alloc);
-    assert_eq!(rt; print.print_to(&mut sink), Ok(()));
-    assert_eq!(rt; (sink.bytes(), sink.faults()), (wanted.as_bytes(), 0));
-}
 
 #[test]
 fn of_each_kind(rt: HostRuntime) {
@@ -30,18 +18,18 @@ fn of_each_kind(rt: HostRuntime) {
         (value.serialize(), "[\n  [],\n  1.5,\n]"),
         (indented, "\t[\n\t\t[],\n\t\t1.5,\n\t]"),
     ] {
-        check_print(&rt, alloc, print, wanted);
+        check_print(alloc, print, wanted).expect(&rt, wanted);
     }
     let one = directive(alloc).expect(&rt, "memory");
-    check_print(&rt, alloc, one.serialize(), "@a(x: true, y: false)");
+    check_print(alloc, one.serialize(), "@a(x: true, y: false)").expect(&rt, "a directive");
     let two = directives(alloc).expect(&rt, "memory");
-    check_print(&rt, alloc, two.serialize(), " @a @b");
+    check_print(alloc, two.serialize(), " @a @b").expect(&rt, "directives");
     let input = input(alloc).expect(&rt, "memory");
     let wanted = "a: [[I!]] = [[], 1.5]";
-    check_print(&rt, alloc, input.serialize().no_indent(), wanted);
+    check_print(alloc, input.serialize().no_indent(), wanted).expect(&rt, wanted);
     let definition = definition(alloc).expect(&rt, "memory");
     let wanted = "directive @d(a: [[I!]] = [[], 1.5])";
-    check_print(&rt, alloc, definition.serialize(), wanted);
+    check_print(alloc, definition.serialize(), wanted).expect(&rt, wanted);
 }
 
 /// Width and precision do not reach trees, and a writer that refuses ends the print.

@@ -3,10 +3,11 @@
 mod made;
 mod prints;
 
-use crate::checks::{check_cloned, check_printed, check_text};
+use crate::checks::{check_printed, check_text};
 use crate::samples::{directive, directives};
 use graphql_base::name;
 use graphql_base::node::Node;
+use graphql_checks::trees::check_cloned;
 use graphql_values::directive::{Directive, SpecifiedArgumentError};
 use graphql_values::directive_list::DirectiveList;
 use graphql_values::literal::{FloatValue, IntValue};
@@ -68,14 +69,14 @@ fn no_memory_is_asked_for(rt: HostRuntime) {
         IntValue::from_i32(alloc, -2147483648),
         IntValue::from_i64(alloc, -9223372036854775808),
     ] {
-        check_cloned(&rt, &made.expect(&rt, "no memory"));
+        check_cloned(&made.expect(&rt, "no memory")).expect(&rt, "a clone");
     }
     let int = IntValue::new(alloc, "-12").expect(&rt, "no memory");
     check_text(&rt, int.as_str(), "-12");
     let text = "1.5000000000000000000000000002";
     let float = FloatValue::new_parsed(alloc, text).expect(&rt, "no memory");
     check_text(&rt, float.as_str(), text);
-    check_cloned(&rt, &float);
+    check_cloned(&float).expect(&rt, "a clone");
     let float = FloatValue::new(alloc, text).expect(&rt, "no memory");
     assert_eq!(rt; float.as_str().len(), 30);
     for (value, wanted) in [

@@ -1,8 +1,9 @@
 //! Arguments, values and literals that are made or refused.
-use crate::checks::{check_cloned_or_refused, check_text, check_text_or_refused};
+use crate::checks::check_text;
 use crate::samples::made_of_parts;
 use graphql_base::name;
 use graphql_base::node::Node;
+use graphql_checks::refused::{check_cloned_or_refused, check_text_or_refused};
 use graphql_values::argument::Argument;
 use graphql_values::literal::{FloatValue, IntValue, LiteralError};
 use graphql_values::value;
@@ -36,7 +37,7 @@ fn arguments_and_values_are_made_or_refused(rt: HostRuntime) {
         ),
     ] {
         if let Ok(value) = made {
-            check_text_or_refused(&rt, alloc, &value, wanted);
+            check_text_or_refused(alloc, &value, wanted).expect(&rt, wanted);
         }
     }
 }
@@ -66,10 +67,10 @@ fn a_literal_is_made_or_refused(rt: HostRuntime) {
     }
     if let Ok(int) = IntValue::new_parsed(rt.alloc(), INT) {
         check_text(&rt, int.as_str(), INT);
-        check_cloned_or_refused(&rt, &int);
+        check_cloned_or_refused(&int).expect(&rt, INT);
     }
     if let Ok(float) = FloatValue::new_parsed(rt.alloc(), FLOAT) {
         check_text(&rt, float.as_str(), FLOAT);
-        check_cloned_or_refused(&rt, &float);
+        check_cloned_or_refused(&float).expect(&rt, FLOAT);
     }
 }

@@ -1,9 +1,7 @@
 //! Trees that are copied, printed and displayed, or refused.
-use crate::checks::{
-    check_cloned_or_refused, check_displayed_or_refused, check_print_or_refused,
-    check_text_or_refused,
-};
+use crate::checks::{check_displayed_or_refused, check_print_or_refused};
 use crate::samples::{FORMS, definition, directive, directives, input, items, nested, value_of};
+use graphql_checks::refused::{check_cloned_or_refused, check_text_or_refused};
 use graphql_text::engine::{PrintError, Syntax};
 use graphql_text::sink::{TextSink, VecSink};
 use graphql_values::ty;
@@ -20,9 +18,9 @@ fn check_calls<T: Clone + PartialEq + Display + Syntax + Drop>(
     displayed: &str,
 ) {
     if let Ok(tree) = made {
-        check_cloned_or_refused(rt, &tree);
+        check_cloned_or_refused(&tree).expect(rt, flat);
         check_print_or_refused(rt, &tree, flat);
-        check_text_or_refused(rt, alloc, &tree, flat);
+        check_text_or_refused(alloc, &tree, flat).expect(rt, flat);
         check_displayed_or_refused(rt, &tree, displayed);
     }
 }
@@ -48,7 +46,7 @@ fn trees_are_copied_printed_and_displayed_or_refused(rt: HostRuntime) {
     check_calls(&rt, alloc, definition(alloc), text, text);
     for form in FORMS {
         if let Ok(value) = value_of(alloc, form) {
-            check_cloned_or_refused(&rt, &value);
+            check_cloned_or_refused(&value).expect(&rt, "a clone");
         }
     }
 }
@@ -60,7 +58,7 @@ fn a_type_is_made_copied_and_displayed_or_refused(rt: HostRuntime) {
         assert!(rt; ty.is_list() && ty.is_non_null());
         assert!(rt; ty.item_type().is_list() && ty.item_type().is_non_null());
         assert!(rt; *ty.item_type().item_type() == ty!(I));
-        check_cloned_or_refused(&rt, &ty);
+        check_cloned_or_refused(&ty).expect(&rt, "a clone");
     }
     if let Ok(ty) = ty!(in rt.alloc(); [[I!]]) {
         check_displayed_or_refused(&rt, &ty, "[[I!]]");

@@ -6,6 +6,7 @@ ghost use Rattle.graphql_ast_json.specs.kinds.DocumentJson.{IsDocument};
 ghost use Rattle.graphql_ast_json.specs.lemmas.DocumentNodes.{document_laws};
 ghost use Rattle.graphql_ast_json.specs.lemmas.Leaves.{json_laws};
 
+use crate::checks::{check_case, check_equal};
 use crate::outside::Outside;
 use graphql_ast::ast::{Definition, DirectiveList, Document, Selection};
 use graphql_ast::name::Name;
@@ -81,7 +82,7 @@ fn kinds_that_read_parsed_json_are_read_by_themselves(rt: HostRuntime) {
             Ok(direct) => format!(in alloc; "{}", direct.document),
             Err(error) => format!(in alloc; "{error}"),
         };
-        assert_eq!(&rt; told.expect(&rt, "memory").as_str(), wanted);
+        check_equal(&rt, told.expect(&rt, "memory").as_str(), wanted);
     }
     for (kind, reads, wanted) in [
         ("document", Document::reads_parsed(), true),
@@ -93,6 +94,6 @@ fn kinds_that_read_parsed_json_are_read_by_themselves(rt: HostRuntime) {
         ("text", NodeStr::reads_parsed(), true),
         ("kind of another crate", Outside::reads_parsed(), false),
     ] {
-        assert_eq!(&rt; reads, wanted, "{kind}");
+        check_case(&rt, &kind, &reads, &wanted);
     }
 }

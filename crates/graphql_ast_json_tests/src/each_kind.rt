@@ -1,5 +1,6 @@
 //! A worked tree of each kind, as AST JSON and from it.
 use crate::calls::check_all;
+use crate::checks::check_equal;
 use graphql_ast::ast::{Definition, Document};
 use graphql_ast_json::AstJson;
 use graphql_base::span::FileId;
@@ -88,5 +89,5 @@ fn calls_of_each_kind_are_whole(rt: HostRuntime) {
     check_parts(&rt, rt.alloc(), &mut refused);
     check_selections(&rt, rt.alloc(), &mut refused);
     check_documents(&rt, rt.alloc(), &mut refused, 0..VARIANTS);
-    assert_eq!(rt; refused.calls, 0);
+    check_equal(&rt, refused.calls, 0);
 }

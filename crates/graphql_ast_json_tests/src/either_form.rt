@@ -1,4 +1,5 @@
 //! JSON in either form, as callers ask it, and JSON that was parsed as a value of `serde_json`.
+use crate::checks::{check_case, check_equal};
 use graphql_ast_json::{AnyJson, parse_json};
 use json::{Scratch, Value as Parsed};
 use parsed_json::owned_json;
@@ -52,17 +53,18 @@ const ASKED: [(&str, Answers); 20] = [
 
 fn check(rt: &impl Abort, json: AnyJson<'_, '_>, text: &str, wanted: Answers) {
     let (is_so, number, count, word, is_null, is_object) = wanted;
-    assert_eq!(rt; json.as_bool(), is_so, "{text}");
-    assert_eq!(rt; json.as_u64(), number, "{text}");
+    check_case(rt, &text, json.as_bool(), is_so);
+    check_case(rt, &text, json.as_u64(), number);
     let items = json.as_items();
-    assert_eq!(rt; items.map(|items| items.len()), count, "{text}");
+    check_case(rt, &text, items.map(|items| items.len()), count);
     let is_empty = items.map(|items| items.is_empty());
-    assert_eq!(rt; is_empty, count.map(|count| count == 0), "{text}");
-    assert_eq!(rt; json.as_str(), word, "{text}");
-    assert_eq!(rt;
+    check_case(rt, &text, is_empty, count.map(|count| count == 0));
+    check_case(rt, &text, json.as_str(), word);
+    check_case(
+        rt,
+        &text,
         (json.is_null(), json.is_object()),
         (is_null, is_object),
-        "{text}"
     );
 }
 
@@ -71,9 +73,9 @@ fn check_members(rt: &impl Abort, json: AnyJson<'_, '_>) {
     assert!(rt; json.get("b").is_none());
     let member = json.get("a").expect(rt, "a member");
     let items = member.as_items().expect(rt, "an array");
-    assert_eq!(rt; items.len(), 2);
-    assert_eq!(rt; items.at(0).as_u64(), Some(1));
-    assert_eq!(rt; items.at(1).as_bool(), Some(false));
+    check_equal(rt, items.len(), 2);
+    check_equal(rt, items.at(0).as_u64(), Some(1));
+    check_equal(rt, items.at(1).as_bool(), Some(false));
 }
 
 fn check_form(rt: &impl Abort, form: AnyJson<'_, '_>, text: &str, wanted: Option<Answers>) {
@@ -104,7 +106,7 @@ fn check_two_numbers(rt: &impl Abort, alloc: Global, text: &str, wanted: Option<
     match parse_json(alloc, text, &mut scratch) {
         Ok(Some(parsed)) => {
             let found = AnyJson::Parsed(&parsed).two_numbers("start", "end");
-            assert_eq!(rt; found, wanted, "{text}");
+            check_case(rt, &text, &found, &wanted);
         }
         Ok(None) | Err(_) => panic!(rt; "{text} is JSON"),
     }

@@ -1,4 +1,5 @@
 //! Errors of texts, and of memory. Those of JSON are cases of the golden program.
+use crate::checks::{check_case, check_equal};
 use graphql_ast_json::{AstJsonError, from_ast_json_str, is_too_deep};
 use graphql_base::span::FileId;
 use graphql_values::value::Value;
@@ -70,9 +71,9 @@ fn texts_and_memory_are_named(rt: HostRuntime) {
     for (parts, wanted) in JSON {
         let text = text_of(alloc, parts).expect(&rt, "memory");
         let said = refusal(&rt, alloc, text.as_str());
-        assert_eq!(rt; said.as_str(), wanted, "{text}");
+        check_case(&rt, &text, said.as_str(), wanted);
         let is_deep = is_too_deep(alloc, text.as_str()).expect(&rt, "memory");
-        assert_eq!(rt; is_deep, wanted == TOO_DEEP, "{text}");
+        check_case(&rt, &text, is_deep, wanted == TOO_DEEP);
     }
     for parts in NO_JSON {
         let text = text_of(alloc, parts).expect(&rt, "memory");
@@ -81,12 +82,12 @@ fn texts_and_memory_are_named(rt: HostRuntime) {
         };
         let wanted = format!(in alloc; "not JSON: {error}").expect(&rt, "memory");
         let said = refusal(&rt, alloc, text.as_str());
-        assert_eq!(rt; said.as_str(), wanted.as_str(), "{text}");
+        check_case(&rt, &text, said.as_str(), wanted.as_str());
         let is_deep = is_too_deep(alloc, text.as_str()).expect(&rt, "memory");
         assert!(rt; !is_deep, "{text}");
     }
     let error = AstJsonError::Memory;
     assert!(rt; error.is_memory());
     let said = format!(in alloc; "{error}").expect(&rt, "memory");
-    assert_eq!(rt; said.as_str(), "out of memory");
+    check_equal(&rt, said.as_str(), "out of memory");
 }

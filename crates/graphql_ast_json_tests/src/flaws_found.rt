@@ -1,5 +1,6 @@
 //! Where a flaw of a tree is found: in many made trees, it is found where the search found it that knew values of
 //! `serde_json` alone.
+use crate::checks::check_case;
 use crate::flawed_trees::{
     AROUND_DEFINITIONS, AROUND_SELECTIONS, DEFINITIONS, MARKS, Marks, SELECTIONS, VALUES, filled,
     marked_json,
@@ -82,7 +83,7 @@ fn check_location<T: Drop>(
                 source: node.source,
             };
             let wanted = start_search::position_of(reader, broken.condition).expect(rt, "memory");
-            assert_eq!(rt; path.as_str(), wanted.path.as_str(), "{text}");
+            check_case(rt, &text, path.as_str(), wanted.path.as_str());
             assert!(rt; location.0 == wanted.location, "{text}");
             counts.add(broken.condition);
         }

@@ -1,5 +1,6 @@
 //! Trees that are large, from AST JSON and as it: long lists and long texts, and 300 nodes in one another, of each form that has
 //! them. A text of JSON nests less deep.
+use crate::checks::check_equal;
 use graphql_ast::ast::{
     Argument, Definition, Directive, Document, Field, FieldDefinition, FragmentDefinition,
     InlineFragment, InputValueDefinition, OperationDefinition, OperationType, Selection, Type,
@@ -167,19 +168,19 @@ fn large_trees_are_read_and_written(rt: HostRuntime) {
     let ends = (r#"{"kind":"ListValue","values":["#, "]}");
     let text = repeated(&rt, alloc, ends, r#"{"kind":"NullValue"}"#, 5000);
     let list = check_read::<Value>(&rt, alloc, text.as_str());
-    assert_eq!(&rt; list.as_list().map(|items| items.len()), Some(5000));
+    check_equal(&rt, list.as_list().map(|items| items.len()), Some(5000));
     let text = repeated(&rt, alloc, OPERATION, FIELD, 5000);
     let query = check_read::<OperationDefinition>(&rt, alloc, text.as_str());
-    assert_eq!(&rt; query.selection_set.len(), 5000);
+    check_equal(&rt, query.selection_set.len(), 5000);
     let ends = (r#"{"kind":"Document","definitions":["#, "]}");
     let text = repeated(&rt, alloc, ends, SCALAR, 17_000);
     assert!(&rt; text.len() > 1 << 20);
     let document = check_read::<Document>(&rt, alloc, text.as_str());
-    assert_eq!(&rt; document.definitions.len(), 17_000);
+    check_equal(&rt, document.definitions.len(), 17_000);
     let letters = "x".repeat(alloc, (1 << 20) + 1).expect(&rt, "memory");
     let text = format!(in alloc; "{{\"kind\":\"StringValue\",\"value\":\"{letters}\"}}");
     let string = check_read::<Value>(&rt, alloc, text.expect(&rt, "memory").as_str());
-    assert_eq!(&rt; string.as_str(), Some(letters.as_str()));
+    check_equal(&rt, string.as_str(), Some(letters.as_str()));
     check_made(&rt, alloc, lists(alloc));
     check_made(&rt, alloc, directive(alloc));
     check_made(&rt, alloc, list_types(alloc));

@@ -1,4 +1,5 @@
 //! JSON that is parsed from a text is read as a value of `serde_json` is: as the same tree, or with the same error.
+use crate::checks::{check_case, check_equal};
 use crate::errors::text_of;
 use crate::outside::Outside;
 use graphql_ast::ast::Document;
@@ -107,18 +108,18 @@ fn said_of_both(
     };
     let read = said(rt, alloc, Document::read_ast_json(reader));
     let found = said(rt, alloc, Document::read_json(parsed));
-    assert_eq!(rt; found.as_str(), read.as_str());
+    check_equal(rt, found.as_str(), read.as_str());
     let found = said(rt, alloc, Document::read_json(owned));
-    assert_eq!(rt; found.as_str(), read.as_str());
+    check_equal(rt, found.as_str(), read.as_str());
     for node in [parsed, owned] {
         let found = said_outside(rt, alloc, Outside::read_json(node));
-        assert_eq!(rt; found.as_str(), read.as_str());
+        check_equal(rt, found.as_str(), read.as_str());
     }
     let well_formed = said_well_formed(rt, alloc, read_well_formed_ast_json(reader));
     let found = said_well_formed(rt, alloc, read_well_formed_json(parsed));
-    assert_eq!(rt; found.as_str(), well_formed.as_str());
+    check_equal(rt, found.as_str(), well_formed.as_str());
     let found = said_well_formed(rt, alloc, read_well_formed_json(owned));
-    assert_eq!(rt; found.as_str(), well_formed.as_str());
+    check_equal(rt, found.as_str(), well_formed.as_str());
     (read, well_formed)
 }
 
@@ -130,18 +131,18 @@ fn check(rt: &impl Abort, alloc: Global, text: &str) {
     let (read, well_formed) = said_of_text(rt, alloc, text);
     let outside = from_ast_json_str::<Outside>(alloc, text, FileId::new(1));
     let outside = said_outside(rt, alloc, outside);
-    assert_eq!(rt; outside.as_str(), read.as_str());
+    check_equal(rt, outside.as_str(), read.as_str());
     match (parsed, Json::from_str(alloc, text)) {
         (Some(value), Ok(json)) => {
             let wanted = said_of_both(rt, alloc, &value, &json, Unknown::Refuse);
-            assert_eq!(rt; read.as_str(), wanted.0.as_str());
-            assert_eq!(rt; well_formed.as_str(), wanted.1.as_str());
+            check_equal(rt, read.as_str(), wanted.0.as_str());
+            check_equal(rt, well_formed.as_str(), wanted.1.as_str());
             said_of_both(rt, alloc, &value, &json, Unknown::PassOver);
         }
         (None, Err(error)) => {
             let wanted = format!(in alloc; "not JSON: {error}").expect(rt, "memory");
-            assert_eq!(rt; read.as_str(), wanted.as_str());
-            assert_eq!(rt; well_formed.as_str(), wanted.as_str());
+            check_equal(rt, read.as_str(), wanted.as_str());
+            check_equal(rt, well_formed.as_str(), wanted.as_str());
         }
         _ => panic!(rt; "read in one form alone"),
     }
@@ -201,8 +202,8 @@ fn both_forms_are_read_alike(rt: HostRuntime) {
         ),
     ] {
         let (read, well_formed) = said_of_text(&rt, alloc, text);
-        assert_eq!(rt; well_formed.as_str(), wanted);
-        assert_eq!(rt; Json::from_str(alloc, read.as_str()).is_ok(), is_read);
+        check_equal(&rt, well_formed.as_str(), wanted);
+        check_equal(&rt, Json::from_str(alloc, read.as_str()).is_ok(), is_read);
         assert!(rt; is_read || read.as_str() == wanted, "{read}");
         check_changes(&rt, alloc, text);
     }
@@ -236,8 +237,8 @@ fn depth_and_numbers_are_bounded_alike(rt: HostRuntime) {
         let text = text_of(alloc, parts).expect(&rt, "memory");
         let (read, well_formed) = said_of_text(&rt, alloc, text.as_str());
         if is_deep {
-            assert_eq!(rt; read.as_str(), TOO_DEEP, "{text}");
-            assert_eq!(rt; well_formed.as_str(), TOO_DEEP, "{text}");
+            check_case(&rt, &text, read.as_str(), TOO_DEEP);
+            check_case(&rt, &text, well_formed.as_str(), TOO_DEEP);
         } else {
             check(&rt, alloc, text.as_str());
         }
@@ -377,7 +378,7 @@ const UNKNOWN_MEMBERS: [(&str, &str); 6] = [
 fn check_said(rt: &impl Abort, alloc: Global, text: &str, wanted: &str) {
     check(rt, alloc, text);
     let (read, _) = said_of_text(rt, alloc, text);
-    assert_eq!(rt; read.as_str(), wanted, "{text}");
+    check_case(rt, &text, read.as_str(), wanted);
 }
 
 /// What is read of a location is written with its definition, and so is compared too.

@@ -3,6 +3,7 @@
 mod each_kind;
 
 use crate::calls::check_all;
+use crate::checks::check_equal;
 use crate::samples::{DEFINITION, ILL_FORMED, PRINTED};
 use graphql_ast::ast::Document;
 use graphql_ast_json::{
@@ -35,8 +36,8 @@ fn a_definition_is_read_or_memory_was_refused(rt: HostRuntime) {
     let alloc = rt.alloc();
     match from_ast_json_str::<DirectiveDefinition>(alloc, DEFINITION, FileId::new(1)) {
         Ok(definition) => match definition.serialize().no_indent().to_text(alloc) {
-            Ok(text) => assert_eq!(rt; text.as_str(), PRINTED),
-            Err(error) => assert_eq!(rt; error, PrintError::Memory),
+            Ok(text) => check_equal(&rt, text.as_str(), PRINTED),
+            Err(error) => check_equal(&rt, error, PrintError::Memory),
         },
         Err(error) => assert!(rt; error.is_memory()),
     }
@@ -75,13 +76,13 @@ fn what_is_wrong_is_told_or_memory_was_refused(rt: HostRuntime) {
         ),
     ] {
         if let Some(said) = refusal(&rt, alloc, text) {
-            assert_eq!(rt; said.as_str(), wanted);
+            check_equal(&rt, said.as_str(), wanted);
         }
     }
     match from_well_formed_ast_json_str::<Document>(alloc, ILL_FORMED, FileId::new(1)) {
         Ok(_) => panic!(rt; "ill formed"),
         Err(WellFormedError::IllFormed { path, .. }) => {
-            assert_eq!(rt; path.as_str(), "definitions[0]");
+            check_equal(&rt, path.as_str(), "definitions[0]");
         }
         Err(error) => assert!(rt; error.is_memory()),
     }

@@ -1,4 +1,5 @@
 //! Trees are read and written.
+use crate::checks::check_equal;
 use crate::samples::{DEFINITION, LOCATED, PRINTED};
 use graphql_ast_json::{AstJson, AstNode, from_ast_json_str};
 use graphql_base::node::Node;
@@ -20,7 +21,7 @@ fn trees_are_read_and_written(rt: HostRuntime) {
         .no_indent()
         .to_text(alloc)
         .expect(&rt, "memory");
-    assert_eq!(rt; text.as_str(), PRINTED);
+    check_equal(&rt, text.as_str(), PRINTED);
     let json = definition.to_ast_json(alloc).expect(&rt, "memory");
     let Ok(again) = DirectiveDefinition::from_ast_json(alloc, &json, source) else {
         panic!(rt; "the definition again");
@@ -31,7 +32,7 @@ fn trees_are_read_and_written(rt: HostRuntime) {
     let Ok(node) = from_ast_json_str::<Node<Value>>(alloc, LOCATED, source) else {
         panic!(rt; "a node");
     };
-    assert_eq!(rt; node.location(), SourceSpan::new(source, 3, 7));
+    check_equal(&rt, node.location(), SourceSpan::new(source, 3, 7));
     let json = node.to_ast_json(alloc).expect(&rt, "memory");
     let Ok(wanted) = Json::from_str(alloc, LOCATED) else {
         panic!(rt; "JSON");

@@ -1,4 +1,5 @@
 //! JSON of trees that aren't well formed is refused, with the position of the first flaw.
+use crate::checks::{check_case, check_equal};
 use crate::ill_formed_samples::{
     AROUND, FLAWED, NOTATION, ONE, PARTS, RESERVED, VARIABLE, WELL_FORMED,
 };
@@ -46,7 +47,7 @@ fn check(rt: &impl Abort, alloc: Global, definitions: &str, value: &str, wanted:
     let row = format!(in alloc; "(Document;'definitions':[{definitions}])").expect(rt, "memory");
     let json = json_of(rt, alloc, row.as_str(), value);
     let said = said::<Document>(rt, alloc, json.as_str());
-    assert_eq!(rt; said.as_str(), wanted, "{definitions}");
+    check_case(rt, &definitions, said.as_str(), wanted);
 }
 
 /// Each kind that has a side condition, with a flaw and without one.
@@ -116,7 +117,7 @@ fn trees_of_each_kind_are_told(rt: HostRuntime) {
             "at the root: found a number where an object was wanted",
         ),
     ] {
-        assert_eq!(rt; found.as_str(), wanted);
+        check_equal(&rt, found.as_str(), wanted);
     }
     let row = "(Document;'definitions':[(ScalarTypeDefinition;'name':<A>,@)])";
     let text = json_of(&rt, alloc, row, ONE);
@@ -125,7 +126,11 @@ fn trees_of_each_kind_are_told(rt: HostRuntime) {
         panic!(rt; "a document");
     };
     let printed = document.serialize().no_indent().to_text(alloc);
-    assert_eq!(rt; printed.expect(&rt, "memory").as_str(), "scalar A @d(a: 1)");
+    check_equal(
+        &rt,
+        printed.expect(&rt, "memory").as_str(),
+        "scalar A @d(a: 1)",
+    );
 }
 
 /// What no node of a kind has isn't looked into, though a node of another kind has it.
@@ -154,12 +159,13 @@ fn what_is_passed_over_has_no_flaws(rt: HostRuntime) {
     else {
         panic!(rt; "ill formed");
     };
-    assert_eq!(rt;
+    check_equal(
+        &rt,
         path.as_str(),
-        "definitions[0].arguments[0].defaultValue.value"
+        "definitions[0].arguments[0].defaultValue.value",
     );
     assert!(rt; location.0.is_none());
-    assert_eq!(rt; broken.condition, SideCondition::IsNotReserved);
+    check_equal(&rt, broken.condition, SideCondition::IsNotReserved);
     assert!(rt; broken.name.is_some_and(|name| name.as_str() == "true"));
     let error = WellFormedError::NotRead(AstJsonError::Memory);
     assert!(rt; error.is_memory());

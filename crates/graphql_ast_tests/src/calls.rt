@@ -1,4 +1,5 @@
 //! Calls that make, copy and lend what trees are made of: each is whole, or refused memory, and what it was refused for stays as it was.
+use crate::checks::check_equal;
 use graphql_ast::ast::{
     Argument, Definition, Document, Field, FloatValue, IntValue, LiteralError, Selection,
     SourceFile, Type,
@@ -29,9 +30,9 @@ fn check_name(rt: &impl Abort, refused: &mut Refused, made: Result<Name, AllocEr
         check_clone::<Name>(rt, refused, &name);
         if let Some(copy) = refused.made(name.clone()) {
             assert!(rt; copy.location().is_some() && copy.location() == name.location());
-            assert_eq!(rt; copy.as_str(), text);
+            check_equal(rt, copy.as_str(), text);
         }
-        assert_eq!(rt; name.as_str(), text);
+        check_equal(rt, name.as_str(), text);
     }
 }
 
@@ -48,7 +49,7 @@ fn check_names(rt: &impl Abort, alloc: Global, refused: &mut Refused) {
         Ok(_) => assert!(rt; false, "no name"),
         Err(NameError::Memory) => refused.add(),
         Err(NameError::Invalid(error)) => {
-            assert_eq!(rt; error.name.as_str(), "1nvalid");
+            check_equal(rt, error.name.as_str(), "1nvalid");
             check_clone::<InvalidNameError>(rt, refused, &error);
             check_clone::<NameError>(rt, refused, &NameError::Invalid(error));
         }
@@ -132,9 +133,10 @@ fn check_parts(rt: &impl Abort, alloc: Global, refused: &mut Refused) {
     }
     if let Some(file) = refused.made(source_file(alloc)) {
         check_clone::<SourceFile>(rt, refused, &file);
-        assert_eq!(rt;
+        check_equal(
+            rt,
             (file.path.as_str(), file.text.as_str()),
-            ("a.graphql", "a text")
+            ("a.graphql", "a text"),
         );
     }
 }
@@ -158,8 +160,8 @@ fn check_lent(
             refused.add();
         }
         assert!(rt; first == before);
-        assert_eq!(rt; second == before, !is_lent);
-        assert_eq!(rt; second.directives().is_empty(), is_lent);
+        check_equal(rt, second == before, !is_lent);
+        check_equal(rt, second.directives().is_empty(), is_lent);
     }
 }
 
@@ -236,5 +238,5 @@ pub(crate) fn check_all(rt: &impl Abort, alloc: Global, refused: &mut Refused) {
 fn calls_are_whole(rt: HostRuntime) {
     let mut refused = Refused::none();
     check_all(&rt, rt.alloc(), &mut refused);
-    assert_eq!(rt; refused.calls, 0);
+    check_equal(&rt, refused.calls, 0);
 }

@@ -1,5 +1,6 @@
 //! Trees that are deep, of each of the thirty kinds: 1,000 lists, objects, selection sets or list types in one another are printed,
 //! compared, hashed, cloned, asked for what is ill formed, and dropped.
+use crate::checks::{check_case, check_equal};
 use crate::samples::document;
 use graphql_ast::ast::{
     Argument, Definition, Directive, DirectiveDefinition, DirectiveList, DirectiveLocation,
@@ -111,7 +112,7 @@ impl<R: Abort> Deep<'_, R> {
         let found = tree
             .find_depths()
             .map(|depths| (depths.nesting, depths.lists));
-        assert_eq!(rt; found, Some(self.depths), "{before}");
+        check_case(rt, &before, found, Some(self.depths));
         self.check_levels(&tree, before, behind);
         let copy = tree.clone().expect(rt, "memory");
         assert!(rt; copy == tree && other == tree, "{before}");
@@ -130,11 +131,11 @@ impl<R: Abort> Deep<'_, R> {
             .as_str()
             .strip_prefix(before)
             .and_then(|rest| rest.strip_suffix(behind));
-        assert_eq!(rt; inner, Some(self.inner), "{before}");
+        check_case(rt, &before, inner, Some(self.inner));
         if depth > 0 {
             let above = print.initial_indent_level(usize::MAX - depth + 1);
             let answer = above.to_text(self.alloc);
-            assert_eq!(rt; answer.err(), Some(PrintError::LevelOverflow), "{before}");
+            check_case(rt, &before, answer.err(), Some(PrintError::LevelOverflow));
         }
     }
 }
@@ -406,7 +407,7 @@ fn typed_object(alloc: Global) -> Result<Document, AllocError> {
 fn sets_and_list_types_nest_in_each_kind_that_has_them(rt: HostRuntime) {
     let alloc = rt.alloc();
     let inner = nested(alloc, "{ a ", "{ a }", " }").expect(&rt, "memory");
-    assert_eq!(&rt; inner.len(), 5999);
+    check_equal(&rt, inner.len(), 5999);
     let sets = Deep::of(&rt, alloc, inner.as_str(), (1000, 0));
     sets.take((field(alloc), field(alloc)), "f ", "");
     sets.take((selection(alloc), selection(alloc)), "f ", "");
@@ -426,6 +427,6 @@ fn sets_and_list_types_nest_in_each_kind_that_has_them(rt: HostRuntime) {
     types.take(trees, "type T { f: ", " }");
     let ty = list_types(alloc).expect(&rt, "memory");
     let text = format!(in alloc; "{ty}").expect(&rt, "memory");
-    assert_eq!(&rt; text.as_str(), inner.as_str());
+    check_equal(&rt, text.as_str(), inner.as_str());
     assert!(&rt; ty.clone().expect(&rt, "memory") == list_types(alloc).expect(&rt, "memory"));
 }

@@ -1,4 +1,5 @@
 //! Documents as they are made, compared, hashed and cloned.
+use crate::checks::check_equal;
 use crate::samples::{document, query, source_file, type_a, type_and_query};
 use graphql_ast::ast::{Definition, Document};
 use graphql_ast::node::Node;
@@ -69,8 +70,9 @@ fn definitions_are_pushed(rt: HostRuntime) {
     assert!(rt; new == document(alloc, Vec::new(alloc)));
     let pushed = pushed(alloc).expect(&rt, "memory");
     let text = pushed.serialize().no_indent().to_text(alloc);
-    assert_eq!(rt;
+    check_equal(
+        &rt,
         text.expect(&rt, "memory").as_str(),
-        "{ a } query { a } type A"
+        "{ a } query { a } type A",
     );
 }

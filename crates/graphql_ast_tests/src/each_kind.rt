@@ -1,4 +1,5 @@
 //! The calls that each kind that is printed has, over a worked tree of each: clones, comparisons, hashes and prints.
+use crate::checks::{check_case, check_equal};
 use crate::kinds::{self, EachKind, document_line};
 use graphql_ast::ast::{Document, Serialize, Value};
 use graphql_ast::serialize::{PrintError, Syntax};
@@ -37,7 +38,7 @@ impl fmt::Write for Page {
 }
 
 fn check_taken(rt: &impl Abort, taken: Cursor<[u8; ROOM]>, wanted: &str) {
-    assert_eq!(rt; taken.position(), wanted.len() as u64, "{wanted}");
+    check_case(rt, &wanted, taken.position(), wanted.len() as u64);
     assert!(rt;
         taken.into_inner().starts_with(wanted.as_bytes()),
         "{wanted}"
@@ -64,7 +65,7 @@ fn check_vector<T: Syntax>(
         }
     }
     let faults = u64::from(answer == Err(PrintError::Sink));
-    assert_eq!(rt; sink.faults(), faults, "{line}");
+    check_case(rt, &line, sink.faults(), faults);
 }
 
 /// A writer that asks for no memory has all of the print, or nothing if the print was refused memory.
@@ -77,10 +78,10 @@ fn check_writer<T: Syntax>(
     let mut sink = StreamSink::new(Cursor::new([0; ROOM]));
     let answer = print.print_to(&mut sink);
     if answer.is_err() {
-        assert_eq!(rt; answer, Err(PrintError::Memory), "{line}");
+        check_case(rt, &line, answer, Err(PrintError::Memory));
         refused.add();
     }
-    assert_eq!(rt; sink.faults(), 0, "{line}");
+    check_case(rt, &line, sink.faults(), 0);
     let wanted = if answer.is_ok() { line } else { "" };
     check_taken(rt, sink.into_inner(), wanted);
 }
@@ -107,7 +108,7 @@ fn printed(
     match answer {
         Ok(text) => Some(text),
         Err(error) => {
-            assert_eq!(rt; error, PrintError::Memory);
+            check_equal(rt, error, PrintError::Memory);
             refused.add();
             None
         }
@@ -124,7 +125,7 @@ fn check_prints<T: Display + Syntax>(
     let print = Serialize::new(tree);
     let flat = print.no_indent();
     if let Some(text) = printed(rt, refused, flat.to_text(alloc)) {
-        assert_eq!(rt; text.as_str(), line);
+        check_equal(rt, text.as_str(), line);
     }
     check_vector(rt, alloc, refused, &flat, line);
     check_writer(rt, refused, &flat, line);
@@ -147,7 +148,7 @@ fn check_tree<T: Clone + PartialEq + Hash + Display + Syntax + Drop>(
     let copy = refused.made(tree.clone())?;
     assert!(rt; copy == *tree && *tree == copy, "{line}");
     check_writer(rt, refused, &Serialize::new(&copy).no_indent(), line);
-    assert_eq!(rt; (hash(&copy), hash(tree)), (before, before), "{line}");
+    check_case(rt, &line, (hash(&copy), hash(tree)), (before, before));
     Some(copy)
 }
 
@@ -198,7 +199,7 @@ fn check_sources(rt: &impl Abort, document: &Document, copy: &Document) {
     for (file, source) in document.sources.iter() {
         assert!(rt; copy.sources.get(file) == Some(source));
     }
-    assert_eq!(rt; (document.sources.len(), copy.sources.len()), (1, 1));
+    check_equal(rt, (document.sources.len(), copy.sources.len()), (1, 1));
 }
 
 /// Memory is ample, so each call has to be whole.
@@ -212,7 +213,7 @@ fn calls_of_each_kind_are_whole(rt: HostRuntime) {
     kinds::type_extensions(alloc, &mut calls);
     kinds::definitions(alloc, &mut calls);
     check_document(&rt, alloc, &mut calls.refused);
-    assert_eq!(&rt; calls.refused.calls, 0);
+    check_equal(&rt, calls.refused.calls, 0);
 }
 
 /// A name in the program, in a block of its own and in place is the same enum value.
@@ -222,6 +223,6 @@ fn how_a_name_is_kept_is_neither_compared_nor_hashed(rt: HostRuntime) {
     for made in [Name::new(rt.alloc(), "A"), Name::compact(rt.alloc(), "A")] {
         let value = Value::Enum(made.expect(&rt, "memory"));
         assert!(rt; value == fixed && fixed == value);
-        assert_eq!(rt; hash(&value), hash(&fixed));
+        check_equal(&rt, hash(&value), hash(&fixed));
     }
 }

@@ -4,6 +4,7 @@
 //! `NAME_called` has to ask so much more often than `NAME_built`.
 ghost use Rattle.std.specs.Prelude.{◌≡◌, None};
 
+use crate::checks::check_case;
 use graphql_ast::ast::{Document, Serialize, Value};
 use graphql_ast::serialize::{PrintError, Syntax};
 use graphql_ast::sink::{SinkFault, TextSink};
@@ -59,7 +60,7 @@ enum Calls {
 /// this asks for none.
 fn check_built<T: Syntax>(rt: &impl Abort, tree: &T, has_groups: bool, takes: &str) {
     let is_empty_document = takes == "an empty document takes 0";
-    assert_eq!(rt; tree.is_well_formed(), !is_empty_document, "{takes}");
+    check_case(rt, &takes, tree.is_well_formed(), !is_empty_document);
     let nesting = tree.find_depths().map(|depths| depths.nesting);
     assert!(rt;
         nesting.is_some_and(|nesting| (nesting > 0) == has_groups),
@@ -87,9 +88,9 @@ fn check<T: Syntax + Drop>(
         } else {
             Ok(())
         };
-        assert_eq!(rt; above, wanted, "a print that overflows takes 0");
+        check_case(rt, "a print that overflows takes 0", &above, &wanted);
         assert!(rt; sink.taken == 0 || !has_groups);
-        assert_eq!(rt; flat.print_to(&mut sink), Ok(()), "{takes}");
+        check_case(rt, &takes, flat.print_to(&mut sink), Ok(()));
     }
 }
 

@@ -1,4 +1,5 @@
 //! Documents at the edges.
+use crate::checks::{check_case, check_equal};
 use crate::samples::{anonymous_query, document, scalar_a, type_and_query};
 use graphql_ast::ast::Definition;
 use graphql_ast::serialize::PrintError;
@@ -40,16 +41,16 @@ fn many_definitions_and_great_levels(rt: HostRuntime) {
     ] {
         let text = print.initial_indent_level(level).to_text(alloc);
         let text = text.expect(&rt, "memory");
-        assert_eq!(&rt; text.len(), length, "{start}");
+        check_case(&rt, &start, text.len(), length);
         assert!(&rt; text.starts_with(start) && text.ends_with(end), "{start}");
     }
     let mut sink = VecSink::new(alloc);
     let above = line.initial_indent_level(usize::MAX).print_to(&mut sink);
-    assert_eq!(&rt; above, Err(PrintError::LevelOverflow));
-    assert_eq!(&rt; (sink.bytes().len(), sink.faults()), (0, 0));
+    check_equal(&rt, above, Err(PrintError::LevelOverflow));
+    check_equal(&rt, (sink.bytes().len(), sink.faults()), (0, 0));
     let query = anonymous_query(alloc).expect(&rt, "memory");
     let at_the_edge = query.serialize().no_indent();
     let text = at_the_edge.initial_indent_level(usize::MAX - 1);
     let text = text.to_text(alloc).expect(&rt, "memory");
-    assert_eq!(&rt; text.as_str(), "{ a }");
+    check_equal(&rt, text.as_str(), "{ a }");
 }

@@ -1,4 +1,5 @@
 //! Why documents aren't well formed, and where.
+use crate::checks::check_equal;
 use crate::samples::{document, source_file, type_a};
 use graphql_ast::ast::{Definition, Document, EnumTypeExtension, LineColumn};
 use graphql_ast::ill_formed::SideCondition;
@@ -26,12 +27,12 @@ fn in_sources(rt: HostRuntime) {
     let alloc = rt.alloc();
     let span = flaw_span().expect(&rt, "a span");
     let mut tree = flawed(alloc, span).expect(&rt, "memory");
-    assert_eq!(rt; tree.find_ill_formed_index(), Some(1));
+    check_equal(&rt, tree.find_ill_formed_index(), Some(1));
     let found = tree.find_placed_flaw().expect(&rt, "a flaw");
-    assert_eq!(rt; found.found.condition, SideCondition::AddsSomething);
-    assert_eq!(rt; found.found.location(), Some(span));
+    check_equal(&rt, found.found.condition, SideCondition::AddsSomething);
+    check_equal(&rt, found.found.location(), Some(span));
     let text = format!(in alloc; "{found}").expect(&rt, "memory");
-    assert_eq!(rt; text.as_str(), "an extension that adds nothing: `N`");
+    check_equal(&rt, text.as_str(), "an extension that adds nothing: `N`");
 
     let file = source_file(alloc, "a.graphql", "type A\n\nextend enum N").expect(&rt, "memory");
     tree.sources
@@ -39,11 +40,12 @@ fn in_sources(rt: HostRuntime) {
         .expect(&rt, "memory");
     let found = tree.find_placed_flaw().expect(&rt, "a flaw");
     let text = format!(in alloc; "{found}").expect(&rt, "memory");
-    assert_eq!(rt;
+    check_equal(
+        &rt,
         text.as_str(),
-        "a.graphql:3:1: an extension that adds nothing: `N`"
+        "a.graphql:3:1: an extension that adds nothing: `N`",
     );
     let position = tree.source_position(span).expect(&rt, "a position");
-    assert_eq!(rt; position.path, "a.graphql");
-    assert_eq!(rt; position.position, LineColumn { line: 3, column: 1 });
+    check_equal(&rt, position.path, "a.graphql");
+    check_equal(&rt, &position.position, &LineColumn { line: 3, column: 1 });
 }

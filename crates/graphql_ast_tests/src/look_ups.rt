@@ -1,4 +1,5 @@
 //! What documents have by name: the first of several, and nothing in an empty document or under a name in another case.
+use crate::checks::check_case;
 use graphql_ast::ast::{
     DirectiveDefinition, Document, EnumTypeDefinition, EnumTypeExtension, FragmentDefinition,
     ObjectTypeDefinition, ObjectTypeExtension, OperationDefinition, OperationType,
@@ -145,7 +146,7 @@ fn of_each_kind(rt: HostRuntime) {
         ];
         check_found(&rt, &document, &cases);
         let found = document.operation(None).map(|node| node.operation_type);
-        assert_eq!(rt; found, anonymous, "{document}");
+        check_case(&rt, &document, &found, &anonymous);
         assert!(rt; counts(&document) == wanted, "{document}");
     }
 }

@@ -1,4 +1,5 @@
 //! What this crate passes on, or writes anew over what stands below it: the macros of types and values, lists of directives, texts of errors.
+use crate::checks::check_equal;
 use graphql_ast::ast::{Directive, DirectiveList, SpecifiedArgumentError, Type};
 use graphql_ast::node::Node;
 use graphql_ast::{name, ty, value};
@@ -26,7 +27,7 @@ fn types_values_lists_and_errors(rt: HostRuntime) {
     for (made, wanted) in types(alloc) {
         let ty = made.expect(&rt, "memory");
         let text = format!(in alloc; "{ty}").expect(&rt, "memory");
-        assert_eq!(&rt; text.as_str(), wanted);
+        check_equal(&rt, text.as_str(), wanted);
     }
     let value = value!(in alloc; {min: 0, max: $max, tags: ["new", NEW], other: null});
     let wanted = "{min: 0, max: $max, tags: [\"new\", NEW], other: null}";
@@ -40,7 +41,7 @@ fn types_values_lists_and_errors(rt: HostRuntime) {
         .serialize()
         .to_text(list.allocator())
         .expect(&rt, "memory");
-    assert_eq!(&rt; text.as_str(), " @d");
+    check_equal(&rt, text.as_str(), " @d");
     for (error, wanted) in [
         (
             SpecifiedArgumentError::NotSpecified,
@@ -49,6 +50,6 @@ fn types_values_lists_and_errors(rt: HostRuntime) {
         (SpecifiedArgumentError::Memory, "out of memory"),
     ] {
         let text = format!(in alloc; "{error}").expect(&rt, "memory");
-        assert_eq!(&rt; text.as_str(), wanted);
+        check_equal(&rt, text.as_str(), wanted);
     }
 }

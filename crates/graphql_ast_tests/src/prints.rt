@@ -1,4 +1,5 @@
 //! Whole prints of documents, where memory is ample.
+use crate::checks::{check_case, check_equal};
 use crate::samples::{
     EACH_VARIANT, anonymous_query, described_query, directives, document, each_variant, query,
     type_a, type_and_query,
@@ -70,7 +71,7 @@ fn check_laid_out(rt: &impl Abort, alloc: Global, document: &Document, cases: &[
         if *prefix == Some("  ") && *level == 0 {
             check_print(alloc, print, wanted).expect(rt, wanted);
             let text = format!(in alloc; "{document}").expect(rt, "memory");
-            assert_eq!(rt; text.as_str(), *wanted);
+            check_equal(rt, &text.as_str(), wanted);
         }
     }
 }
@@ -84,7 +85,7 @@ fn check_document(
     cases: &[Laid],
 ) {
     let document = made.expect(rt, "memory");
-    assert_eq!(rt; document.is_well_formed(), is_well_formed, "{document}");
+    check_case(rt, &document, document.is_well_formed(), is_well_formed);
     check_laid_out(rt, alloc, &document, cases);
 }
 

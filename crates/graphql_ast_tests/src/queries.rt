@@ -1,4 +1,5 @@
 //! What definitions answer.
+use crate::checks::{check_case, check_equal};
 use crate::samples::{anonymous_query, described_query, each_variant, query};
 use graphql_ast::ast::Definition;
 use graphql_ast::node::Node;
@@ -41,20 +42,20 @@ type Told = (
 
 fn check_told(rt: &impl Abort, definition: &Definition, wanted: Told) {
     let (words, name, directives, selections, flags) = wanted;
-    assert_eq!(rt; definition.kind_name(), words, "{definition}");
+    check_case(rt, &definition, definition.kind_name(), words);
     let found = definition.name().map(|name| name.as_str());
-    assert_eq!(rt; found, name, "{definition}");
+    check_case(rt, &definition, &found, &name);
     let found = definition.directives().map(|directives| directives.len());
-    assert_eq!(rt; found, directives, "{definition}");
+    check_case(rt, &definition, &found, &directives);
     let found = definition.selection_set().map(|set| set.len());
-    assert_eq!(rt; found, selections, "{definition}");
+    check_case(rt, &definition, &found, &selections);
     let found = [
         definition.is_executable_definition(),
         definition.is_extension_definition(),
         definition.is_type_definition(),
         definition.description().is_some(),
     ];
-    assert_eq!(rt; found, flags, "{definition}");
+    check_case(rt, &definition, &found, &flags);
 }
 
 const EXECUTABLE: [bool; 4] = [true, false, false, false];
@@ -98,7 +99,7 @@ fn check_accessors(rt: &impl Abort, definition: &Definition, variant: usize) {
 fn of_each_variant(rt: HostRuntime) {
     let alloc = rt.alloc();
     let all = each_variant(alloc).expect(&rt, "memory");
-    assert_eq!(rt; all.len(), 17);
+    check_equal(&rt, all.len(), 17);
     for (variant, (definition, wanted)) in all.iter().zip(&OF_EACH_VARIANT).enumerate() {
         check_told(&rt, definition, *wanted);
         assert!(rt; definition.location().is_none(), "{definition}");

@@ -2,6 +2,7 @@
 mod calls;
 mod each_kind;
 
+use crate::checks::check_equal;
 use crate::samples::{EACH_VARIANT, document, each_variant};
 use graphql_ast::ast::{Document, ScalarTypeDefinition};
 use graphql_ast::name;
@@ -30,7 +31,7 @@ fn definitions_are_pushed_or_refused(rt: HostRuntime) {
             Ok(()) => before.saturating_add(1),
             Err(_) => before,
         };
-        assert_eq!(rt; document.definitions.len(), wanted);
+        check_equal(&rt, document.definitions.len(), wanted);
     }
     assert!(rt;
         document

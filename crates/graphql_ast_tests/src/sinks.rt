@@ -2,6 +2,7 @@
 //! were, and that nothing was tried again.
 ghost use Rattle.std.specs.Prelude.{◌≡◌, ◌<◌, Some};
 
+use crate::checks::check_equal;
 use crate::kinds::{self, EachKind, document_line};
 use crate::samples::type_and_query;
 use graphql_ast::ast::{Serialize, Value};
@@ -102,16 +103,17 @@ fn check_room<T: Syntax>(
     let mut sink = with_room(alloc, most, room);
     let printed = print.print_to(&mut sink);
     let is_whole = room >= wanted.len();
-    assert_eq!(rt;
+    check_equal(
+        rt,
         printed,
         if is_whole {
             Ok(())
         } else {
             Err(PrintError::Sink)
-        }
+        },
     );
-    assert_eq!(rt; sink.faults, u64::from(!is_whole));
-    assert_eq!(rt; sink.bytes.len(), room.min(wanted.len()));
+    check_equal(rt, sink.faults, u64::from(!is_whole));
+    check_equal(rt, sink.bytes.len(), room.min(wanted.len()));
     assert!(rt; wanted.as_bytes().starts_with(sink.bytes.as_slice()));
 }
 
@@ -125,19 +127,19 @@ fn check_refused<T: Syntax>(
 ) {
     let (refused, error) = (writer.refused, writer.error);
     let mut sink = StreamSink::new(writer);
-    assert_eq!(rt; print.print_to(&mut sink), Err(PrintError::Sink));
-    assert_eq!(rt; sink.faults(), 1);
-    assert_eq!(rt; sink.last_error().map(|error| error.kind()), error);
-    assert_eq!(rt; print.print_to(&mut sink), Ok(()));
-    assert_eq!(rt; sink.faults(), 1);
-    assert_eq!(rt; sink.last_error().map(|error| error.kind()), error);
+    check_equal(rt, print.print_to(&mut sink), Err(PrintError::Sink));
+    check_equal(rt, sink.faults(), 1);
+    check_equal(rt, sink.last_error().map(|error| error.kind()), error);
+    check_equal(rt, print.print_to(&mut sink), Ok(()));
+    check_equal(rt, sink.faults(), 1);
+    check_equal(rt, sink.last_error().map(|error| error.kind()), error);
     let writer = sink.into_inner();
     let bytes = writer.bytes.as_slice();
-    assert_eq!(rt; bytes.get(..taken), wanted.as_bytes().get(..taken));
-    assert_eq!(rt; bytes.get(taken..), Some(wanted.as_bytes()));
+    check_equal(rt, bytes.get(..taken), wanted.as_bytes().get(..taken));
+    check_equal(rt, bytes.get(taken..), Some(wanted.as_bytes()));
     if writer.most == 1 {
         let others = writer.writes.checked_sub(refused);
-        assert_eq!(rt; others, wanted.len().checked_add(1));
+        check_equal(rt, others, wanted.len().checked_add(1));
     }
 }
 

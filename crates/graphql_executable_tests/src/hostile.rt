@@ -1,4 +1,5 @@
 //! Trees and sinks at the edges.
+use crate::checks::{check_case, check_equal};
 use crate::samples::{fields, nested, operation, query};
 use graphql_checks::sinks::Narrow;
 use graphql_executable::operation_definition::OperationDefinition;
@@ -14,14 +15,15 @@ fn check_room(rt: &impl Abort, alloc: Global, operation: &OperationDefinition, r
     let mut sink = Narrow::with_room(alloc, room);
     let result = operation.serialize().print_to(&mut sink);
     let fits = LINES.len() <= room;
-    assert_eq!(rt;
+    check_case(
+        rt,
+        &room,
         result,
         if fits { Ok(()) } else { Err(PrintError::Sink) },
-        "{room}"
     );
-    assert_eq!(rt; sink.faults, if fits { 0 } else { 1 }, "{room}");
+    check_case(rt, &room, sink.faults, if fits { 0 } else { 1 });
     assert!(rt; LINES.as_bytes().starts_with(sink.bytes.as_slice()));
-    assert_eq!(rt; sink.bytes.len(), if fits { LINES.len() } else { room });
+    check_equal(rt, sink.bytes.len(), if fits { LINES.len() } else { room });
 }
 
 /// 1,000 sets: on one line 5,999 bytes; the level may be as great as leaves room for them. 10,000 fields. And sinks that fault
@@ -42,14 +44,18 @@ fn nested_sets_and_narrow_sinks(rt: HostRuntime) {
         (wide.serialize().no_indent(), 20003, "{ a a ", " a }"),
     ] {
         let text = print.to_text(alloc).expect(&rt, "memory");
-        assert_eq!(&rt; text.len(), length, "{start}");
+        check_case(&rt, &start, text.len(), length);
         assert!(&rt; text.starts_with(start) && text.ends_with(end), "{start}");
     }
     let above = line.initial_indent_level(usize::MAX - 999).to_text(alloc);
     assert!(&rt; above.is_err_and(|error| error == PrintError::LevelOverflow));
     let mut sink = Narrow::with_room(alloc, 1);
-    assert_eq!(&rt; wide.serialize().print_to(&mut sink), Err(PrintError::Sink));
-    assert_eq!(&rt; (sink.bytes.as_slice(), sink.faults), (&b"{"[..], 1));
+    check_equal(
+        &rt,
+        wide.serialize().print_to(&mut sink),
+        Err(PrintError::Sink),
+    );
+    check_equal(&rt, (sink.bytes.as_slice(), sink.faults), (&b"{"[..], 1));
     let operation = operation(alloc).expect(&rt, "memory");
     for room in 0..=LINES.len() {
         check_room(&rt, alloc, &operation, room);

@@ -3,6 +3,7 @@ ghost use Rattle.std.specs.Prelude.{OnErr, OnOk};
 ghost use Rattle.graphql_executable.specs.code.SelectionLoans.{IsSelectionWith};
 ghost use Rattle.graphql_executable.specs.code.SelectionQueries.{selection_directives};
 
+use crate::checks::{check_case, check_equal};
 use crate::samples::{a, field, inline_fragment, only, variable};
 use graphql_base::name;
 use graphql_base::node::Node;
@@ -31,13 +32,14 @@ fn check_contents(
     count: Option<usize>,
 ) {
     let first = selection.directives().first();
-    assert_eq!(rt;
+    check_case(
+        rt,
+        &selection,
         first.map(|node| node.name.as_str()),
         directive,
-        "{selection}"
     );
     let found = selection.selection_set().map(|set| set.len());
-    assert_eq!(rt; found, count, "{selection}");
+    check_case(rt, &selection, &found, &count);
 }
 
 /// What a caller knows of directives that it wrote.
@@ -164,16 +166,16 @@ fn of_operations_and_fields(rt: HostRuntime) {
     ] {
         let found = query.variable_by_name(name);
         let found = found.map(|node| node.ty.inner_named_type().as_str());
-        assert_eq!(&rt; found, ty, "{name}");
+        check_case(&rt, &name, &found, &ty);
         let found = with_arguments.specified_argument_by_name(name);
-        assert_eq!(&rt; found.and_then(|value| value.to_i32()), number, "{name}");
+        check_case(&rt, &name, found.and_then(|value| value.to_i32()), number);
     }
     let mut named = field(alloc).expect(&rt, "memory");
-    assert_eq!(&rt; named.response_name().as_str(), "r");
+    check_equal(&rt, named.response_name().as_str(), "r");
     named.alias = None;
-    assert_eq!(&rt; named.response_name().as_str(), "s");
+    check_equal(&rt, named.response_name().as_str(), "s");
     let span = SourceSpan::new(FileId::new(5), 10, 11).expect(&rt, "a span");
-    assert_eq!(&rt; span.len(), 1);
+    check_equal(&rt, span.len(), 1);
     let mut seen = HashSet::new(alloc);
     let placed = Field::new(alloc, name!(a).with_location(span));
     assert!(&rt; seen.insert(placed).is_ok());

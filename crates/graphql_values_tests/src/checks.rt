@@ -7,8 +7,23 @@ use std::fmt::{self, Debug, Display, Write};
 use std::io::{self, Cursor};
 use std::process::Abort;
 
-pub(crate) fn check_text(rt: &impl Abort, found: &str, wanted: &str) {
+/// That these are equal. A call, since a comparison written out is dear where many follow: the proof of a test goes over all of them.
+pub(crate) fn check_equal<T: PartialEq + Debug + Drop>(rt: &impl Abort, found: T, wanted: T) {
     assert_eq!(rt; found, wanted);
+}
+
+/// The same of one of several cases, which is told where they differ.
+pub(crate) fn check_case<T: PartialEq + Debug + Drop>(
+    rt: &impl Abort,
+    case: impl Display + Drop,
+    found: T,
+    wanted: T,
+) {
+    assert_eq!(rt; found, wanted, "{case}");
+}
+
+pub(crate) fn check_text(rt: &impl Abort, found: &str, wanted: &str) {
+    check_equal(rt, found, wanted);
 }
 
 /// A text that a call made: memory is ample.
@@ -24,19 +39,19 @@ pub(crate) fn printed<T: Syntax>(
 ) -> (Result<(), PrintError>, Cursor<[u8; 48]>) {
     let mut sink = StreamSink::new(Cursor::new([0; 48]));
     let result = Serialize::new(tree).no_indent().print_to(&mut sink);
-    assert_eq!(rt; sink.faults(), 0);
+    check_equal(rt, sink.faults(), 0);
     (result, sink.into_inner())
 }
 
 pub(crate) fn check_taken(rt: &impl Abort, taken: Cursor<[u8; 48]>, wanted: &str) {
-    assert_eq!(rt; taken.position(), wanted.len() as u64);
+    check_equal(rt, taken.position(), wanted.len() as u64);
     assert!(rt; taken.into_inner().starts_with(wanted.as_bytes()));
 }
 
 /// All of the print, even where memory is refused.
 pub(crate) fn check_printed<T: Syntax>(rt: &impl Abort, tree: &T, wanted: &str) {
     let (result, taken) = printed(rt, tree);
-    assert_eq!(rt; result, Ok(()));
+    check_equal(rt, result, Ok(()));
     check_taken(rt, taken, wanted);
 }
 

@@ -1,5 +1,5 @@
 //! Worked names.
-use crate::checks::{check_made, check_text};
+use crate::checks::{check_case, check_equal, check_made, check_text};
 use graphql_base::name;
 use graphql_base::name::{InvalidNameError, Name, NameError, NamedType};
 use graphql_base::span::{FileId, SourceSpan};
@@ -28,9 +28,9 @@ fn letters(alloc: Global, count: usize) -> Result<String, AllocError> {
 }
 
 fn check_new(rt: &impl Abort, name: &Name, text: &str, is_static: bool) {
-    assert_eq!(rt; (name.as_str(), name.len()), (text, text.len()));
-    assert_eq!(rt; name.location(), None, "{text}");
-    assert_eq!(rt; name.as_static_str().is_some(), is_static, "{text}");
+    check_equal(rt, (name.as_str(), name.len()), (text, text.len()));
+    check_case(rt, &text, name.location(), None);
+    check_case(rt, &text, name.as_static_str().is_some(), is_static);
 }
 
 fn check_made_new(rt: &impl Abort, made: Result<Name, NameError>, text: &str, is_static: bool) {
@@ -83,7 +83,7 @@ fn valid_texts_are_names(rt: HostRuntime) {
 
 fn check_refused(rt: &impl Abort, made: Result<Name, NameError>, wanted: &NameError) {
     let error = made.err().expect(rt, "no name");
-    assert_eq!(rt; error, *wanted);
+    check_equal(rt, &error, wanted);
     assert!(rt; !error.is_memory(), "{wanted}");
 }
 
@@ -131,7 +131,7 @@ fn errors(alloc: Global) -> Result<[(NameError, &'static str, bool); 5], AllocEr
 fn check_inner(rt: &impl Abort, alloc: Global, inner: &InvalidNameError, text: &str) {
     check_made(rt, format!(in alloc; "{inner}"), text);
     let copy = inner.clone().expect(rt, "memory");
-    assert_eq!(rt; copy, *inner);
+    check_equal(rt, &copy, inner);
 }
 
 /// Equal to a clone, and to none of the others.
@@ -141,7 +141,7 @@ fn errors_have_their_texts_and_compare(rt: HostRuntime) {
     let errors = errors(alloc).expect(&rt, "memory");
     for (place, (error, text, is_memory)) in errors.iter().enumerate() {
         check_made(&rt, format!(in alloc; "{error}"), text);
-        assert_eq!(rt; error.is_memory(), *is_memory, "{error}");
+        check_case(&rt, &error, &error.is_memory(), is_memory);
         if let NameError::Invalid(inner) = error {
             check_inner(&rt, alloc, inner, text);
         }
@@ -163,16 +163,16 @@ enum Kept {
 }
 
 fn check_kept(rt: &impl Abort, name: &Name, text: &str, kept: Kept, location: Option<SourceSpan>) {
-    assert_eq!(rt; (name.as_str(), name.len()), (text, text.len()));
-    assert_eq!(rt; name.location(), location);
+    check_equal(rt, (name.as_str(), name.len()), (text, text.len()));
+    check_equal(rt, name.location(), location);
     let static_text = name.as_static_str();
     assert!(rt; static_text.is_none_or(|found| found == text), "{kept:?}");
-    assert_eq!(rt; static_text.is_some(), kept == Kept::Static);
+    check_equal(rt, static_text.is_some(), kept == Kept::Static);
     let short = name.short_text().map(|short| short.as_str());
     assert_eq!(rt; short, (kept == Kept::InPlace).then_some(text), "{kept:?}");
     match name.short_text_or_str() {
-        Ok(short) => assert_eq!(rt; (short.as_str(), kept), (text, Kept::InPlace)),
-        Err(other) => assert_eq!(rt; (other, kept == Kept::InPlace), (text, false)),
+        Ok(short) => check_equal(rt, (short.as_str(), kept), (text, Kept::InPlace)),
+        Err(other) => check_equal(rt, (other, kept == Kept::InPlace), (text, false)),
     }
 }
 
@@ -188,7 +188,7 @@ fn check_taken(
     check_kept(rt, &name, text, kept, location);
     let copy = name.clone().expect(rt, "memory");
     check_kept(rt, &copy, text, kept, location);
-    assert_eq!(rt; copy.as_ref(), &name);
+    check_equal(rt, copy.as_ref(), &name);
     let taken = name.to_cloned_arc().expect(rt, "memory");
     let taken_text = taken.as_ref().map(|taken| taken.as_str());
     let wanted = (kept != Kept::Static).then_some(text);
@@ -203,9 +203,9 @@ fn check_name(rt: &impl Abort, alloc: Global, name: Name, text: &str, kept: Kept
     let count = u32::try_from(name.len()).expect(rt, "few bytes");
     for (start, end) in [(10, count.saturating_add(10)), (u32::MAX - count, u32::MAX)] {
         let span = SourceSpan::new(FileId::new(5), start, end).expect(rt, "in order");
-        assert_eq!(rt; span.len() as usize, name.len());
+        check_equal(rt, span.len() as usize, name.len());
         let placed = name.clone().expect(rt, "memory").with_location(span);
-        assert_eq!(rt; placed, name);
+        check_equal(rt, &placed, &name);
         check_taken(rt, alloc, placed, text, kept, Some(span));
     }
     check_taken(rt, alloc, name, text, kept, None);
@@ -233,7 +233,7 @@ const LENGTHS: [(usize, Kept); 5] = [
 fn names_keep_their_texts_and_locations(rt: HostRuntime) {
     let alloc = rt.alloc();
     for (name, kept) in names_of_each_form(alloc, "abc").expect(&rt, "memory") {
-        assert_eq!(rt; name, name!(abc));
+        check_equal(&rt, &name, &name!(abc));
         check_name(&rt, alloc, name, "abc", kept);
     }
     for (count, kept) in LENGTHS {
@@ -277,7 +277,7 @@ fn names_in_order(rt: &impl Abort, alloc: Global) -> Vec<(usize, Name)> {
 fn check_order(rt: &impl Abort, alloc: Global, name: &Name, other: &Name, order: Ordering) {
     let is_same = order == Ordering::Equal;
     assert_eq!(rt; name.cmp(other), order, "{name} and {other}");
-    assert_eq!(rt; name.partial_cmp(other), Some(order));
+    check_equal(rt, name.partial_cmp(other), Some(order));
     assert_eq!(rt; name == other, is_same, "{name} and {other}");
     let mut names = HashSet::new(alloc);
     names
@@ -285,7 +285,7 @@ fn check_order(rt: &impl Abort, alloc: Global, name: &Name, other: &Name, order:
         .expect(rt, "memory");
     assert_eq!(rt; names.contains(other), is_same, "{name} and {other}");
     let printed = format!(in alloc; "{name}").expect(rt, "memory");
-    assert_eq!(rt; printed.as_str() == other.as_str(), is_same);
+    check_equal(rt, printed.as_str() == other.as_str(), is_same);
 }
 
 #[test]

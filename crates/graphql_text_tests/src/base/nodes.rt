@@ -1,5 +1,5 @@
 //! Worked nodes.
-use crate::checks::{check_made, check_text};
+use crate::checks::{check_equal, check_made, check_text};
 use graphql_base::name;
 use graphql_base::node::{Node, NodeStr};
 use graphql_base::span::{FileId, SourceSpan};
@@ -30,14 +30,15 @@ fn text_at(alloc: Global, text: &str, location: Option<SourceSpan>) -> Result<No
 }
 
 fn check_number(rt: &impl Abort, node: &Node<u8>, value: u8, location: Option<SourceSpan>) {
-    assert_eq!(rt;
+    check_equal(
+        rt,
         (**node, *node.as_ref(), node.location()),
-        (value, value, location)
+        (value, value, location),
     );
 }
 
 fn check_shared(rt: &impl Abort, node: &NodeStr, text: &str, location: Option<SourceSpan>) {
-    assert_eq!(rt; (node.as_str(), node.location()), (text, location));
+    check_equal(rt, (node.as_str(), node.location()), (text, location));
 }
 
 /// What a node or a text has, a clone has too; a node beside it has its location, of whichever type that one's value is. What
@@ -60,7 +61,7 @@ fn nodes_and_texts_have_a_value_and_a_location(rt: HostRuntime) {
         check_number(&rt, &beside, 4, location);
         let beside = node.same_location(alloc, "text").expect(&rt, "memory");
         check_text(&rt, *beside, "text");
-        assert_eq!(rt; beside.location(), location);
+        check_equal(&rt, beside.location(), location);
         let text = text_at(alloc, "été", location).expect(&rt, "memory");
         check_shared(&rt, &text, "été", location);
         assert_eq!(rt; text.is_built_in(), is_built_in, "{location:?}");
@@ -82,7 +83,7 @@ fn add(node: &mut Node<String>, text: &str) -> Result<(), AllocError> {
 }
 
 fn check_placed(rt: &impl Abort, node: &Node<String>, text: &str, span: SourceSpan) {
-    assert_eq!(rt; (node.as_str(), node.location()), (text, Some(span)));
+    check_equal(rt, (node.as_str(), node.location()), (text, Some(span)));
 }
 
 /// A number whose clone is refused.
@@ -96,7 +97,7 @@ impl Clone for Unclonable {
 }
 
 fn check_unclonable(rt: &impl Abort, node: &Node<Unclonable>, span: SourceSpan) {
-    assert_eq!(rt; (node.0, node.location()), (1, Some(span)));
+    check_equal(rt, (node.0, node.location()), (1, Some(span)));
 }
 
 /// In none where the clone of a shared value is refused. A new node lends its value.
@@ -117,7 +118,7 @@ fn a_change_is_seen_in_one_node(rt: HostRuntime) {
     check_unclonable(&rt, &second, span);
     let mut node = Node::new_parsed(rt.alloc(), 1u8, span).expect(&rt, "memory");
     let value = node.get_mut().expect(&rt, "no other node has it");
-    assert_eq!(rt; *value, 1);
+    check_equal(&rt, *value, 1);
     *value = 2;
     check_number(&rt, &node, 2, Some(span));
 }
@@ -129,7 +130,7 @@ fn nodes_and_texts_compare_by_their_values(rt: HostRuntime) {
     let here = Node::new_parsed(alloc, name!(a), span_in(&rt, 5)).expect(&rt, "memory");
     let there = Node::new_parsed(alloc, name!(a), span_in(&rt, 6)).expect(&rt, "memory");
     let other = here.same_location(alloc, name!(b)).expect(&rt, "memory");
-    assert_eq!(rt; here, there);
+    check_equal(&rt, &here, &there);
     assert_ne!(rt; here, other);
     let mut nodes = HashSet::new(alloc);
     nodes.insert(here).expect(&rt, "memory");
@@ -138,7 +139,7 @@ fn nodes_and_texts_compare_by_their_values(rt: HostRuntime) {
     let here = text_at(alloc, "a", Some(span_in(&rt, 5))).expect(&rt, "memory");
     let there = text_at(alloc, "a", None).expect(&rt, "memory");
     let other = text_at(alloc, "", None).expect(&rt, "memory");
-    assert_eq!(rt; here, there);
+    check_equal(&rt, &here, &there);
     assert_ne!(rt; here, other);
     let mut texts = HashSet::new(alloc);
     texts.insert(here).expect(&rt, "memory");

@@ -1,6 +1,6 @@
 //! Calls that meet a refused growth, wherever it comes: the answer is the refusal, or that of an
 //! undisturbed call. `rt try --test --fail-alloc N` refuses the Nth growth of each test.
-use crate::checks::check_text;
+use crate::checks::{check_case, check_equal, check_text};
 use graphql_base::name::{InvalidNameError, Name, NameError};
 use graphql_base::node::{Node, NodeStr};
 use graphql_base::span::{FileId, SourceSpan};
@@ -17,9 +17,10 @@ fn placed(alloc: Global) -> Result<Node<String>, AllocError> {
 }
 
 fn check_placed(rt: &impl Abort, node: &Node<String>, text: &str) {
-    assert_eq!(rt;
+    check_equal(
+        rt,
         (node.as_str(), node.location()),
-        (text, SourceSpan::new(FileId::new(5), 10, 13))
+        (text, SourceSpan::new(FileId::new(5), 10, 13)),
     );
 }
 
@@ -50,7 +51,7 @@ fn make_mut_changes_one_node_or_none(rt: HostRuntime) {
     let Ok(mut alone) = placed(rt.alloc()) else {
         return;
     };
-    assert_eq!(rt; empty(&mut alone, rt.alloc()), "", "one owner");
+    check_case(&rt, "one owner", empty(&mut alone, rt.alloc()), "");
     check_placed(&rt, &alone, "");
 }
 
@@ -62,9 +63,10 @@ fn placed_text(alloc: Global) -> Result<NodeStr, AllocError> {
 }
 
 fn check_placed_text(rt: &impl Abort, node: &NodeStr) {
-    assert_eq!(rt;
+    check_equal(
+        rt,
         (node.as_str(), node.location()),
-        ("text", SourceSpan::new(FileId::new(5), 10, 14))
+        ("text", SourceSpan::new(FileId::new(5), 10, 14)),
     );
 }
 
@@ -76,7 +78,7 @@ fn check_beside(
     location: Option<SourceSpan>,
 ) {
     if let Ok(node) = made {
-        assert_eq!(rt; (*node, node.location()), (number, location));
+        check_equal(rt, (*node, node.location()), (number, location));
     }
 }
 
@@ -109,7 +111,7 @@ fn nodes_and_texts_are_made_or_refused(rt: HostRuntime) {
 
 fn check_refusal(rt: &impl Abort, error: &NameError, text: &str) {
     if let NameError::Invalid(InvalidNameError { name, location }) = error {
-        assert_eq!(rt; (name.as_str(), *location), (text, None));
+        check_equal(rt, (name.as_str(), *location), (text, None));
     }
 }
 
@@ -117,7 +119,7 @@ fn check_refusal(rt: &impl Abort, error: &NameError, text: &str) {
 fn check_refused(rt: &impl Abort, made: Result<Name, NameError>, text: &str) {
     let error = made.err().expect(rt, "no name");
     if let Ok(copy) = error.clone() {
-        assert_eq!(rt; copy, error);
+        check_equal(rt, &copy, &error);
     }
     check_refusal(rt, &error, text);
 }
@@ -128,7 +130,7 @@ fn check_refused(rt: &impl Abort, made: Result<Name, NameError>, text: &str) {
 fn names_are_made_or_refused(rt: HostRuntime) {
     match Name::new(rt.alloc(), "abc") {
         Ok(name) => check_text(&rt, name.as_str(), "abc"),
-        Err(error) => assert_eq!(rt; error, NameError::Memory),
+        Err(error) => check_equal(&rt, error, NameError::Memory),
     }
     assert!(rt; Name::new_static(rt.alloc(), "abc").is_ok());
     if let Ok(text) = RcStr::from_str(rt.alloc(), "abc") {
@@ -190,7 +192,7 @@ fn made(alloc: Global, text: &'static str, by: By) -> Result<Name, NameError> {
 
 fn check_kept(rt: &impl Abort, name: &Name, text: &str, kept: Kept, is_placed: bool) {
     let location = SourceSpan::new(FileId::new(5), 10, 13).filter(|_| is_placed);
-    assert_eq!(rt; (name.as_str(), name.location()), (text, location));
+    check_equal(rt, (name.as_str(), name.location()), (text, location));
     let static_text = name.as_static_str();
     assert!(rt; static_text.is_none_or(|found| found == text), "{kept:?}");
     assert_eq!(rt; static_text.is_some(), kept == Kept::Static, "{kept:?}");
@@ -205,9 +207,9 @@ fn check_shared(rt: &impl Abort, alloc: Global, name: Name, text: &str, kept: Ke
             let wanted = (kept != Kept::Static).then_some(text);
             assert_eq!(rt; shared_text, wanted, "{kept:?}");
         }
-        Err(AllocError) => assert_eq!(rt; kept, Kept::InPlace, "takes no memory"),
+        Err(AllocError) => check_case(rt, "takes no memory", kept, Kept::InPlace),
     }
-    assert_eq!(rt; name.as_str(), text);
+    check_equal(rt, name.as_str(), text);
     match name.into_shared(alloc) {
         Ok(shared) => check_text(rt, shared.as_str(), text),
         Err(AllocError) => assert_ne!(rt; kept, Kept::Shared, "takes no memory"),
@@ -227,7 +229,7 @@ fn names_are_cloned_and_their_texts_shared_or_refused(rt: HostRuntime) {
                 check_shared(&rt, rt.alloc(), name, text, kept);
                 check_kept(&rt, &copy, text, kept, is_placed);
             }
-            Err(error) => assert_eq!(rt; (error, kept), (NameError::Memory, Kept::Shared)),
+            Err(error) => check_equal(&rt, (error, kept), (NameError::Memory, Kept::Shared)),
         }
     }
 }

@@ -1,4 +1,5 @@
 //! Worked spans.
+use crate::checks::check_equal;
 use graphql_base::span::{FileId, SourceSpan};
 use std::collections::HashSet;
 
@@ -15,7 +16,7 @@ const SPANS: [(u64, u32, u32, u32); 6] = [
 /// They compare by these, and are found by them as keys.
 #[test]
 fn files_and_spans_are_their_numbers(rt: HostRuntime) {
-    assert_eq!(rt; FileId::new(0), FileId::BUILT_IN);
+    check_equal(&rt, FileId::new(0), FileId::BUILT_IN);
     assert_ne!(rt; FileId::new(1), FileId::BUILT_IN);
     let mut files = HashSet::new(rt.alloc());
     files.insert(FileId::new(5)).expect(&rt, "memory");
@@ -26,10 +27,14 @@ fn files_and_spans_are_their_numbers(rt: HostRuntime) {
     spans.insert(first).expect(&rt, "memory");
     for (place, (file, start, end, len)) in SPANS.into_iter().enumerate() {
         let span = SourceSpan::new(FileId::new(file), start, end).expect(&rt, "in order");
-        assert_eq!(rt; span.file_id(), FileId::new(file));
-        assert_eq!(rt; (span.start(), span.end(), span.len()), (start, end, len));
+        check_equal(&rt, span.file_id(), FileId::new(file));
+        check_equal(
+            &rt,
+            (span.start(), span.end(), span.len()),
+            (start, end, len),
+        );
         assert_eq!(rt; span == first, place == 0, "{file}, {start}, {end}");
         assert_eq!(rt; spans.contains(&span), place == 0, "{file}, {start}, {end}");
     }
-    assert_eq!(rt; SourceSpan::new(FileId::new(5), 4, 3), None);
+    check_equal(&rt, SourceSpan::new(FileId::new(5), 4, 3), None);
 }

@@ -1,6 +1,6 @@
 //! What errors of a print, faults of a sink, and side conditions that are broken say.
 
-use crate::checks::check_made;
+use crate::checks::{check_case, check_equal, check_made};
 use graphql_base::name;
 use graphql_base::span::{FileId, SourceSpan};
 use graphql_text::engine::PrintError;
@@ -22,7 +22,7 @@ const ERRORS: [(PrintError, &str, bool); 3] = [
 #[test]
 fn what_errors_say(rt: HostRuntime) {
     for (error, text, is_memory) in ERRORS {
-        assert_eq!(rt; error.is_memory(), is_memory, "{text}");
+        check_case(&rt, &text, error.is_memory(), is_memory);
         check_made(&rt, format!(in rt.alloc(); "{error}"), text);
         for (other, other_text, _) in ERRORS {
             let is_same = text == other_text;
@@ -79,7 +79,7 @@ fn what_is_ill_formed(rt: HostRuntime) {
         check_made(&rt, format!(in alloc; "{nameless}"), wanted);
         assert!(rt; ill_formed_unless(true, condition, Some(&name)).is_none());
         let found = ill_formed_unless(false, condition, Some(&name)).expect(&rt, "a flaw");
-        assert_eq!(rt; found.location(), None);
+        check_equal(&rt, found.location(), None);
         let named = format!(in alloc; "{wanted}: `A`").expect(&rt, "memory");
         check_made(&rt, format!(in alloc; "{found}"), named.as_str());
     }
@@ -99,6 +99,6 @@ fn what_is_ill_formed(rt: HostRuntime) {
         ([inner, outer], inner),
     ] {
         let [first, second] = locations;
-        assert_eq!(rt; named.within(first).within(second).around, wanted);
+        check_equal(&rt, &named.within(first).within(second).around, &wanted);
     }
 }

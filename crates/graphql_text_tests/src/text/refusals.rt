@@ -1,6 +1,7 @@
 //! Calls that meet a refused growth: the answer is the refusal, or that of an undisturbed call.
 //! `rt try --test --fail-alloc N` refuses the Nth growth of each test.
 
+use crate::checks::check_equal;
 use graphql_text::sink::{TextSink, VecSink};
 use graphql_text::writers::Stack;
 
@@ -13,12 +14,12 @@ fn vectors_and_stacks_have_room_or_are_refused(rt: HostRuntime) {
         Err(_) => 0,
     };
     let faults = sink.faults();
-    assert_eq!(rt; faults, u64::from(wanted == 0));
-    assert_eq!(rt; sink.bytes(), &b"[1, 2]"[..wanted.min(6)]);
+    check_equal(&rt, faults, u64::from(wanted == 0));
+    check_equal(&rt, sink.bytes(), &b"[1, 2]"[..wanted.min(6)]);
     assert!(rt; wanted == 0 || wanted == 6);
     if let Ok(mut stack) = Stack::reserve(Some(rt.alloc()), 2) {
         stack.push('a');
         stack.push('b');
-        assert_eq!(rt; stack.pop(), Some('b'));
+        check_equal(&rt, stack.pop(), Some('b'));
     }
 }

@@ -1,4 +1,5 @@
 //! Sinks that take all, and the error of a writer that is kept.
+use crate::checks::check_equal;
 use graphql_text::sink::{SinkFault, StreamSink, TextSink, VecSink};
 use std::io::{self, ErrorKind, Write};
 use std::process::Abort;
@@ -7,11 +8,11 @@ const TEXT: &[u8] = b"[1, 2]";
 
 /// It takes the text, and then nothing.
 fn check_puts<S: TextSink>(rt: &impl Abort, sink: &mut S) {
-    assert_eq!(rt; sink.faults(), 0);
-    assert_eq!(rt; sink.put(TEXT), Ok(6));
-    assert_eq!(rt; sink.faults(), 0);
-    assert_eq!(rt; sink.put(&[]), Ok(0));
-    assert_eq!(rt; sink.faults(), 0);
+    check_equal(rt, sink.faults(), 0);
+    check_equal(rt, sink.put(TEXT), Ok(6));
+    check_equal(rt, sink.faults(), 0);
+    check_equal(rt, sink.put(&[]), Ok(0));
+    check_equal(rt, sink.faults(), 0);
 }
 
 /// What a writer answers to a write.
@@ -75,11 +76,11 @@ impl Write for Answering {
 fn sinks_take_all_or_keep_the_last_error(rt: HostRuntime) {
     let mut sink = VecSink::new(rt.alloc());
     check_puts(&rt, &mut sink);
-    assert_eq!(rt; sink.bytes(), TEXT);
-    assert_eq!(rt; sink.into_bytes().len(), 6);
+    check_equal(&rt, sink.bytes(), TEXT);
+    check_equal(&rt, sink.into_bytes().len(), 6);
     let mut sink = StreamSink::new(Vec::new(rt.alloc()));
     check_puts(&rt, &mut sink);
-    assert_eq!(rt; sink.into_inner().as_slice(), TEXT);
+    check_equal(&rt, sink.into_inner().as_slice(), TEXT);
     let mut sink = StreamSink::new(Answering { writes: 0 });
     assert!(rt; sink.last_error().is_none());
     let mut faults = 0u64;
@@ -95,5 +96,5 @@ fn sinks_take_all_or_keep_the_last_error(rt: HostRuntime) {
         let last = sink.last_error().map(|error| error.kind());
         assert_eq!(rt; last, wanted, "{answer:?}");
     }
-    assert_eq!(rt; sink.into_inner().writes, 9);
+    check_equal(&rt, &sink.into_inner().writes, &9);
 }

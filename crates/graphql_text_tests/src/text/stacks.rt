@@ -1,5 +1,6 @@
 //! Worked stacks.
 
+use crate::checks::{check_case, check_equal};
 use graphql_text::writers::Stack;
 
 /// What an entry takes: 64 KiB.
@@ -16,19 +17,19 @@ fn stacks_have_the_room_that_is_asked_for(rt: HostRuntime) {
         let mut stack = Stack::reserve(Some(rt.alloc()), room).expect(&rt, "memory");
         stack.push('a');
         stack.push('b');
-        assert_eq!(rt; stack.pop(), Some('b'), "{room}");
+        check_case(&rt, &room, stack.pop(), Some('b'));
         stack.push('c');
-        assert_eq!(rt; stack.pop(), Some('c'), "{room}");
-        assert_eq!(rt; stack.pop(), Some('a'), "{room}");
-        assert_eq!(rt; stack.pop(), None, "{room}");
+        check_case(&rt, &room, stack.pop(), Some('c'));
+        check_case(&rt, &room, stack.pop(), Some('a'));
+        check_case(&rt, &room, stack.pop(), None);
     }
     let mut stack = Stack::reserve(Some(rt.alloc()), 1).expect(&rt, "memory");
     stack.push('a');
     stack.clear();
-    assert_eq!(rt; stack.pop(), None, "cleared");
+    check_case(&rt, "cleared", stack.pop(), None);
     let mut stack: Stack<char> = Stack::reserve(None, 0).expect(&rt, "memory");
-    assert_eq!(rt; stack.pop(), None, "no room");
+    check_case(&rt, "no room", stack.pop(), None);
     let mut stack: Stack<Large> = Stack::reserve(Some(rt.alloc()), 1 << 14).expect(&rt, "memory");
     let first = stack.pop().and_then(|large| large.bytes.first().copied());
-    assert_eq!(rt; first, None);
+    check_equal(&rt, first, None);
 }

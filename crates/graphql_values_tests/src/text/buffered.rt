@@ -1,5 +1,5 @@
 //! What reaches a sink, and in how many calls.
-use crate::checks::Counting;
+use crate::checks::{Counting, check_case};
 use crate::samples::number;
 use graphql_base::name::Name;
 use graphql_base::node::Node;
@@ -32,8 +32,8 @@ type Counts = (usize, usize, u64);
 
 fn check_counted(rt: &impl Abort, tree: &Value, room: usize, counts: Counts) {
     let sink = counted(tree, room);
-    assert_eq!(rt; (sink.calls, sink.room, sink.faults), counts, "{room}");
-    assert_eq!(rt; sink.wrong_calls, 0, "{room}");
+    check_case(rt, &room, (sink.calls, sink.room, sink.faults), counts);
+    check_case(rt, &room, sink.wrong_calls, 0);
 }
 
 /// How many ints or names in place, each of one byte, a list has, and the room.

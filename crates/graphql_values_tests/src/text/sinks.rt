@@ -1,5 +1,6 @@
 //! Sinks and writers that take little, or fault.
 
+use crate::checks::check_equal;
 use crate::samples::{items, one};
 use graphql_checks::sinks::Narrow;
 use graphql_text::engine::PrintError;
@@ -75,9 +76,10 @@ fn print_to_vector(list: &Value, alloc: Global) -> (bool, VecSink) {
 /// A print of the list: so many bytes were taken, and if they are not all of it there was one fault.
 fn check_taken(rt: &impl Abort, is_whole: bool, faults: u64, bytes: &[u8], taken: usize) {
     let wants_whole = taken == TEXT.len();
-    assert_eq!(rt;
+    check_equal(
+        rt,
         (is_whole, faults, bytes.len()),
-        (wants_whole, u64::from(!wants_whole), taken)
+        (wants_whole, u64::from(!wants_whole), taken),
     );
     assert!(rt; TEXT.starts_with(bytes));
 }
@@ -111,20 +113,20 @@ fn prints_are_whole_or_end_at_a_fault(rt: HostRuntime) {
     let mut sink = StreamSink::new(Cursor::new([0; 3]));
     let deepest = Value::Null.serialize().initial_indent_level(usize::MAX);
     let printed = deepest.print_to(&mut sink);
-    assert_eq!(rt; (printed, sink.faults()), (Err(PrintError::Sink), 1));
-    assert_eq!(rt; sink.into_inner().into_inner(), *b"   ");
+    check_equal(&rt, (printed, sink.faults()), (Err(PrintError::Sink), 1));
+    check_equal(&rt, &sink.into_inner().into_inner(), b"   ");
     let mut sink = StreamSink::new(Cursor::new([0; 3]));
     let one = one(rt.alloc()).expect(&rt, "memory");
     let too_deep = one.serialize().initial_indent_level(usize::MAX);
     let printed = too_deep.print_to(&mut sink);
     let wanted = Err(PrintError::LevelOverflow);
-    assert_eq!(rt; (printed, sink.faults()), (wanted, 0));
-    assert_eq!(rt; sink.into_inner().position(), 0);
+    check_equal(&rt, (printed, sink.faults()), (wanted, 0));
+    check_equal(&rt, sink.into_inner().position(), 0);
     let (is_whole, sink) = print_to_vector(&list, rt.alloc());
     let twice = b"[1, EXAMPLE, true, null][1, EXAMPLE, true, null]".as_slice();
     assert!(rt; is_whole);
-    assert_eq!(rt; (sink.bytes(), sink.faults()), (twice, 0));
-    assert_eq!(rt; sink.into_bytes().len(), 48);
+    check_equal(&rt, (sink.bytes(), sink.faults()), (twice, 0));
+    check_equal(&rt, sink.into_bytes().len(), 48);
     let (is_whole, faults, bytes) = print_to_memory(&list, rt.alloc());
     check_taken(&rt, is_whole, faults, bytes.as_slice(), TEXT.len());
 }
@@ -165,9 +167,9 @@ fn awkward_writers(rt: HostRuntime) {
     let list = items(rt.alloc()).expect(&rt, "memory");
     for (answers, writes, taken, error) in AWKWARD {
         let (is_whole, faults, last, writer) = print_to_writer(&list, rt.alloc(), answers);
-        assert_eq!(rt; writer.writes, writes);
+        check_equal(&rt, &writer.writes, &writes);
         check_taken(&rt, is_whole, faults, writer.bytes.as_slice(), taken);
-        assert_eq!(rt; last, error);
+        check_equal(&rt, &last, &error);
     }
     let mut sink = StreamSink::new(Told {
         answers: ERRORS.map(Answer::Fails),
@@ -178,8 +180,12 @@ fn awkward_writers(rt: HostRuntime) {
     for wanted in ERRORS {
         assert!(rt; sink.faults() < 3);
         let printed = Value::Null.serialize().print_to(&mut sink);
-        assert_eq!(rt; printed, Err(PrintError::Sink));
-        assert_eq!(rt; sink.last_error().map(|error| error.kind()), Some(wanted));
+        check_equal(&rt, printed, Err(PrintError::Sink));
+        check_equal(
+            &rt,
+            sink.last_error().map(|error| error.kind()),
+            Some(wanted),
+        );
     }
-    assert_eq!(rt; sink.faults(), 3);
+    check_equal(&rt, sink.faults(), 3);
 }

@@ -2,6 +2,7 @@
 ghost use Rattle.std.specs.Prelude.{◌≡◌, OnErr, OnOk};
 ghost use Rattle.graphql_values.specs.code.Loans.{with_value_of};
 
+use crate::checks::{check_case, check_equal};
 use crate::samples::{number, with_argument};
 use graphql_base::name;
 use graphql_base::name::Name;
@@ -90,7 +91,7 @@ fn values_by_definition(rt: HostRuntime) {
         let defined = definitions(alloc, key).expect(&rt, "memory");
         let directive = Directive::new(alloc, name);
         let value = directive.argument_by_name(argument, &defined);
-        assert_eq!(rt; told(value), answer, "{argument}");
+        check_case(&rt, &argument, told(value), answer);
     }
     let null = Node::new(alloc, Value::Null).expect(&rt, "memory");
     let directive = with_argument(alloc, Directive::new(alloc, name!(a)), name!(n), null).expect(
@@ -148,7 +149,7 @@ fn check_lent(rt: &impl Abort, alloc: Global, name: &str, is_there: bool, shared
     let other = directive(alloc, 2).expect(rt, "memory");
     let mut lent = other.clone().expect(rt, "memory");
     let is_lent = lend(&mut lent, name);
-    assert_eq!(rt; (is_lent, sharing(&mut lent)), (is_there, shared), "{name}");
+    check_case(rt, &name, (is_lent, sharing(&mut lent)), (is_there, shared));
     assert!(rt; lent == other, "{name}");
 }
 
@@ -180,14 +181,14 @@ fn specified_values_are_found_and_lent(rt: HostRuntime) {
     let mut repeated = repeated(alloc).expect(&rt, "memory");
     for (name, wanted) in [("y", Some(2)), ("z", None), ("Y", None), ("", None)] {
         let is_there = repeated.specified_argument_by_name(name).is_some();
-        assert_eq!(rt; is_there, wanted.is_some(), "{name}");
-        assert_eq!(rt; specified(&repeated, name), wanted, "{name}");
+        check_case(&rt, &name, is_there, wanted.is_some());
+        check_case(&rt, &name, specified(&repeated, name), wanted);
     }
     let four = number(alloc, 4).expect(&rt, "memory");
     set_argument(&mut repeated, "y", four).expect(&rt, "memory");
     let found = numbers(alloc, &repeated).expect(&rt, "memory");
     let wanted = [Some(1), Some(4), Some(1), Some(3)];
-    assert_eq!(rt; found.as_slice(), wanted.as_slice());
+    check_equal(&rt, found.as_slice(), wanted.as_slice());
     check_lent(&rt, alloc, "x", true, [false, true]);
     check_lent(&rt, alloc, "y", true, [true, false]);
     check_lent(&rt, alloc, "z", false, [true, true]);

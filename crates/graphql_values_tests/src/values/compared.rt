@@ -1,6 +1,7 @@
 //! Equality and hashes of trees, which leave locations out. Clones keep these.
 use super::directive_definition::definition;
 use super::value::{list, object};
+use crate::checks::check_equal;
 use crate::samples::number;
 use graphql_base::name;
 use graphql_base::node::Node;
@@ -52,16 +53,21 @@ fn types_and_values(rt: HostRuntime) {
     check_compared(&rt, &ty, &same, &other);
     let copy = ty.clone().expect(&rt, "memory");
     assert!(rt; copy.inner_named_type().location().is_some());
-    assert_eq!(rt; copy.inner_named_type().location(), name_in(7).location());
+    check_equal(
+        &rt,
+        copy.inner_named_type().location(),
+        name_in(7).location(),
+    );
     let value = object(alloc, 1).expect(&rt, "memory");
     let same = object(alloc, 2).expect(&rt, "memory");
     let list = list(alloc, 7).expect(&rt, "memory");
     check_compared(&rt, &value, &same, &list);
     let copy = list.clone().expect(&rt, "memory");
     let first = copy.as_list().and_then(|items| items.first());
-    assert_eq!(rt;
+    check_equal(
+        &rt,
         first.and_then(|node| node.location()),
-        SourceSpan::new(FileId::new(7), 3, 4)
+        SourceSpan::new(FileId::new(7), 3, 4),
     );
 }
 
@@ -72,9 +78,10 @@ fn directives_and_definitions(rt: HostRuntime) {
     let there = placed(alloc, 2).expect(&rt, "memory");
     check_compared(&rt, &here, &there, &Directive::new(alloc, name!(a)));
     let copy = here.clone().expect(&rt, "memory");
-    assert_eq!(rt;
+    check_equal(
+        &rt,
         copy.arguments.first().and_then(|node| node.location()),
-        SourceSpan::new(FileId::new(7), 3, 7)
+        SourceSpan::new(FileId::new(7), 3, 7),
     );
     let mut set = HashSet::new(alloc);
     set.insert(here).expect(&rt, "memory");

@@ -1,4 +1,5 @@
 //! Worked lists of directives.
+use crate::checks::{check_case, check_equal};
 use crate::samples::{self, with_argument};
 use graphql_base::name;
 use graphql_base::name::Name;
@@ -35,14 +36,14 @@ const NAMES: [(&str, usize, Option<i32>); 3] = [("a", 2, Some(1)), ("b", 1, None
 fn look_ups(rt: HostRuntime) {
     let list = list(rt.alloc()).expect(&rt, "memory");
     for (name, count, first) in NAMES {
-        assert_eq!(rt; list.has(name), count > 0, "{name}");
-        assert_eq!(rt; list.get(name).is_some(), count > 0, "{name}");
-        assert_eq!(rt; list.get(name).and_then(number), first, "{name}");
-        assert_eq!(rt; list.get_all(name).count(), count, "{name}");
+        check_case(&rt, &name, list.has(name), count > 0);
+        check_case(&rt, &name, list.get(name).is_some(), count > 0);
+        check_case(&rt, &name, list.get(name).and_then(number), first);
+        check_case(&rt, &name, list.get_all(name).count(), count);
     }
     let mut all = list.get_all("a");
-    assert_eq!(rt; all.next().and_then(number), Some(1));
-    assert_eq!(rt; all.next().and_then(number), Some(2));
+    check_equal(&rt, all.next().and_then(number), Some(1));
+    check_equal(&rt, all.next().and_then(number), Some(2));
     assert!(rt; all.next().is_none());
     assert!(rt; all.next().is_none());
     for (name, from, position) in [
@@ -74,17 +75,17 @@ fn pushed(rt: &impl Abort, alloc: Global, count: i32) -> DirectiveList {
 fn nodes_are_pushed_collected_and_gone_over(rt: HostRuntime) {
     let alloc = rt.alloc();
     let pushed = pushed(&rt, alloc, 100);
-    assert_eq!(rt; pushed.len(), 100);
-    assert_eq!(rt; pushed.get("a").and_then(number), Some(1));
-    assert_eq!(rt; pushed.last().and_then(number), Some(100));
+    check_equal(&rt, pushed.len(), 100);
+    check_equal(&rt, pushed.get("a").and_then(number), Some(1));
+    check_equal(&rt, pushed.last().and_then(number), Some(100));
     let nodes = list(alloc).expect(&rt, "memory").into_iter();
     let mut collected = DirectiveList::collect_from(alloc, nodes).expect(&rt, "memory");
     assert!(rt; collected == list(alloc).expect(&rt, "memory"));
-    assert_eq!(rt; collected.pop().as_ref().and_then(number), Some(2));
-    assert_eq!(rt; collected.len(), 2);
+    check_equal(&rt, collected.pop().as_ref().and_then(number), Some(2));
+    check_equal(&rt, collected.len(), 2);
     collected.reverse();
     let first = collected.first().map(|node| node.name.as_str());
-    assert_eq!(rt; first, Some("b"));
+    check_equal(&rt, first, Some("b"));
     let mut list = list(alloc).expect(&rt, "memory");
     let mut lent = Vec::new(alloc);
     for node in &list {
@@ -93,12 +94,12 @@ fn nodes_are_pushed_collected_and_gone_over(rt: HostRuntime) {
     for node in &mut list {
         node.make_mut().expect(&rt, "memory").name = name!(c);
     }
-    assert_eq!(rt; list.get_all("c").count(), 3);
+    check_equal(&rt, list.get_all("c").count(), 3);
     let mut taken = Vec::new(alloc);
     for node in list {
         taken.push(number(&node)).expect(&rt, "memory");
     }
     for numbers in [lent, taken] {
-        assert_eq!(rt; numbers.as_slice(), [Some(1), None, Some(2)].as_slice());
+        check_equal(&rt, numbers.as_slice(), [Some(1), None, Some(2)].as_slice());
     }
 }

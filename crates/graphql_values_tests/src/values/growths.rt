@@ -4,7 +4,7 @@
 //! `calls_called` has to ask so much more often than `calls_built`.
 ghost use Rattle.std.specs.Prelude.{◌<◌};
 
-use crate::checks::{check_taken, printed};
+use crate::checks::{check_case, check_taken, printed};
 use crate::samples::{directive, input, items};
 use graphql_text::engine::Syntax;
 use graphql_values::directive::{Directive, SpecifiedArgumentError};
@@ -31,7 +31,7 @@ fn check_print<T: Syntax + Drop>(
     };
     if calls == Calls::Made {
         let (result, taken) = printed(rt, &tree);
-        assert_eq!(rt; result, Ok(()), "{takes}");
+        check_case(rt, &takes, result, Ok(()));
         check_taken(rt, taken, wanted);
     }
 }
@@ -63,14 +63,14 @@ fn check_loans(
     (names, are_there, takes): (&[&str], bool, &str),
 ) {
     let Ok((directive, mut lent)) = made else {
-        assert_eq!(rt; calls, Calls::Made, "the directives aren't built");
+        check_case(rt, "the directives aren't built", calls, Calls::Made);
         return;
     };
     if calls == Calls::Made {
         for name in names {
             let error = lent.specified_argument_by_name_mut(name).err();
             let wanted = (!are_there).then_some(SpecifiedArgumentError::NotSpecified);
-            assert_eq!(rt; error, wanted, "{takes}");
+            check_case(rt, &takes, &error, &wanted);
         }
     }
     assert!(rt; lent == directive);

@@ -1,5 +1,5 @@
 //! Texts of ints and floats.
-use crate::checks::{check_made, check_text};
+use crate::checks::{check_case, check_made, check_text};
 use graphql_values::literal::{FloatValue, IntValue, LiteralError};
 use graphql_values::value::Value;
 use std::alloc::Global;
@@ -58,8 +58,8 @@ fn check_float(rt: &impl Abort, alloc: Global, text: &str, is_float: bool) {
 
 /// Whether a text is in the syntax of ints and of floats, and so is made one.
 fn check_literal(rt: &impl Abort, alloc: Global, text: &str, is_int: bool, is_float: bool) {
-    assert_eq!(rt; IntValue::valid_syntax(text), is_int, "{text}");
-    assert_eq!(rt; FloatValue::valid_syntax(text), is_float, "{text}");
+    check_case(rt, &text, IntValue::valid_syntax(text), is_int);
+    check_case(rt, &text, FloatValue::valid_syntax(text), is_float);
     check_int(rt, alloc, text, is_int);
     check_float(rt, alloc, text, is_float);
 }
@@ -193,14 +193,14 @@ fn numbers_are_those_of_their_texts(rt: HostRuntime) {
         let int = IntValue::new_parsed(alloc, text).expect(&rt, "memory");
         check_narrow(&rt, alloc, &int, narrow);
         let int = IntValue::new(alloc, text).expect(&rt, "an integer");
-        assert_eq!(rt; int.try_to_i64().ok(), wide, "{text}");
+        check_case(&rt, &text, int.try_to_i64().ok(), wide);
     }
     for (number, text) in WRITTEN {
         let int = IntValue::from_i64(alloc, number).expect(&rt, "memory");
         check_text(&rt, int.as_str(), text);
-        assert_eq!(rt; int.try_to_i64().ok(), Some(number), "{text}");
+        check_case(&rt, &text, int.try_to_i64().ok(), Some(number));
         let value = Value::from_i64(alloc, number).expect(&rt, "memory");
-        assert_eq!(rt; value.to_i64(), Some(number), "{text}");
+        check_case(&rt, &text, value.to_i64(), Some(number));
         if let Ok(narrow) = i32::try_from(number) {
             let int = IntValue::from_i32(alloc, narrow).expect(&rt, "memory");
             check_text(&rt, int.as_str(), text);

@@ -1,5 +1,5 @@
 //! Arguments, directives and definitions that are made of their parts.
-use crate::checks::{check_printed, check_text};
+use crate::checks::{check_case, check_equal, check_printed, check_text};
 use graphql_base::name;
 use graphql_base::node::Node;
 use graphql_values::argument::Argument;
@@ -16,8 +16,8 @@ fn new_parts_of_trees(rt: HostRuntime) {
     let value = Node::new(alloc, Value::from(true)).expect(&rt, "memory");
     let argument = Argument::new_node(alloc, name!(x), value).expect(&rt, "memory");
     check_text(&rt, argument.name.as_str(), "x");
-    assert_eq!(rt; argument.value.to_bool(), Some(true));
-    assert_eq!(rt; argument.location(), None);
+    check_equal(&rt, argument.value.to_bool(), Some(true));
+    check_equal(&rt, argument.location(), None);
     let directive = Directive::new(alloc, name!(a));
     check_text(&rt, directive.name.as_str(), "a");
     assert!(rt; directive.arguments.is_empty());
@@ -35,6 +35,6 @@ fn new_parts_of_trees(rt: HostRuntime) {
         let mut input = InputValueDefinition::new(alloc, name!(a), ty);
         check_printed(&rt, &input, text);
         input.default_value = default_value;
-        assert_eq!(rt; input.is_required(), is_required, "{input}");
+        check_case(&rt, &input, input.is_required(), is_required);
     }
 }

@@ -1,5 +1,5 @@
 //! Prints of the five kinds, where memory is ample. How trees are laid out is told by the cases of another program.
-use crate::checks::{Page, check_made};
+use crate::checks::{Page, check_equal, check_made};
 use crate::samples::{definition, directive, directives, input, nested, one};
 use graphql_checks::trees::check_print;
 use graphql_values::ty;
@@ -46,5 +46,5 @@ fn into_formatters(rt: HostRuntime) {
     check_made(&rt, format!(in alloc; "{ty:>9.1}"), "[Foo!]!");
     let mut page = Page::new();
     let print = list.serialize().initial_indent_level(24);
-    assert_eq!(rt; write!(page, "{print}"), Err(fmt::Error));
+    check_equal(&rt, write!(page, "{print}"), Err(fmt::Error));
 }

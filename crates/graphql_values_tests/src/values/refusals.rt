@@ -3,7 +3,7 @@
 mod made;
 mod prints;
 
-use crate::checks::{check_printed, check_text};
+use crate::checks::{check_equal, check_printed, check_text};
 use crate::samples::{directive, directives};
 use graphql_base::name;
 use graphql_base::node::Node;
@@ -24,9 +24,10 @@ fn a_value_is_lent_or_the_directive_stays(rt: HostRuntime) {
     let Ok(mut shared) = original.clone() else {
         return;
     };
-    assert_eq!(rt;
+    check_equal(
+        &rt,
         shared.specified_argument_by_name_mut("z").err(),
-        Some(SpecifiedArgumentError::NotSpecified)
+        Some(SpecifiedArgumentError::NotSpecified),
     );
     assert!(rt; shared == before && original == before);
     let error = match shared.specified_argument_by_name_mut("y") {
@@ -78,7 +79,7 @@ fn no_memory_is_asked_for(rt: HostRuntime) {
     check_text(&rt, float.as_str(), text);
     check_cloned(&float).expect(&rt, "a clone");
     let float = FloatValue::new(alloc, text).expect(&rt, "no memory");
-    assert_eq!(rt; float.as_str().len(), 30);
+    check_equal(&rt, float.as_str().len(), 30);
     for (value, wanted) in [
         (Value::Null, "null"),
         (Value::Enum(name!(ON)), "ON"),

@@ -1,5 +1,5 @@
 //! Worked types.
-use crate::checks::{check_made, check_text};
+use crate::checks::{check_case, check_made, check_text};
 use graphql_base::name;
 use graphql_values::ty;
 use graphql_values::types::Type;
@@ -71,7 +71,7 @@ fn texts_parts_and_assignability(rt: HostRuntime) {
         let wanted = of_text(rt.alloc(), item).expect(&rt, "memory");
         assert!(rt; *ty.item_type() == wanted, "{text}");
         let found = [ty.is_list(), ty.is_named(), ty.is_non_null()];
-        assert_eq!(rt; found, kinds, "{text}");
+        check_case(&rt, &text, &found, &kinds);
     }
     for (source, target, is_assignable) in ASSIGNABLE {
         let given = of_text(rt.alloc(), source).expect(&rt, "memory");

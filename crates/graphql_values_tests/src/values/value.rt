@@ -1,4 +1,5 @@
 //! Queries of values.
+use crate::checks::check_equal;
 use graphql_base::name;
 use graphql_base::node::Node;
 use graphql_base::span::{FileId, SourceSpan};
@@ -36,17 +37,17 @@ pub(super) fn object(alloc: Global, file: u64) -> Result<Value, AllocError> {
 fn queries(rt: HostRuntime) {
     let alloc = rt.alloc();
     assert!(rt; Value::from(()).is_null());
-    assert_eq!(rt; Value::from(true).to_bool(), Some(true));
+    check_equal(&rt, Value::from(true).to_bool(), Some(true));
     let name = Value::Enum(name!(A));
     assert!(rt; name.as_enum().is_some());
     assert!(rt; name.as_variable().is_none());
     let text = Value::from_text(alloc, "é\n").expect(&rt, "memory");
-    assert_eq!(rt; text.as_str(), Some("é\n"));
+    check_equal(&rt, text.as_str(), Some("é\n"));
     assert!(rt; text == Value::from(String::from_str(alloc, "é\n").expect(&rt, "memory")));
     let number = Value::from_i32(alloc, -5).expect(&rt, "memory");
-    assert_eq!(rt; number.to_i32(), Some(-5));
+    check_equal(&rt, number.to_i32(), Some(-5));
     let value = object(alloc, 1).expect(&rt, "memory");
     let field = value.as_object().and_then(|fields| fields.first());
     let items = field.and_then(|field| field.1.as_list());
-    assert_eq!(rt; items.map(|items| items.len()), Some(2));
+    check_equal(&rt, items.map(|items| items.len()), Some(2));
 }

@@ -1,5 +1,5 @@
 //! The words of operation types and of directive locations.
-use crate::checks::check_made;
+use crate::checks::{check_case, check_equal, check_made};
 use graphql_values::directive_location::DirectiveLocation;
 use graphql_values::operation_type::OperationType;
 
@@ -75,26 +75,28 @@ const PADDED: [(DirectiveLocation, &str); 3] = [
 #[test]
 fn of_operation_types_and_locations(rt: HostRuntime) {
     for (operation_type, word, padded, type_name, location, kinds) in OPERATION_TYPES {
-        assert_eq!(rt; operation_type.name(), word);
+        check_equal(&rt, operation_type.name(), word);
         check_made(&rt, format!(in rt.alloc(); "{operation_type}"), word);
         check_made(&rt, format!(in rt.alloc(); "{operation_type:>12}"), padded);
-        assert_eq!(rt;
+        check_equal(
+            &rt,
             operation_type.default_type_name().as_static_str(),
-            Some(type_name)
+            Some(type_name),
         );
-        assert_eq!(rt;
-            [
+        check_case(
+            &rt,
+            &word,
+            &[
                 operation_type.is_query(),
                 operation_type.is_mutation(),
                 operation_type.is_subscription(),
             ],
-            kinds,
-            "{word}"
+            &kinds,
         );
-        assert_eq!(rt; DirectiveLocation::from(operation_type), location);
+        check_equal(&rt, DirectiveLocation::from(operation_type), location);
     }
     for (location, word) in LOCATIONS {
-        assert_eq!(rt; location.name(), word);
+        check_equal(&rt, location.name(), word);
         check_made(&rt, format!(in rt.alloc(); "{location}"), word);
     }
     for (location, wanted) in PADDED {

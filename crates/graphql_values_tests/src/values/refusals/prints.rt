@@ -1,5 +1,5 @@
 //! Trees that are copied, printed and displayed, or refused.
-use crate::checks::{check_displayed_or_refused, check_print_or_refused};
+use crate::checks::{check_displayed_or_refused, check_equal, check_print_or_refused};
 use crate::samples::{FORMS, definition, directive, directives, input, items, nested, value_of};
 use graphql_checks::refused::{check_cloned_or_refused, check_text_or_refused};
 use graphql_text::engine::{PrintError, Syntax};
@@ -68,7 +68,11 @@ fn a_type_is_made_copied_and_displayed_or_refused(rt: HostRuntime) {
 /// The sink grows several times for so many bytes.
 fn check_vector(rt: &impl Abort, printed: Result<(), PrintError>, sink: &VecSink, wanted: &[u8]) {
     let bytes = sink.bytes();
-    assert_eq!(rt; sink.faults(), u64::from(printed == Err(PrintError::Sink)));
+    check_equal(
+        rt,
+        sink.faults(),
+        u64::from(printed == Err(PrintError::Sink)),
+    );
     match printed {
         Ok(()) => assert!(rt; bytes == wanted),
         Err(PrintError::Memory) => assert!(rt; bytes.is_empty()),

@@ -73,7 +73,7 @@ fn check_members(rt: &impl Abort, json: AnyJson<'_, '_>) {
     assert!(rt; json.get("b").is_none());
     let member = json.get("a").expect(rt, "a member");
     let items = member.as_items().expect(rt, "an array");
-    check_equal(rt, items.len(), 2);
+    assert_eq!(rt; items.len(), 2);
     check_equal(rt, items.at(0).as_u64(), Some(1));
     check_equal(rt, items.at(1).as_bool(), Some(false));
 }

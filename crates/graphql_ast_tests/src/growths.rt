@@ -88,7 +88,7 @@ fn check<T: Syntax + Drop>(
         } else {
             Ok(())
         };
-        check_case(rt, "a print that overflows takes 0", &above, &wanted);
+        assert_eq!(rt; above, wanted, "a print that overflows takes 0");
         assert!(rt; sink.taken == 0 || !has_groups);
         check_case(rt, &takes, flat.print_to(&mut sink), Ok(()));
     }

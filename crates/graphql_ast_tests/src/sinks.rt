@@ -128,7 +128,7 @@ fn check_refused<T: Syntax>(
     let (refused, error) = (writer.refused, writer.error);
     let mut sink = StreamSink::new(writer);
     check_equal(rt, print.print_to(&mut sink), Err(PrintError::Sink));
-    check_equal(rt, sink.faults(), 1);
+    assert_eq!(rt; sink.faults(), 1);
     check_equal(rt, sink.last_error().map(|error| error.kind()), error);
     check_equal(rt, print.print_to(&mut sink), Ok(()));
     check_equal(rt, sink.faults(), 1);

@@ -44,7 +44,7 @@ fn nested_sets_and_narrow_sinks(rt: HostRuntime) {
         (wide.serialize().no_indent(), 20003, "{ a a ", " a }"),
     ] {
         let text = print.to_text(alloc).expect(&rt, "memory");
-        check_case(&rt, &start, text.len(), length);
+        assert_eq!(&rt; text.len(), length, "{start}");
         assert!(&rt; text.starts_with(start) && text.ends_with(end), "{start}");
     }
     let above = line.initial_indent_level(usize::MAX - 999).to_text(alloc);

@@ -203,7 +203,7 @@ fn check_name(rt: &impl Abort, alloc: Global, name: Name, text: &str, kept: Kept
     let count = u32::try_from(name.len()).expect(rt, "few bytes");
     for (start, end) in [(10, count.saturating_add(10)), (u32::MAX - count, u32::MAX)] {
         let span = SourceSpan::new(FileId::new(5), start, end).expect(rt, "in order");
-        check_equal(rt, span.len() as usize, name.len());
+        assert_eq!(rt; span.len() as usize, name.len());
         let placed = name.clone().expect(rt, "memory").with_location(span);
         check_equal(rt, &placed, &name);
         check_taken(rt, alloc, placed, text, kept, Some(span));

@@ -8,11 +8,11 @@ const TEXT: &[u8] = b"[1, 2]";
 
 /// It takes the text, and then nothing.
 fn check_puts<S: TextSink>(rt: &impl Abort, sink: &mut S) {
-    check_equal(rt, sink.faults(), 0);
-    check_equal(rt, sink.put(TEXT), Ok(6));
-    check_equal(rt, sink.faults(), 0);
-    check_equal(rt, sink.put(&[]), Ok(0));
-    check_equal(rt, sink.faults(), 0);
+    assert_eq!(rt; sink.faults(), 0);
+    assert_eq!(rt; sink.put(TEXT), Ok(6));
+    assert_eq!(rt; sink.faults(), 0);
+    assert_eq!(rt; sink.put(&[]), Ok(0));
+    assert_eq!(rt; sink.faults(), 0);
 }
 
 /// What a writer answers to a write.

@@ -1,7 +1,7 @@
 #!/usr/bin/env python3
 """Tries the planted bugs of crates, crates/NAME/planted/*.edit: wrong bodies that no contract may let through.
 
-    tools/planted.py [--only WORD] [--alone] [NAME..]
+    tools/planted.py [--only WORD] [--alone] [--told FILE] [NAME..]
 
 They are written as the edits of must-fail/ are, which `rt ci` tries itself: a line `file: src/name.rt`, then pairs of a line `old: TEXT`, whose text
 stands once in that file, and a line `new: TEXT`. Each is tried on a copy of the repository. Without a name it goes over all crates that have some. With
@@ -15,9 +15,10 @@ no more there. With --alone, each is tried so.
 A check of several doesn't tell a clause that is refused from one at which the prover gave up at a limit of its search: both count as refused there. Who
 wants to know tries the edit with --alone.
 
-Of each crate it says how many are refused, and of each edit that is not, with the first line of why:
+Of each edit it says what came of it, as soon as that is known, with the first line of why. A run that was cut off is gone on with by --told FILE, where
+FILE has what it said: edits that are refused at the contract there aren't tried again, and count as refused.
 
-    refused at the contract    as it must be: a clause is not proved (said only with --only)
+    refused at the contract    as it must be: a clause is not proved
     refused only by a name     the check fails since a name that proof files cite is gone, which says nothing of the contract: mend the edit
     bad edit                   it can't be applied, or its text doesn't compile: mend the edit
     refused only by a limit    the prover gave no verdict: choose a change that it refuses sooner
@@ -102,7 +103,7 @@ def parse_edit(folder, path):
             file = line[6:].strip()
         elif line.startswith("old: "):
             old = line[5:]
-        elif line.startswith("new: ") and old is not None:
+        elif line.startswith("new:") and old is not None:
             pairs.append((old, line[5:]))
     source = folder / file
     body = None
@@ -131,11 +132,27 @@ def unit(edit):
     return (edit.file, f"+{edit.body.cycle}" if edit.body.cycle else edit.body.name)
 
 
-class Copy:
-    """A copy of the repository, in which edits are applied to one crate."""
+def below(names):
+    """These crates, and those that they stand on."""
+    uses = {}
+    for line in (ROOT / "crates.txt").read_text(encoding="utf-8").splitlines():
+        crate, _, used = line.partition(":")
+        uses[crate.split(" ")[0]] = used.split()
+    found, left = set(), list(names)
+    while left:
+        crate = left.pop()
+        if crate in uses and crate not in found:
+            found.add(crate)
+            left += uses[crate]
+    return found
 
-    def __init__(self, root):
+
+class Copy:
+    """A copy of the repository, with what `rt check` kept of these crates and of those below, in which edits are applied to one crate."""
+
+    def __init__(self, root, names):
         self.root = Path(root)
+        self.kept = below(names)
         for name in ["crates.txt", "HANDLES"]:
             shutil.copy(ROOT / name, self.root / name)
         for crate in sorted((ROOT / "crates").iterdir()):
@@ -143,12 +160,12 @@ class Copy:
             self.restore(crate.name)
 
     def restore(self, crate):
-        """The crate's files as they are, and nothing that was kept of others."""
+        """The crate's files as they are, and what was kept of them, and nothing of others."""
         folder = self.root / "crates" / crate
         for part in ["src", "specs", "proofs", "out"]:
             shutil.rmtree(folder / part, ignore_errors=True)
-            if part != "out" and (ROOT / "crates" / crate / part).is_dir():
-                shutil.copytree(ROOT / "crates" / crate / part, folder / part)
+            if (part != "out" or crate in self.kept) and (ROOT / "crates" / crate / part).is_dir():
+                shutil.copytree(ROOT / "crates" / crate / part, folder / part, symlinks=True)
 
     def apply(self, crate, edits):
         """Applies these edits, each where its texts stand in the file as it is, and returns those that another one's text overlaps."""
@@ -179,16 +196,23 @@ class Copy:
         folder.mkdir()
         for edit in edits:
             shutil.copy(ROOT / "crates" / crate / "planted" / f"{edit.name}.edit", folder)
-        run = subprocess.run(["rt", "must-fail", crate], cwd=self.root, stdout=subprocess.PIPE, stderr=subprocess.STDOUT, text=True, errors="replace")
+        told, last = {}, ""
+        with subprocess.Popen(["rt", "must-fail", crate], cwd=self.root, stdout=subprocess.PIPE, stderr=subprocess.STDOUT, text=True, errors="replace") as run:
+            for line in run.stdout:
+                last = line.strip() or last
+                if found := re.match(r"rt: must-fail (?:[^ /]+/)?([^ /]+)\.edit: (.*)$", line):
+                    verdict = next((verdict for begin, verdict in VERDICTS if found[2].startswith(begin)), "not tried")
+                    told[found[1]] = verdict
+                    tell(crate, found[1], verdict, found[2].partition(": ")[2].removeprefix("note: "))
         shutil.rmtree(folder)
-        told = {}
-        for line in run.stdout.split("\n"):
-            if found := re.match(r"rt: must-fail (?:[^ /]+/)?([^ /]+)\.edit: (.*)$", line):
-                verdict = next((verdict for begin, verdict in VERDICTS if found[2].startswith(begin)), "not tried")
-                told[found[1]] = (verdict, found[2].partition(": ")[2].removeprefix("note: "))
-        if "the check that its must-fail edits begin with did not end well" in run.stdout:
-            return {edit.name: ("not tried", "the crate is not proved as it stands") for edit in edits}
-        return {edit.name: told.get(edit.name, ("not tried", run.stdout.strip().split("\n")[-1])) for edit in edits}
+        for edit in edits:
+            if edit.name not in told:
+                tell(crate, edit.name, "not tried", last)
+        return {edit.name: told.get(edit.name, "not tried") for edit in edits}
+
+
+def tell(crate, name, verdict, why):
+    print(f"{crate}/{name}: {verdict}: {why}", flush=True)
 
 
 def module_of(file):
@@ -241,7 +265,10 @@ def try_together(copy, crate, edits):
             held = []
         wrong = faulty(said, batch)
         print(f"{crate}: {len(batch)} together, refused {len(held)}", flush=True)
-        refused += [edit for edit in held if edit not in wrong]
+        for edit in held:
+            if edit not in wrong:
+                tell(crate, edit.name, REFUSED, "together with others")
+                refused.append(edit)
         if not held and not wrong:
             alone += batch
             left = [edit for edit in left if edit not in batch]
@@ -260,44 +287,46 @@ def is_waiting(crate, said, edit):
     return any(line.match(text) for text in said)
 
 
-def try_crate(copy, crate, word, is_alone):
+def try_crate(copy, crate, word, is_alone, before):
     """How many bugs are planted, refused and proved, and whether the crate is proved without any."""
     folder = ROOT / "crates" / crate
-    edits = [parse_edit(folder, path) for path in sorted((folder / "planted").glob("*.edit")) if word in path.stem]
+    paths = [path for path in sorted((folder / "planted").glob("*.edit")) if word in path.stem]
+    edits = [parse_edit(folder, path) for path in paths if f"{crate}/{path.stem}" not in before]
+    earlier = len(paths) - len(edits)
     if not edits:
-        return 0, 0, 0, True
+        return earlier, earlier, 0, True
     copy.restore(crate)
     if not any(text.startswith("logic=proved") for text in copy.check(crate)):
         print(f"{crate}: not proved as it stands, so nothing is known of its edits")
-        return len(edits), 0, 0, False
+        return len(paths), earlier, 0, False
     refused, alone = ([], edits) if is_alone else try_together(copy, crate, edits)
     copy.restore(crate)
-    verdicts = {edit.name: (REFUSED, "together with others") for edit in refused}
+    verdicts = {edit.name: REFUSED for edit in refused}
     if alone:
         print(f"{crate}: {len(alone)} alone", flush=True)
         verdicts |= copy.must_fail(crate, alone)
-    for name, (verdict, why) in sorted(verdicts.items()):
-        if verdict != REFUSED or word:
-            print(f"{name}: {verdict}: {why}")
-    held = sum(verdict == REFUSED for verdict, _ in verdicts.values())
-    survivors = sum(verdict == "PROVED" for verdict, _ in verdicts.values())
-    print(f"{crate}: planted {len(edits)}, refused {held}", flush=True)
-    return len(edits), held, survivors, True
+    held = earlier + sum(verdict == REFUSED for verdict in verdicts.values())
+    survivors = sum(verdict == "PROVED" for verdict in verdicts.values())
+    print(f"{crate}: planted {len(paths)}, refused {held}", flush=True)
+    return len(paths), held, survivors, True
 
 
 def main():
     parser = argparse.ArgumentParser(description=__doc__.split("\n", maxsplit=1)[0])
     parser.add_argument("--only", default="", metavar="WORD")
     parser.add_argument("--alone", action="store_true")
+    parser.add_argument("--told", type=Path, metavar="FILE")
     parser.add_argument("names", nargs="*", metavar="NAME")
     options = parser.parse_args()
     names = options.names or sorted(path.parent.name for path in (ROOT / "crates").glob("*/planted"))
     for name in names:
         if not (ROOT / "crates" / name).is_dir():
             sys.exit(f"{name}: no such crate")
+    told = options.told.read_text(encoding="utf-8").split("\n") if options.told else []
+    before = {line.partition(": ")[0] for line in told if f": {REFUSED}: " in line}
     with tempfile.TemporaryDirectory() as root:
-        copy = Copy(root)
-        tried = [try_crate(copy, name, options.only, options.alone) for name in names]
+        copy = Copy(root, names)
+        tried = [try_crate(copy, name, options.only, options.alone, before) for name in names]
     planted, refused, survivors = (sum(column) for column in list(zip(*tried))[:3])
     print(f"planted {planted}, refused {refused}, survivors {survivors}")
     if survivors or not all(is_proved for *_, is_proved in tried):

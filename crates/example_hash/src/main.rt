@@ -22,7 +22,8 @@ use std::io::Write;
 #[tactic(auto, using(crate::proofs::LinesApart::tells_apart))]
 fn hash(alloc: Global, document: &Document) -> Result<(Vec<u8>, [u8; 32]), PrintError>
     ensures text { IfOk result (λ hashed. hashed.0.items ≡ line_of (document_tree document.now)) }
-    ensures hash { IfOk result (λ hashed. hashed.1 ≡ sha256 (line_of (document_tree document.now))) }
+    ensures hash { IfOk result (λ hashed.
+        hashed.1 ≡ sha256 (line_of (document_tree document.now))) }
     ensures alone { (other : document_kind.Tree) →
         IsTrue (document_kind.obeys (document_tree document.now)) →
         IsTrue (document_kind.obeys other) →

@@ -40,7 +40,7 @@ fn check<T: AstJson + PartialEq + Drop>(
     }
 }
 
-fn check_parts(rt: &impl Abort, alloc: Global, refused: &mut Refused) {
+pub(crate) fn check_parts(rt: &impl Abort, alloc: Global, refused: &mut Refused) {
     check(rt, alloc, refused, value(alloc));
     check(rt, alloc, refused, type_reference(alloc));
     check(rt, alloc, refused, argument(alloc));
@@ -52,7 +52,7 @@ fn check_parts(rt: &impl Abort, alloc: Global, refused: &mut Refused) {
     check(rt, alloc, refused, enum_value_definition(alloc));
 }
 
-fn check_selections(rt: &impl Abort, alloc: Global, refused: &mut Refused) {
+pub(crate) fn check_selections(rt: &impl Abort, alloc: Global, refused: &mut Refused) {
     check(rt, alloc, refused, fragment_spread(alloc));
     check(rt, alloc, refused, spread_selection(alloc));
     check(rt, alloc, refused, inline_fragment(alloc));

@@ -4,6 +4,7 @@ mod each_kind;
 
 use crate::calls::check_all;
 use crate::checks::check_equal;
+use crate::each_kind::{check_parts, check_selections};
 use crate::samples::{DEFINITION, ILL_FORMED, PRINTED};
 use graphql_ast::ast::Document;
 use graphql_ast_json::{
@@ -88,10 +89,12 @@ fn what_is_wrong_is_told_or_memory_was_refused(rt: HostRuntime) {
     }
 }
 
-/// Allocations: 244.
+/// Allocations: 1907.
 #[test]
 fn calls_are_whole_or_memory_was_refused(rt: HostRuntime) {
     let mut refused = Refused::none();
     check_all(&rt, rt.alloc(), &mut refused);
+    check_parts(&rt, rt.alloc(), &mut refused);
+    check_selections(&rt, rt.alloc(), &mut refused);
     assert!(rt; refused.calls <= 1);
 }

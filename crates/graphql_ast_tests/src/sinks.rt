@@ -241,8 +241,8 @@ fn long(rt: &impl Abort, alloc: Global, length: usize) -> (Value, String) {
     (list, text.expect(rt, "memory"))
 }
 
-/// Of each kind; of a document of two definitions, and of one of all with room for each seventh number of bytes; and of texts that
-/// are longer than what is gathered before it is sent, with pieces that are gathered and one that isn't.
+/// Of each kind; of a document of two definitions, and of one of all; and of texts that are longer than what is gathered before it is
+/// sent, with pieces that are gathered and one that isn't.
 #[test]
 fn of_each_kind_and_of_long_texts(rt: HostRuntime) {
     let alloc = rt.alloc();
@@ -259,7 +259,7 @@ fn of_each_kind_and_of_long_texts(rt: HostRuntime) {
     sinks.take(type_and_query(alloc), "type A query { a }");
     let all = document(alloc).expect(&rt, "memory");
     let line = document_line(alloc).expect(&rt, "memory");
-    check_layouts(&rt, alloc, &all, line.as_str(), 7);
+    check_layouts(&rt, alloc, &all, line.as_str(), 1);
     for length in [700, 1100] {
         let (list, wanted) = long(&rt, alloc, length);
         let print = Serialize::new(&list).no_indent();

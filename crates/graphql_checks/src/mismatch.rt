@@ -1,4 +1,6 @@
 //! What a check finds in place of what is wanted.
+ghost use Rattle.std.specs.Prelude.{◌≡◌, OnOk, string_bytes};
+
 use graphql_base::span::SourceSpan;
 use graphql_text::engine::PrintError;
 use graphql_text::ill_formed::SideCondition;
@@ -36,7 +38,9 @@ impl From<PrintError> for Mismatch {
 }
 
 /// That a text is the one that is wanted.
-pub(crate) fn check_text(text: String, wanted: &str) -> Result<(), Mismatch> {
+pub(crate) fn check_text(text: String, wanted: &str) -> Result<(), Mismatch>
+    ensures { OnOk result (string_bytes text ≡ wanted.now) }
+{
     if text.as_str() == wanted {
         Ok(())
     } else {

@@ -1,4 +1,8 @@
 //! Clones and prints where memory is ample.
+ghost use Rattle.std.specs.Prelude.{◌≡◌, None, OnOk, encode_utf8_all, true};
+ghost use Rattle.graphql_text.specs.kinds.Kinds.{layout_of};
+ghost use Rattle.graphql_text.specs.kinds.Printing.{print_bytes};
+
 use crate::mismatch::{Mismatch, check_text};
 use graphql_text::engine::{Serialize, Syntax};
 use graphql_text::sink::{TextSink, VecSink};
@@ -9,7 +13,10 @@ use std::alloc::Global;
 /// ```
 /// check_cloned(&tree).expect(&rt, "a clone");
 /// ```
-pub fn check_cloned<T: Clone + PartialEq + Drop>(original: &T) -> Result<(), Mismatch> {
+pub fn check_cloned<T: Clone + PartialEq + Drop>(original: &T) -> Result<(), Mismatch>
+    ensures { OnOk result ((copy : T) × T.is_clone original.now copy
+        × (T.eq copy original.now ≡ true)) }
+{
     if original.clone()? == *original {
         Ok(())
     } else {
@@ -26,7 +33,9 @@ pub fn check_print<T: Syntax>(
     alloc: Global,
     print: Serialize<'_, T>,
     wanted: &str,
-) -> Result<(), Mismatch> {
+) -> Result<(), Mismatch>
+    ensures { OnOk result (print_bytes T.kind T.tree print.entry ≡ wanted.now) }
+{
     check_text(print.to_text(alloc)?, wanted)?;
     let mut sink = VecSink::new(alloc);
     print.print_to(&mut sink)?;
@@ -48,7 +57,11 @@ pub fn check_line<T: Syntax>(
     tree: &T,
     wanted: &str,
     is_well_formed: bool,
-) -> Result<(), Mismatch> {
+) -> Result<(), Mismatch>
+    ensures text { OnOk result
+        (encode_utf8_all (layout_of T.kind None 0 (T.tree tree.now)) ≡ wanted.now) }
+    ensures obeys { OnOk result (T.kind.obeys (T.tree tree.now) ≡ is_well_formed) }
+{
     if tree.is_well_formed() != is_well_formed {
         return Err(Mismatch::WellFormed(!is_well_formed));
     }

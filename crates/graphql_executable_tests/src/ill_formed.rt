@@ -1,5 +1,5 @@
 //! Why operations, fragments, selections and variable definitions aren't well formed, and where.
-use crate::samples::{a, field, fragment, only, operation, query, query_of_a, variable};
+use crate::samples::{a, field, fragment, operation, query, query_of_a, variable};
 use graphql_base::name;
 use graphql_base::name::Name;
 use graphql_base::node::Node;
@@ -42,7 +42,7 @@ fn arguments(alloc: Global, value: Value) -> Result<Vec<Node<Argument>>, AllocEr
 fn directives(alloc: Global, value: Value) -> Result<DirectiveList, AllocError> {
     let mut directive = Directive::new(alloc, name!(d));
     directive.arguments = arguments(alloc, value)?;
-    only(alloc, directive)
+    DirectiveList::of(alloc, directive)
 }
 
 // SELECTIONS

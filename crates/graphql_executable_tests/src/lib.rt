@@ -4,6 +4,8 @@
 #[cfg(test)]
 mod checks;
 #[cfg(test)]
+mod checks_refuse;
+#[cfg(test)]
 mod hostile;
 #[cfg(test)]
 mod ill_formed;

@@ -4,7 +4,7 @@ ghost use Rattle.graphql_executable.specs.code.SelectionLoans.{IsSelectionWith};
 ghost use Rattle.graphql_executable.specs.code.SelectionQueries.{selection_directives};
 
 use crate::checks::{check_case, check_equal};
-use crate::samples::{a, field, inline_fragment, only, variable};
+use crate::samples::{a, field, inline_fragment, variable};
 use graphql_base::name;
 use graphql_base::node::Node;
 use graphql_base::span::{FileId, SourceSpan};
@@ -55,7 +55,7 @@ fn set_directives(selection: &mut Selection, directives: DirectiveList) -> Resul
 /// What is written is seen in one of two selections that share a node.
 fn check_written(rt: &impl Abort, alloc: Global, mut selection: Selection, wanted: &str) {
     let other = selection.clone().expect(rt, "memory");
-    let directives = only(alloc, Directive::new(alloc, name!(d))).expect(rt, "memory");
+    let directives = DirectiveList::of(alloc, Directive::new(alloc, name!(d))).expect(rt, "memory");
     set_directives(&mut selection, directives).expect(rt, "memory");
     check_line(alloc, &selection, wanted, true).expect(rt, wanted);
     assert!(rt; !other.directives().has("d"));

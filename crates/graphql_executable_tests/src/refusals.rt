@@ -8,9 +8,9 @@ use graphql_executable::operation_definition::OperationDefinition;
 use graphql_executable::selection::Selection;
 use std::alloc::AllocError;
 
-/// Allocations: 26.
+/// Allocations: 34.
 #[test]
-fn an_operation_is_copied_and_printed_or_refused(rt: HostRuntime) {
+fn definitions_are_copied_and_printed_or_refused(rt: HostRuntime) {
     let operation: Result<OperationDefinition, _> = operation(rt.alloc());
     if let Ok(operation) = operation {
         check_cloned_or_refused(&operation).expect(&rt, "a clone");
@@ -18,11 +18,6 @@ fn an_operation_is_copied_and_printed_or_refused(rt: HostRuntime) {
             "query N($v: Int = 1 @d) { r: s(a: $v) @include(if: true) { ...F ... on T { id } } }";
         check_text_or_refused(rt.alloc(), &operation, wanted).expect(&rt, wanted);
     }
-}
-
-/// Allocations: 8.
-#[test]
-fn a_fragment_is_copied_and_printed_or_refused(rt: HostRuntime) {
     if let Ok(fragment) = fragment(rt.alloc()) {
         check_cloned_or_refused(&fragment).expect(&rt, "a clone");
         let wanted = "\"D\" fragment F on T { a }";

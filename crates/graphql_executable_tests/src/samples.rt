@@ -17,13 +17,6 @@ use graphql_values::ty;
 use graphql_values::value::Value;
 use std::alloc::{AllocError, Global};
 
-/// The one directive of a list.
-pub(crate) fn only(alloc: Global, directive: Directive) -> Result<DirectiveList, AllocError> {
-    let mut list = DirectiveList::new(alloc);
-    list.0.push(Node::new(alloc, directive)?)?;
-    Ok(list)
-}
-
 /// `a`
 pub(crate) fn a(alloc: Global) -> Result<Selection, AllocError> {
     Selection::field(alloc, Field::new(alloc, name!(a)))
@@ -51,7 +44,7 @@ pub(crate) fn field(alloc: Global) -> Result<Field, AllocError> {
     let mut field = Field::new(alloc, name!(s));
     field.alias = Some(name!(r));
     field.arguments = argument(alloc, name!(a), Value::Variable(name!(v)))?;
-    field.directives = only(alloc, include)?;
+    field.directives = DirectiveList::of(alloc, include)?;
     field.selection_set = vec![in alloc;
         Selection::fragment_spread(alloc, FragmentSpread::new(alloc, name!(F)))?,
         Selection::inline_fragment(alloc, inline_fragment(alloc)?)?,
@@ -65,7 +58,7 @@ pub(crate) fn variable(alloc: Global) -> Result<VariableDefinition, AllocError> 
     let ty = Node::new(alloc, ty!(Int))?;
     Ok(VariableDefinition {
         default_value: Some(Node::new(alloc, one)?),
-        directives: only(alloc, Directive::new(alloc, name!(d)))?,
+        directives: DirectiveList::of(alloc, Directive::new(alloc, name!(d)))?,
         ..VariableDefinition::new(alloc, name!(v), ty)
     })
 }

@@ -10,9 +10,8 @@ ghost use Rattle.graphql_values.specs.trees.ValueTrees.{default_value_tree};
 
 use crate::constness::Constness;
 use crate::value::Value;
-use crate::value::print::{
-    ValueEntry, find_ill_formed_value, find_value_nesting, is_value_well_formed, write_value,
-};
+use crate::value::print::{ValueEntry, find_value_nesting, write_value};
+use crate::value::well_formed::{find_ill_formed_value, is_value_well_formed};
 use graphql_base::node::Node;
 use graphql_text::ill_formed::IllFormed;
 use graphql_text::writers::{Place, Stack, Target, write_words};

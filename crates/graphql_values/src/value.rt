@@ -6,6 +6,7 @@ ghost use Rattle.graphql_base.specs.Node.{node_at};
 ghost use Rattle.graphql_values.specs.trees.Literals.{int_number, int_text};
 
 pub(crate) mod print;
+pub(crate) mod well_formed;
 
 use crate::literal::{FloatValue, IntValue};
 use graphql_base::name::Name;

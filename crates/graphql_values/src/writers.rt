@@ -15,4 +15,5 @@ pub use crate::input_value_definition::print::some_want_lines;
 pub use crate::parameters::write_parameters;
 pub use crate::stacks::Stacks;
 pub use crate::types::print::{find_list_depth, write_type};
-pub use crate::value::print::{ValueEntry, is_enum_name};
+pub use crate::value::print::ValueEntry;
+pub use crate::value::well_formed::is_enum_name;

@@ -77,12 +77,12 @@ pub(crate) fn with_argument(
     Ok(directive)
 }
 
-/// `@a(x: true, y: false)`
+/// `@a(x: 1, y: 2)`, whose numbers take no memory.
 pub(crate) fn directive(alloc: Global) -> Result<Directive, AllocError> {
     let bare = Directive::new(alloc, name!(a));
-    let x = Node::new(alloc, Value::from(true))?;
+    let x = Node::new(alloc, Value::from_i32(alloc, 1)?)?;
     let with_x = with_argument(alloc, bare, name!(x), x)?;
-    let y = Node::new(alloc, Value::from(false))?;
+    let y = Node::new(alloc, Value::from_i32(alloc, 2)?)?;
     with_argument(alloc, with_x, name!(y), y)
 }
 

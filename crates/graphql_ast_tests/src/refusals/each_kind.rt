@@ -1,7 +1,6 @@
 //! Calls over a worked tree of each kind: each is whole, or the one that was refused memory.
 use crate::each_kind::{Calls, check_document};
 use crate::kinds;
-use worked_trees::refused::Refused;
 
 /// Allocations: 125.
 #[test]
@@ -35,10 +34,12 @@ fn type_extensions(rt: HostRuntime) {
     assert!(&rt; calls.refused.calls <= 1);
 }
 
-/// Allocations: 382.
+/// Of each variant of a definition, and of a document.
+/// Allocations: 933.
 #[test]
-fn documents(rt: HostRuntime) {
-    let mut refused = Refused::none();
-    check_document(&rt, rt.alloc(), &mut refused);
-    assert!(rt; refused.calls <= 1);
+fn definitions_and_documents(rt: HostRuntime) {
+    let mut calls = Calls::new(&rt, rt.alloc());
+    kinds::definitions(rt.alloc(), &mut calls);
+    check_document(&rt, rt.alloc(), &mut calls.refused);
+    assert!(&rt; calls.refused.calls <= 1);
 }

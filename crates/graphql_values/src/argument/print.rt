@@ -11,9 +11,8 @@ ghost use Rattle.graphql_values.specs.kinds.Values.{value_nesting};
 
 use crate::argument::Argument;
 use crate::constness::Constness;
-use crate::value::print::{
-    ValueEntry, find_ill_formed_value, find_value_nesting, is_value_well_formed, write_value,
-};
+use crate::value::print::{ValueEntry, find_value_nesting, write_value};
+use crate::value::well_formed::{find_ill_formed_value, is_value_well_formed};
 use graphql_base::node::Node;
 use graphql_text::ill_formed::IllFormed;
 use graphql_text::writers::{Place, Stack, Target, write_name_then, write_words};

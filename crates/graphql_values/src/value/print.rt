@@ -9,126 +9,27 @@ ghost use Rattle.graphql_text.specs.kinds.PrintedKinds.{no_types};
 ghost use Rattle.graphql_text.specs.kinds.Printing.{IsDefaultPrint, default_bytes};
 ghost use Rattle.graphql_text.specs.code.Stack.{CanWrite, IsKept, stack_entries, stack_room};
 ghost use Rattle.graphql_text.specs.code.Writing.{IsCommaLead, Writes, WritesAnywhere, WritesToLevel, fixed_text};
-ghost use Rattle.graphql_values.specs.kinds.Values.{boolean_value, is_enum_name, object_fields_flaws, object_fields_nesting, object_fields_obey, value_flaws, value_kind, value_nesting, value_obeys, value_shape, values_flaws, values_nesting, values_obey};
+ghost use Rattle.graphql_values.specs.kinds.Values.{boolean_value, object_fields_nesting, value_kind, value_nesting, value_shape, values_nesting};
 ghost use Rattle.graphql_values.specs.trees.Literals.{float_text, int_text};
-ghost use Rattle.graphql_values.specs.trees.ValueTrees.{constness_of, object_field_trees, value_tree, value_trees};
+ghost use Rattle.graphql_values.specs.trees.ValueTrees.{object_field_trees, value_tree, value_trees};
 ghost use Rattle.graphql_values.specs.code.ValueWalk.{CanGoOn, GoesOn, OpensValue, need_with, opened_level, opening, opening_word, stack_items, stack_need};
 ghost use Rattle.graphql_values.specs.lemmas.Values.{value_laws};
 
 use crate::constness::Constness;
 use crate::literal::{FloatValue, IntValue};
 use crate::value::Value;
+use crate::value::well_formed::{find_ill_formed_value, is_value_well_formed};
 use graphql_base::name::Name;
 use graphql_base::node::Node;
 use graphql_text::engine::{Serialize, Syntax, SyntaxTree};
-use graphql_text::ill_formed::{IllFormed, SideCondition};
+use graphql_text::ill_formed::IllFormed;
 use graphql_text::writers::{
-    Depths, Place, ReadyCommaBreak, Stack, Start, Target, Written, ill_formed_unless,
-    ready_comma_lead, write_comma_end, write_comma_lead, write_float, write_int, write_name,
-    write_name_then, write_padded_float, write_padded_int, write_string_value, write_whole,
-    write_words,
+    Depths, Place, ReadyCommaBreak, Stack, Start, Target, Written, ready_comma_lead,
+    write_comma_end, write_comma_lead, write_float, write_int, write_name, write_name_then,
+    write_padded_float, write_padded_int, write_string_value, write_whole, write_words,
 };
 use std::alloc::{AllocError, Global};
 use std::fmt;
-
-/// Whether a name can be an enum value (`EnumValue`, section 2.9.6): any but `true`, `false` and `null`.
-pub fn is_enum_name(name: &str) -> bool
-    ensures { result ≡ is_enum_name name.now }
-{
-    name != "true" && name != "false" && name != "null"
-}
-
-/// Whether no enum value in the value is `true`, `false` or `null`, and no variable stands in it where the context is
-/// constant.
-#[cycle(value_is_well_formed)]
-pub fn is_value_well_formed(value: &Value, constness: Constness) -> bool
-    ensures { result ≡ value_obeys (constness_of constness) (value_tree value.now) }
-{
-    match value {
-        Value::Enum(name) => is_enum_name(name.as_str()),
-        Value::Variable(_) => constness.admits_variables(),
-        Value::List(items) => are_items_well_formed(items, constness),
-        Value::Object(fields) => are_fields_well_formed(fields, constness),
-        Value::Null | Value::String(_) | Value::Float(_) | Value::Int(_) | Value::Boolean(_) =>
-            true,
-    }
-}
-
-#[cycle(value_is_well_formed)]
-fn are_items_well_formed(items: &[Node<Value>], constness: Constness) -> bool
-    ensures { result ≡ values_obey (constness_of constness) (value_trees items.now) }
-{
-    for item in items {
-        if !is_value_well_formed(item, constness) {
-            return false;
-        }
-    }
-    true
-}
-
-#[cycle(value_is_well_formed)]
-fn are_fields_well_formed(fields: &[(Name, Node<Value>)], constness: Constness) -> bool
-    ensures { result ≡ object_fields_obey (constness_of constness) (object_field_trees fields.now) }
-{
-    for field in fields {
-        if !is_value_well_formed(&field.1, constness) {
-            return false;
-        }
-    }
-    true
-}
-
-/// Where a value isn't well formed: the first enum value in it that is `true`, `false` or `null`, or variable where the
-/// context is constant.
-#[cycle(find_ill_formed_value)]
-pub(crate) fn find_ill_formed_value(value: &Value, constness: Constness) -> Option<IllFormed<'_>>
-    ensures { IsFirstFlaw (value_flaws (constness_of constness) (value_tree value.now)) result }
-{
-    match value {
-        Value::Enum(name) => ill_formed_unless(
-            is_enum_name(name.as_str()),
-            SideCondition::IsNotReserved,
-            Some(name),
-        ),
-        Value::Variable(name) => ill_formed_unless(
-            constness.admits_variables(),
-            SideCondition::IsConstant,
-            Some(name),
-        ),
-        Value::List(items) => find_ill_formed_item(items, constness),
-        Value::Object(fields) => find_ill_formed_field(fields, constness),
-        Value::Null | Value::String(_) | Value::Float(_) | Value::Int(_) | Value::Boolean(_) =>
-            None,
-    }
-}
-
-#[cycle(find_ill_formed_value)]
-fn find_ill_formed_item(items: &[Node<Value>], constness: Constness) -> Option<IllFormed<'_>>
-    ensures { IsFirstFlaw (values_flaws (constness_of constness) (value_trees items.now)) result }
-{
-    for item in items {
-        if let Some(found) = find_ill_formed_value(item, constness) {
-            return Some(found.within(item.location()));
-        }
-    }
-    None
-}
-
-#[cycle(find_ill_formed_value)]
-fn find_ill_formed_field(
-    fields: &[(Name, Node<Value>)],
-    constness: Constness,
-) -> Option<IllFormed<'_>>
-    ensures { IsFirstFlaw
-        (object_fields_flaws (constness_of constness) (object_field_trees fields.now)) result }
-{
-    for field in fields {
-        if let Some(found) = find_ill_formed_value(&field.1, constness) {
-            return Some(found.within(field.1.location()));
-        }
-    }
-    None
-}
 
 /// A list or an object that is open: what is left of it, and whether nothing of it was written yet.
 #[derive(Clone, Copy)]

@@ -48,21 +48,21 @@ impl Write for Told {
     }
 }
 
-/// Prints the list, and answers whether all of it was taken, how many faults there were, the last error, and the writer.
+/// Prints the list, and answers what the print did, how many faults there were, the last error, and the writer.
 fn print_to_writer(
     list: &Value,
     alloc: Global,
     answers: [Answer; 3],
-) -> (bool, u64, Option<ErrorKind>, Told) {
+) -> (Result<(), PrintError>, u64, Option<ErrorKind>, Told) {
     let mut sink = StreamSink::new(Told {
         answers,
         writes: 0,
         bytes: Vec::new(alloc),
     });
-    let is_whole = list.serialize().no_indent().print_to(&mut sink).is_ok();
+    let printed = list.serialize().no_indent().print_to(&mut sink);
     let faults = sink.faults();
     let last = sink.last_error().map(|error| error.kind());
-    (is_whole, faults, last, sink.into_inner())
+    (printed, faults, last, sink.into_inner())
 }
 
 /// Prints the list below its text, and answers whether all of both was taken, and the sink.
@@ -73,31 +73,41 @@ fn print_to_vector(list: &Value, alloc: Global) -> (bool, VecSink) {
     (is_put && is_printed, sink)
 }
 
-/// A print of the list: so many bytes were taken, and if they are not all of it there was one fault.
-fn check_taken(rt: &impl Abort, is_whole: bool, faults: u64, bytes: &[u8], taken: usize) {
-    let wants_whole = taken == TEXT.len();
-    check_equal(
-        rt,
-        (is_whole, faults, bytes.len()),
-        (wants_whole, u64::from(!wants_whole), taken),
-    );
+/// A print of the list: so many bytes were taken, and if they are not all of it there was one fault, which is told.
+fn check_taken(
+    rt: &impl Abort,
+    printed: Result<(), PrintError>,
+    faults: u64,
+    bytes: &[u8],
+    taken: usize,
+) {
+    let wanted = if taken == TEXT.len() {
+        (Ok(()), 0, taken)
+    } else {
+        (Err(PrintError::Sink), 1, taken)
+    };
+    check_equal(rt, (printed, faults, bytes.len()), wanted);
     assert!(rt; TEXT.starts_with(bytes));
 }
 
-/// Prints the list into so much room, and answers whether all of it was taken, and the sink.
-fn print_to_narrow(list: &Value, alloc: Global, room: usize) -> (bool, Narrow) {
+/// Prints the list into so much room, and answers what the print did, and the sink.
+fn print_to_narrow(list: &Value, alloc: Global, room: usize) -> (Result<(), PrintError>, Narrow) {
     let mut sink = Narrow::with_room(alloc, room);
-    let is_whole = list.serialize().no_indent().print_to(&mut sink).is_ok();
-    (is_whole, sink)
+    let printed = list.serialize().no_indent().print_to(&mut sink);
+    (printed, sink)
 }
 
-/// Prints the list, and answers whether all of it was taken, how many faults there were, and what was taken.
-fn print_to_memory(list: &Value, alloc: Global) -> (bool, u64, Vec<u8>) {
+/// Prints the list, and answers what the print did, how many faults there were, and what was taken.
+fn print_to_memory(list: &Value, alloc: Global) -> (Result<(), PrintError>, u64, Vec<u8>) {
     let mut sink = StreamSink::new(Vec::new(alloc));
-    let is_whole = list.serialize().no_indent().print_to(&mut sink).is_ok();
-    let is_empty_taken = sink.put(&[]) == Ok(0);
+    let printed = list.serialize().no_indent().print_to(&mut sink);
+    let after = if sink.put(&[]) == Ok(0) {
+        printed
+    } else {
+        Err(PrintError::Sink)
+    };
     let faults = sink.faults();
-    (is_whole && is_empty_taken, faults, sink.into_inner())
+    (after, faults, sink.into_inner())
 }
 
 /// A sink that takes one byte a call has room for so many: at the first that it has no room for all ends, with one fault,
@@ -106,9 +116,9 @@ fn print_to_memory(list: &Value, alloc: Global) -> (bool, u64, Vec<u8>) {
 fn prints_are_whole_or_end_at_a_fault(rt: HostRuntime) {
     let list = items(rt.alloc()).expect(&rt, "memory");
     for room in 0..=25 {
-        let (is_whole, sink) = print_to_narrow(&list, rt.alloc(), room);
+        let (printed, sink) = print_to_narrow(&list, rt.alloc(), room);
         let taken = room.min(TEXT.len());
-        check_taken(&rt, is_whole, sink.faults, sink.bytes.as_slice(), taken);
+        check_taken(&rt, printed, sink.faults, sink.bytes.as_slice(), taken);
     }
     let mut sink = StreamSink::new(Cursor::new([0; 3]));
     let deepest = Value::Null.serialize().initial_indent_level(usize::MAX);
@@ -127,8 +137,8 @@ fn prints_are_whole_or_end_at_a_fault(rt: HostRuntime) {
     assert!(rt; is_whole);
     check_equal(&rt, (sink.bytes(), sink.faults()), (twice, 0));
     check_equal(&rt, sink.into_bytes().len(), 48);
-    let (is_whole, faults, bytes) = print_to_memory(&list, rt.alloc());
-    check_taken(&rt, is_whole, faults, bytes.as_slice(), TEXT.len());
+    let (printed, faults, bytes) = print_to_memory(&list, rt.alloc());
+    check_taken(&rt, printed, faults, bytes.as_slice(), TEXT.len());
 }
 
 const FAILS: Answer = Answer::Fails(ErrorKind::Interrupted);
@@ -166,9 +176,9 @@ const ERRORS: [ErrorKind; 3] = [
 fn awkward_writers(rt: HostRuntime) {
     let list = items(rt.alloc()).expect(&rt, "memory");
     for (answers, writes, taken, error) in AWKWARD {
-        let (is_whole, faults, last, writer) = print_to_writer(&list, rt.alloc(), answers);
+        let (printed, faults, last, writer) = print_to_writer(&list, rt.alloc(), answers);
         check_equal(&rt, &writer.writes, &writes);
-        check_taken(&rt, is_whole, faults, writer.bytes.as_slice(), taken);
+        check_taken(&rt, printed, faults, writer.bytes.as_slice(), taken);
         check_equal(&rt, &last, &error);
     }
     let mut sink = StreamSink::new(Told {

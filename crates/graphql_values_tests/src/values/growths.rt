@@ -36,7 +36,7 @@ fn check_print<T: Syntax + Drop>(
     }
 }
 
-/// `@a(x: true, y: false)` twice, which share both arguments.
+/// `@a(x: 1, y: 2)` twice, which share both arguments.
 fn all_shared(alloc: Global) -> Result<(Directive, Directive), AllocError> {
     let directive = directive(alloc)?;
     let copy = directive.clone()?;
@@ -80,7 +80,7 @@ fn check_loans(
 fn check_all(rt: &impl Abort, calls: Calls, alloc: Global) {
     let wanted = "[1, EXAMPLE, true, null]";
     check_print(rt, calls, items(alloc), wanted, "a list takes 1");
-    let wanted = "@a(x: true, y: false)";
+    let wanted = "@a(x: 1, y: 2)";
     let made = directive(alloc);
     check_print(rt, calls, made, wanted, "a directive takes 1");
     let wanted = "a: [[I!]] = [[], 1.5]";

@@ -21,7 +21,7 @@ fn of_each_kind(rt: HostRuntime) {
         check_print(alloc, print, wanted).expect(&rt, wanted);
     }
     let one = directive(alloc).expect(&rt, "memory");
-    check_print(alloc, one.serialize(), "@a(x: true, y: false)").expect(&rt, "a directive");
+    check_print(alloc, one.serialize(), "@a(x: 1, y: 2)").expect(&rt, "a directive");
     let two = directives(alloc).expect(&rt, "memory");
     check_print(alloc, two.serialize(), " @a @b").expect(&rt, "directives");
     let input = input(alloc).expect(&rt, "memory");

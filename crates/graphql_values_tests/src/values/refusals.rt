@@ -32,7 +32,7 @@ fn a_value_is_lent_or_the_directive_stays(rt: HostRuntime) {
     assert!(rt; shared == before && original == before);
     let error = match shared.specified_argument_by_name_mut("y") {
         Ok(value) => {
-            assert!(rt; value.to_bool() == Some(false));
+            assert!(rt; value.to_i32() == Some(2));
             None
         }
         Err(error) => Some(error),

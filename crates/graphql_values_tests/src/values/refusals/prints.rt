@@ -35,7 +35,7 @@ fn trees_are_copied_printed_and_displayed_or_refused(rt: HostRuntime) {
     if let Ok(value) = items(alloc) {
         check_print_or_refused(&rt, &value, "[1, EXAMPLE, true, null]");
     }
-    let one = "@a(x: true, y: false)";
+    let one = "@a(x: 1, y: 2)";
     check_calls(&rt, alloc, directive(alloc), one, one);
     let two = " @a @b";
     check_calls(&rt, alloc, directives(alloc), two, two);

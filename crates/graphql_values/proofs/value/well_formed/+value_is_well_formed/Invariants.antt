@@ -1,7 +1,7 @@
 use Rattle.std.proofs.Common.{◌≡◌, drop}
 use Rattle.graphql_values.specs.kinds.Values.{values_obey, object_fields_obey}
 use Rattle.graphql_values.specs.trees.ValueTrees.{constness_of, value_trees, object_field_trees}
-use Rattle.graphql_values.proofs.value.print.+value_is_well_formed.Given as goal
+use Rattle.graphql_values.proofs.value.well_formed.+value_is_well_formed.Given as goal
 
 abbrev pub invariant-are_items_well_formed-loop-item : goal.invariant-are_items_well_formed-loop-item
 invariant-are_items_well_formed-loop-item l =

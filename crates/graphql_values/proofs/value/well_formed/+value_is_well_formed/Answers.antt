@@ -2,7 +2,7 @@ use Rattle.std.proofs.Common.{◌∙◌, ap, sym}
 use Rattle.graphql_values.specs.kinds.Values.{value_obeys, values_obey, object_fields_obey}
 use Rattle.graphql_values.specs.trees.ValueTrees.{constness_of, value_tree, value_trees, object_field_trees}
 use Rattle.graphql_values.proofs.trees.ListAndObjectTrees.{list_tree, object_tree}
-use Rattle.graphql_values.proofs.value.print.+value_is_well_formed.Goals as goal
+use Rattle.graphql_values.proofs.value.well_formed.+value_is_well_formed.Goals as goal
 
 pub is_value_well_formed-returns-in-List : goal.is_value_well_formed-returns-in-List
 is_value_well_formed-returns-in-List t c =

@@ -4,7 +4,7 @@ use Rattle.graphql_text.proofs.kinds.FlawsTold.{found_behind_part, found_in_part
 use Rattle.graphql_values.specs.kinds.Values.{value_flaws, values_flaws, object_fields_flaws}
 use Rattle.graphql_values.specs.trees.ValueTrees.{constness_of, value_tree, value_trees, object_field_trees}
 use Rattle.graphql_values.proofs.trees.ListAndObjectTrees.{list_tree, object_tree}
-use Rattle.graphql_values.proofs.value.print.+find_ill_formed_value.Goals as goal
+use Rattle.graphql_values.proofs.value.well_formed.+find_ill_formed_value.Goals as goal
 
 pub find_ill_formed_value-returns-in-List : goal.find_ill_formed_value-returns-in-List
 find_ill_formed_value-returns-in-List t c =

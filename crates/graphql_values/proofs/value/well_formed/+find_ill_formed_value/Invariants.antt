@@ -2,7 +2,7 @@ use Rattle.std.proofs.Common.{◌≡◌, drop}
 use Rattle.graphql_text.specs.kinds.Flaws.{first_flaw}
 use Rattle.graphql_values.specs.kinds.Values.{values_flaws, object_fields_flaws}
 use Rattle.graphql_values.specs.trees.ValueTrees.{constness_of, value_trees, object_field_trees}
-use Rattle.graphql_values.proofs.value.print.+find_ill_formed_value.Given as goal
+use Rattle.graphql_values.proofs.value.well_formed.+find_ill_formed_value.Given as goal
 
 abbrev pub invariant-find_ill_formed_item-loop-item : goal.invariant-find_ill_formed_item-loop-item
 invariant-find_ill_formed_item-loop-item l =

@@ -63,20 +63,29 @@ fn untested(rt: &impl Abort, alloc: Global) -> [(Name, &'static str, bool); 6] {
     ]
 }
 
+fn check_valid(rt: &impl Abort, alloc: Global, text: &'static str) {
+    check_case(rt, text, Name::is_valid_syntax(text), true);
+    check_made_new(rt, Name::new(alloc, text), text, false);
+    check_made_new(rt, Name::new_static(alloc, text), text, true);
+    check_made_new(rt, new_shared(alloc, text), text, false);
+}
+
+fn check_long(rt: &impl Abort, alloc: Global) {
+    let long = letters(alloc, 10_000).expect(rt, "memory");
+    let text = long.as_str();
+    check_equal(rt, Name::is_valid_syntax(text), true);
+    check_made_new(rt, Name::new(alloc, text), text, false);
+}
+
 /// Long ones too, and those that are made without a test.
 #[test]
 fn valid_texts_are_names(rt: HostRuntime) {
+    let alloc = rt.alloc();
     for text in VALID {
-        assert!(rt; Name::is_valid_syntax(text), "{text}");
-        check_made_new(&rt, Name::new(rt.alloc(), text), text, false);
-        check_made_new(&rt, Name::new_static(rt.alloc(), text), text, true);
-        check_made_new(&rt, new_shared(rt.alloc(), text), text, false);
+        check_valid(&rt, alloc, text);
     }
-    let long = letters(rt.alloc(), 10_000).expect(&rt, "memory");
-    let text = long.as_str();
-    assert!(rt; Name::is_valid_syntax(text));
-    check_made_new(&rt, Name::new(rt.alloc(), text), text, false);
-    for (name, text, is_static) in untested(&rt, rt.alloc()) {
+    check_long(&rt, alloc);
+    for (name, text, is_static) in untested(&rt, alloc) {
         check_new(&rt, &name, text, is_static);
     }
 }
@@ -134,22 +143,33 @@ fn check_inner(rt: &impl Abort, alloc: Global, inner: &InvalidNameError, text: &
     check_equal(rt, &copy, inner);
 }
 
+fn check_told(rt: &impl Abort, alloc: Global, error: &NameError, text: &str, is_memory: bool) {
+    check_made(rt, format!(in alloc; "{error}"), text);
+    check_case(rt, error, error.is_memory(), is_memory);
+    if let NameError::Invalid(inner) = error {
+        check_inner(rt, alloc, inner, text);
+    }
+}
+
+fn check_compared(rt: &impl Abort, error: &NameError, other: &NameError, is_same: bool) {
+    let copy = error.clone().expect(rt, "memory");
+    check_case(
+        rt,
+        error,
+        (copy == *other, *error == *other),
+        (is_same, is_same),
+    );
+}
+
 /// Equal to a clone, and to none of the others.
 #[test]
 fn errors_have_their_texts_and_compare(rt: HostRuntime) {
     let alloc = rt.alloc();
     let errors = errors(alloc).expect(&rt, "memory");
     for (place, (error, text, is_memory)) in errors.iter().enumerate() {
-        check_made(&rt, format!(in alloc; "{error}"), text);
-        check_case(&rt, &error, &error.is_memory(), is_memory);
-        if let NameError::Invalid(inner) = error {
-            check_inner(&rt, alloc, inner, text);
-        }
-        let copy = error.clone().expect(&rt, "memory");
+        check_told(&rt, alloc, error, text, *is_memory);
         for (other_place, (other, _, _)) in errors.iter().enumerate() {
-            let is_same = place == other_place;
-            assert!(rt; (copy == *other) == is_same, "{error}, {other}");
-            assert!(rt; (*error == *other) == is_same, "{error}, {other}");
+            check_compared(&rt, error, other, place == other_place);
         }
     }
 }
@@ -162,21 +182,50 @@ enum Kept {
     InPlace,
 }
 
+/// The text, if it is so.
+fn text_if(is_so: bool, text: &str) -> Option<&str> {
+    is_so.then_some(text)
+}
+
+/// The text of a name that stands in place.
+fn text_in_place(name: &Name) -> Option<&str> {
+    name.short_text().map(|short| short.as_str())
+}
+
 fn check_kept(rt: &impl Abort, name: &Name, text: &str, kept: Kept, location: Option<SourceSpan>) {
     check_equal(rt, (name.as_str(), name.len()), (text, text.len()));
     check_equal(rt, name.location(), location);
-    let static_text = name.as_static_str();
-    assert!(rt; static_text.is_none_or(|found| found == text), "{kept:?}");
-    check_equal(rt, static_text.is_some(), kept == Kept::Static);
-    let short = name.short_text().map(|short| short.as_str());
-    assert_eq!(rt; short, (kept == Kept::InPlace).then_some(text), "{kept:?}");
+    check_equal(
+        rt,
+        name.as_static_str(),
+        text_if(kept == Kept::Static, text),
+    );
+    check_equal(
+        rt,
+        text_in_place(name),
+        text_if(kept == Kept::InPlace, text),
+    );
     match name.short_text_or_str() {
         Ok(short) => check_equal(rt, (short.as_str(), kept), (text, Kept::InPlace)),
         Err(other) => check_equal(rt, (other, kept == Kept::InPlace), (text, false)),
     }
 }
 
-/// A name, and a clone, which keeps the text in the same way, at the same location. The text can be taken from both.
+/// A clone keeps the text in the same way, at the same location.
+fn check_clone(rt: &impl Abort, name: &Name, text: &str, kept: Kept, location: Option<SourceSpan>) {
+    let copy = name.clone().expect(rt, "memory");
+    check_kept(rt, &copy, text, kept, location);
+    check_equal(rt, &copy, name);
+}
+
+/// The shared text of a name, unless that is static.
+fn check_arc(rt: &impl Abort, name: &Name, text: &str, kept: Kept) {
+    let taken = name.to_cloned_arc().expect(rt, "memory");
+    let taken_text = taken.as_ref().map(|taken| taken.as_str());
+    check_equal(rt, taken_text, text_if(kept != Kept::Static, text));
+}
+
+/// A name, and a clone. The text can be taken from both.
 fn check_taken(
     rt: &impl Abort,
     alloc: Global,
@@ -186,28 +235,27 @@ fn check_taken(
     location: Option<SourceSpan>,
 ) {
     check_kept(rt, &name, text, kept, location);
-    let copy = name.clone().expect(rt, "memory");
-    check_kept(rt, &copy, text, kept, location);
-    check_equal(rt, copy.as_ref(), &name);
-    let taken = name.to_cloned_arc().expect(rt, "memory");
-    let taken_text = taken.as_ref().map(|taken| taken.as_str());
-    let wanted = (kept != Kept::Static).then_some(text);
-    assert_eq!(rt; taken_text, wanted, "{kept:?}");
+    check_clone(rt, &name, text, kept, location);
+    check_arc(rt, &name, text, kept);
     let shared = name.into_shared(alloc).expect(rt, "memory");
     check_text(rt, shared.as_str(), text);
 }
 
-/// A name without a location and with one, near the front and so that it ends at the last offset that there is. The location
-/// is no part of the name.
+/// The name with a location, which is no part of it.
+fn check_placed(rt: &impl Abort, alloc: Global, name: &Name, text: &str, kept: Kept, start: u32) {
+    let count = u32::try_from(name.len()).expect(rt, "few bytes");
+    let end = start.checked_add(count).expect(rt, "an offset");
+    let span = SourceSpan::new(FileId::new(5), start, end).expect(rt, "in order");
+    let placed = name.clone().expect(rt, "memory").with_location(span);
+    check_equal(rt, &placed, name);
+    check_taken(rt, alloc, placed, text, kept, Some(span));
+}
+
+/// A name without a location and with one, near the front and so that it ends at the last offset that there is.
 fn check_name(rt: &impl Abort, alloc: Global, name: Name, text: &str, kept: Kept) {
     let count = u32::try_from(name.len()).expect(rt, "few bytes");
-    for (start, end) in [(10, count.saturating_add(10)), (u32::MAX - count, u32::MAX)] {
-        let span = SourceSpan::new(FileId::new(5), start, end).expect(rt, "in order");
-        assert_eq!(rt; span.len() as usize, name.len());
-        let placed = name.clone().expect(rt, "memory").with_location(span);
-        check_equal(rt, &placed, &name);
-        check_taken(rt, alloc, placed, text, kept, Some(span));
-    }
+    check_placed(rt, alloc, &name, text, kept, 10);
+    check_placed(rt, alloc, &name, text, kept, u32::MAX - count);
     check_taken(rt, alloc, name, text, kept, None);
 }
 
@@ -229,6 +277,17 @@ const LENGTHS: [(usize, Kept); 5] = [
     (1_000_000, Kept::Shared),
 ];
 
+/// A compact name of so many letters, tested and not.
+fn check_letters(rt: &impl Abort, alloc: Global, count: usize, kept: Kept) {
+    let long = letters(alloc, count).expect(rt, "memory");
+    let text = long.as_str();
+    let name = Name::compact(alloc, text).expect(rt, "a name");
+    check_name(rt, alloc, name, text, kept);
+    assert!(rt; Name::is_valid_syntax(text));
+    let name = Name::compact_unchecked(alloc, text).expect(rt, "memory");
+    check_name(rt, alloc, name, text, kept);
+}
+
 #[test]
 fn names_keep_their_texts_and_locations(rt: HostRuntime) {
     let alloc = rt.alloc();
@@ -237,13 +296,7 @@ fn names_keep_their_texts_and_locations(rt: HostRuntime) {
         check_name(&rt, alloc, name, "abc", kept);
     }
     for (count, kept) in LENGTHS {
-        let long = letters(alloc, count).expect(&rt, "memory");
-        let text = long.as_str();
-        let name = Name::compact(alloc, text).expect(&rt, "a name");
-        check_name(&rt, alloc, name, text, kept);
-        assert!(rt; Name::is_valid_syntax(text));
-        let name = Name::compact_unchecked(alloc, text).expect(&rt, "memory");
-        check_name(&rt, alloc, name, text, kept);
+        check_letters(&rt, alloc, count, kept);
     }
 }
 
@@ -259,33 +312,54 @@ const IN_ORDER: [&str; 8] = [
     "abc",
 ];
 
+/// Names of this text in each form, each with the place of the text.
+fn push_each_form(
+    rt: &impl Abort,
+    alloc: Global,
+    names: &mut Vec<(usize, Name)>,
+    place: usize,
+    text: &'static str,
+) {
+    for (name, _) in names_of_each_form(alloc, text).expect(rt, "memory") {
+        names.push((place, name)).expect(rt, "memory");
+    }
+}
+
 /// Names of these texts in each form, and the places of the texts.
 fn names_in_order(rt: &impl Abort, alloc: Global) -> Vec<(usize, Name)> {
     let mut names = Vec::new(alloc);
     for (place, text) in IN_ORDER.iter().enumerate() {
-        let [(shared, _), (in_place, _), (fixed, _)] = names_of_each_form(alloc, text).expect(
-            rt, "memory",
-        );
-        names.push((place, shared)).expect(rt, "memory");
-        names.push((place, in_place)).expect(rt, "memory");
-        names.push((place, fixed)).expect(rt, "memory");
+        push_each_form(rt, alloc, &mut names, place, text);
     }
     names
+}
+
+/// Whether one name is found where another one is a key.
+fn is_found(rt: &impl Abort, alloc: Global, name: &Name, key: &Name) -> bool {
+    let mut names = HashSet::new(alloc);
+    let key = key.clone().expect(rt, "memory");
+    names.insert(key).expect(rt, "memory");
+    names.contains(name)
 }
 
 /// Names of one text are equal, each is found by the other as a key, and they print alike.
 fn check_order(rt: &impl Abort, alloc: Global, name: &Name, other: &Name, order: Ordering) {
     let is_same = order == Ordering::Equal;
-    assert_eq!(rt; name.cmp(other), order, "{name} and {other}");
-    check_equal(rt, name.partial_cmp(other), Some(order));
-    assert_eq!(rt; name == other, is_same, "{name} and {other}");
-    let mut names = HashSet::new(alloc);
-    names
-        .insert(name.clone().expect(rt, "memory"))
-        .expect(rt, "memory");
-    assert_eq!(rt; names.contains(other), is_same, "{name} and {other}");
+    check_case(rt, name, name.cmp(other), order);
+    check_case(rt, name, name.partial_cmp(other), Some(order));
+    check_case(rt, name, name == other, is_same);
+    check_case(rt, name, is_found(rt, alloc, other, name), is_same);
     let printed = format!(in alloc; "{name}").expect(rt, "memory");
-    check_equal(rt, printed.as_str() == other.as_str(), is_same);
+    check_case(rt, name, printed.as_str() == other.as_str(), is_same);
+}
+
+fn check_printed(rt: &impl Abort, alloc: Global) {
+    let name = name!(abc);
+    check_made(rt, format!(in alloc; "{name}"), "abc");
+    check_made(rt, format!(in alloc; "[{name:>5}]"), "[  abc]");
+    check_made(rt, format!(in alloc; "[{name:-<5}]"), "[abc--]");
+    check_made(rt, format!(in alloc; "[{name:^5}]"), "[ abc ]");
+    check_made(rt, format!(in alloc; "[{name:.2}]"), "[ab]");
 }
 
 #[test]
@@ -297,10 +371,5 @@ fn names_compare_and_print_by_their_texts(rt: HostRuntime) {
             check_order(&rt, alloc, name, other, place.cmp(other_place));
         }
     }
-    let name = name!(abc);
-    check_made(&rt, format!(in alloc; "{name}"), "abc");
-    check_made(&rt, format!(in alloc; "[{name:>5}]"), "[  abc]");
-    check_made(&rt, format!(in alloc; "[{name:-<5}]"), "[abc--]");
-    check_made(&rt, format!(in alloc; "[{name:^5}]"), "[ abc ]");
-    check_made(&rt, format!(in alloc; "[{name:.2}]"), "[ab]");
+    check_printed(&rt, alloc);
 }

@@ -193,26 +193,29 @@ fn made(alloc: Global, text: &'static str, by: By) -> Result<Name, NameError> {
 fn check_kept(rt: &impl Abort, name: &Name, text: &str, kept: Kept, is_placed: bool) {
     let location = SourceSpan::new(FileId::new(5), 10, 13).filter(|_| is_placed);
     check_equal(rt, (name.as_str(), name.location()), (text, location));
-    let static_text = name.as_static_str();
-    assert!(rt; static_text.is_none_or(|found| found == text), "{kept:?}");
-    assert_eq!(rt; static_text.is_some(), kept == Kept::Static, "{kept:?}");
+    let static_text = (kept == Kept::Static).then_some(text);
+    check_equal(rt, name.as_static_str(), static_text);
+}
+
+/// A shared copy of the text, which takes memory only where the text stands in place.
+fn check_arc(rt: &impl Abort, name: &Name, text: &str, kept: Kept) {
+    match name.to_cloned_arc() {
+        Ok(shared) => {
+            let shared_text = shared.as_ref().map(|shared| shared.as_str());
+            check_equal(rt, shared_text, (kept != Kept::Static).then_some(text));
+        }
+        Err(AllocError) => check_case(rt, "takes no memory", kept, Kept::InPlace),
+    }
 }
 
 /// A shared copy of the text, and then the text itself, shared. What is shared takes no memory, nor does it to find that
 /// nothing is.
 fn check_shared(rt: &impl Abort, alloc: Global, name: Name, text: &str, kept: Kept) {
-    match name.to_cloned_arc() {
-        Ok(shared) => {
-            let shared_text = shared.as_ref().map(|shared| shared.as_str());
-            let wanted = (kept != Kept::Static).then_some(text);
-            assert_eq!(rt; shared_text, wanted, "{kept:?}");
-        }
-        Err(AllocError) => check_case(rt, "takes no memory", kept, Kept::InPlace),
-    }
+    check_arc(rt, &name, text, kept);
     check_equal(rt, name.as_str(), text);
     match name.into_shared(alloc) {
         Ok(shared) => check_text(rt, shared.as_str(), text),
-        Err(AllocError) => assert_ne!(rt; kept, Kept::Shared, "takes no memory"),
+        Err(AllocError) => check_case(rt, "takes no memory", kept == Kept::Shared, false),
     }
 }
 

@@ -13,20 +13,27 @@ use graphql_text::writers::{
 use std::alloc::Global;
 use std::process::Abort;
 
+/// A list of two numbers.
+fn write_numbers(out: &mut Page, place: &Place<'_>)
+    requires { place.now.level < 100 }
+{
+    let inner = place.inner();
+    write_words(out, "[");
+    write_comma_lead(out, &inner, ready_comma_lead(&inner), true);
+    write_int(out, "1");
+    write_comma_lead(out, &inner, ready_comma_lead(&inner), false);
+    write_float(out, "1.5");
+    write_last_comma(out, &inner);
+    write_tight(out, &inner.outer());
+    write_words(out, "]");
+}
+
 fn page_at(alloc: Global, place: Place<'_>) -> Page
     requires { place.level < 100 }
 {
     let mut out = blank_page(alloc);
-    let inner = place.inner();
     write_first_indent(&mut out, &place);
-    write_words(&mut out, "[");
-    write_comma_lead(&mut out, &inner, ready_comma_lead(&inner), true);
-    write_int(&mut out, "1");
-    write_comma_lead(&mut out, &inner, ready_comma_lead(&inner), false);
-    write_float(&mut out, "1.5");
-    write_last_comma(&mut out, &inner);
-    write_tight(&mut out, &inner.outer());
-    write_words(&mut out, "]");
+    write_numbers(&mut out, &place);
     write_soft(&mut out, &place);
     write_name(&mut out, &name!(a));
     write_soft(&mut out, &place.flat());

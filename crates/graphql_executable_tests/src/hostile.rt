@@ -3,7 +3,7 @@ use crate::checks::{check_case, check_equal};
 use crate::samples::{fields, nested, operation, query};
 use graphql_checks::sinks::Narrow;
 use graphql_executable::operation_definition::OperationDefinition;
-use graphql_text::engine::PrintError;
+use graphql_text::engine::{PrintError, Serialize};
 use std::alloc::Global;
 use std::process::Abort;
 
@@ -26,36 +26,51 @@ fn check_room(rt: &impl Abort, alloc: Global, operation: &OperationDefinition, r
     check_equal(rt, sink.bytes.len(), if fits { LINES.len() } else { room });
 }
 
-/// 1,000 sets: on one line 5,999 bytes; the level may be as great as leaves room for them. 10,000 fields. And sinks that fault
-/// after each byte.
+/// A print of so many bytes, which begins and ends so.
+fn check_text_of(
+    rt: &impl Abort,
+    alloc: Global,
+    print: Serialize<'_, OperationDefinition>,
+    length: usize,
+    start: &str,
+    end: &str,
+) {
+    let text = print.to_text(alloc).expect(rt, "memory");
+    check_case(rt, start, text.len(), length);
+    let found = (text.starts_with(start), text.ends_with(end));
+    check_case(rt, start, found, (true, true));
+}
+
+/// 1,000 sets: on one line 5,999 bytes; the level may be as great as leaves room for them.
+fn check_deep(rt: &impl Abort, alloc: Global) {
+    let deep = query(alloc, nested(alloc, 1000).expect(rt, "memory"));
+    check_equal(rt, deep.is_well_formed(), true);
+    let line = deep.serialize().no_indent();
+    let greatest = line.initial_indent_level(usize::MAX - 1000);
+    check_text_of(rt, alloc, line, 5999, "{ a { a { a", "} } }");
+    check_text_of(rt, alloc, greatest, 5999, "{ a { a { a", "} } }");
+    let lines = deep.serialize().indent_prefix("");
+    check_text_of(rt, alloc, lines, 5999, "{\na {\na {\n", "}\n}\n}");
+    let above = line.initial_indent_level(usize::MAX - 999).to_text(alloc);
+    check_equal(rt, above.err(), Some(PrintError::LevelOverflow));
+}
+
+fn check_wide(rt: &impl Abort, alloc: Global) {
+    let wide = query(alloc, fields(alloc, 10000).expect(rt, "memory"));
+    let line = wide.serialize().no_indent();
+    check_text_of(rt, alloc, line, 20003, "{ a a ", " a }");
+    let mut sink = Narrow::with_room(alloc, 1);
+    let result = wide.serialize().print_to(&mut sink);
+    check_equal(rt, result, Err(PrintError::Sink));
+    check_equal(rt, (sink.bytes.as_slice(), sink.faults), (&b"{"[..], 1));
+}
+
+/// 1,000 sets, 10,000 fields, and sinks that fault after each byte.
 #[test]
 fn nested_sets_and_narrow_sinks(rt: HostRuntime) {
     let alloc = rt.alloc();
-    let deep = query(alloc, nested(alloc, 1000).expect(&rt, "memory"));
-    assert!(&rt; deep.is_well_formed());
-    let wide = query(alloc, fields(alloc, 10000).expect(&rt, "memory"));
-    let line = deep.serialize().no_indent();
-    let greatest = line.initial_indent_level(usize::MAX - 1000);
-    let lines = deep.serialize().indent_prefix("");
-    for (print, length, start, end) in [
-        (line, 5999, "{ a { a { a", "} } }"),
-        (greatest, 5999, "{ a { a { a", "} } }"),
-        (lines, 5999, "{\na {\na {\n", "}\n}\n}"),
-        (wide.serialize().no_indent(), 20003, "{ a a ", " a }"),
-    ] {
-        let text = print.to_text(alloc).expect(&rt, "memory");
-        assert_eq!(&rt; text.len(), length, "{start}");
-        assert!(&rt; text.starts_with(start) && text.ends_with(end), "{start}");
-    }
-    let above = line.initial_indent_level(usize::MAX - 999).to_text(alloc);
-    assert!(&rt; above.is_err_and(|error| error == PrintError::LevelOverflow));
-    let mut sink = Narrow::with_room(alloc, 1);
-    check_equal(
-        &rt,
-        wide.serialize().print_to(&mut sink),
-        Err(PrintError::Sink),
-    );
-    check_equal(&rt, (sink.bytes.as_slice(), sink.faults), (&b"{"[..], 1));
+    check_deep(&rt, alloc);
+    check_wide(&rt, alloc);
     let operation = operation(alloc).expect(&rt, "memory");
     for room in 0..=LINES.len() {
         check_room(&rt, alloc, &operation, room);

@@ -53,7 +53,13 @@ fn set_directives(selection: &mut Selection, directives: DirectiveList) -> Resul
 }
 
 /// What is written is seen in one of two selections that share a node.
-fn check_written(rt: &impl Abort, alloc: Global, mut selection: Selection, wanted: &str) {
+fn check_written(
+    rt: &impl Abort,
+    alloc: Global,
+    made: Result<Selection, AllocError>,
+    wanted: &str,
+) {
+    let mut selection = made.expect(rt, "memory");
     let other = selection.clone().expect(rt, "memory");
     let directives = DirectiveList::of(alloc, Directive::new(alloc, name!(d))).expect(rt, "memory");
     set_directives(&mut selection, directives).expect(rt, "memory");
@@ -85,43 +91,64 @@ fn form(selection: &Selection) -> [bool; 3] {
     ]
 }
 
+/// A selection with nothing in it but what its text tells.
+fn check_form(
+    rt: &impl Abort,
+    alloc: Global,
+    made: Result<Selection, AllocError>,
+    wanted: &str,
+    wanted_form: [bool; 3],
+    count: Option<usize>,
+) {
+    let selection = made.expect(rt, "memory");
+    check_line(alloc, &selection, wanted, true).expect(rt, wanted);
+    check_cloned(&selection).expect(rt, wanted);
+    check_case(rt, wanted, form(&selection), wanted_form);
+    check_case(rt, wanted, selection.location(), None);
+    check_contents(rt, selection, None, count);
+}
+
+/// `...F`, at a location.
+fn placed_spread(alloc: Global, location: Option<SourceSpan>) -> Result<Selection, AllocError> {
+    let spread = Node::new_at(alloc, FragmentSpread::new(alloc, name!(F)), location)?;
+    Ok(Selection::FragmentSpread(spread))
+}
+
+fn check_placed(rt: &impl Abort, alloc: Global) {
+    let location = SourceSpan::new(FileId::new(5), 10, 13);
+    let placed = placed_spread(alloc, location).expect(rt, "memory");
+    check_equal(rt, placed.location(), location);
+    check_equal(rt, location.is_some(), true);
+    check_equal(rt, form(&placed), [false, true, false]);
+}
+
 /// Which of the three a selection is, what stands in it, where it stands, and directives that are written.
 #[test]
 fn of_selections(rt: HostRuntime) {
     let alloc = rt.alloc();
+    let (is_field, is_spread, is_inline) = (
+        [true, false, false],
+        [false, true, false],
+        [false, false, true],
+    );
     let inline_text = "... on T { id }";
-    for (made, wanted, wanted_form, count) in [
-        (a(alloc), "a", [true, false, false], Some(0)),
-        (spread(alloc), "...F", [false, true, false], None),
-        (inline(alloc), inline_text, [false, false, true], Some(1)),
-        (
-            inline_node(alloc),
-            inline_text,
-            [false, false, true],
-            Some(1),
-        ),
-    ] {
-        let selection = made.expect(&rt, "memory");
-        check_line(alloc, &selection, wanted, true).expect(&rt, wanted);
-        check_cloned(&selection).expect(&rt, wanted);
-        assert!(&rt; form(&selection) == wanted_form, "{wanted}");
-        assert!(&rt; selection.location().is_none(), "{wanted}");
-        check_contents(&rt, selection, None, count);
-    }
+    check_form(&rt, alloc, a(alloc), "a", is_field, Some(0));
+    check_form(&rt, alloc, spread(alloc), "...F", is_spread, None);
+    check_form(&rt, alloc, inline(alloc), inline_text, is_inline, Some(1));
+    check_form(
+        &rt,
+        alloc,
+        inline_node(alloc),
+        inline_text,
+        is_inline,
+        Some(1),
+    );
     let full = Selection::field(alloc, field(alloc).expect(&rt, "memory"));
     check_contents(&rt, full.expect(&rt, "memory"), Some("include"), Some(2));
-    let span = SourceSpan::new(FileId::new(5), 10, 13).expect(&rt, "a span");
-    let node = Node::new_parsed(alloc, FragmentSpread::new(alloc, name!(F)), span);
-    let placed = Selection::FragmentSpread(node.expect(&rt, "memory"));
-    assert!(&rt; placed.location() == Some(span));
-    assert!(&rt; form(&placed) == [false, true, false]);
-    for (made, wanted) in [
-        (a(alloc), "a @d"),
-        (spread(alloc), "...F @d"),
-        (inline(alloc), "... on T @d { id }"),
-    ] {
-        check_written(&rt, alloc, made.expect(&rt, "memory"), wanted);
-    }
+    check_placed(&rt, alloc);
+    check_written(&rt, alloc, a(alloc), "a @d");
+    check_written(&rt, alloc, spread(alloc), "...F @d");
+    check_written(&rt, alloc, inline(alloc), "... on T @d { id }");
 }
 
 /// `$v: Int = 1 @d, $w: W, $v: W`
@@ -146,39 +173,54 @@ fn field_with_arguments(alloc: Global) -> Result<Field, AllocError> {
     Ok(field)
 }
 
+fn check_variable(rt: &impl Abort, query: &OperationDefinition, name: &str, ty: Option<&str>) {
+    let found = query.variable_by_name(name);
+    let found = found.map(|node| node.ty.inner_named_type().as_str());
+    check_case(rt, name, found, ty);
+}
+
+fn check_argument(rt: &impl Abort, field: &Field, name: &str, number: Option<i32>) {
+    let found = field.specified_argument_by_name(name);
+    check_case(rt, name, found.and_then(|value| value.to_i32()), number);
+}
+
+fn check_response_names(rt: &impl Abort, alloc: Global) {
+    let mut named = field(alloc).expect(rt, "memory");
+    check_equal(rt, named.response_name().as_str(), "r");
+    named.alias = None;
+    check_equal(rt, named.response_name().as_str(), "s");
+}
+
+fn check_keys(rt: &impl Abort, alloc: Global) {
+    let span = SourceSpan::new(FileId::new(5), 10, 11).expect(rt, "a span");
+    check_equal(rt, span.len(), 1);
+    let mut seen = HashSet::new(alloc);
+    let placed = Field::new(alloc, name!(a).with_location(span));
+    seen.insert(placed).expect(rt, "memory");
+    check_equal(rt, seen.contains(&Field::new(alloc, name!(a))), true);
+    check_equal(rt, seen.contains(&Field::new(alloc, name!(b))), false);
+}
+
 /// Variables and arguments by name, the name of what is answered to a field, and what hash sets hold of fields that differ in
 /// locations.
 #[test]
 fn of_operations_and_fields(rt: HostRuntime) {
     let alloc = rt.alloc();
     let mut query = OperationDefinition::new(alloc, OperationType::Query);
-    assert!(&rt; query.variable_by_name("v").is_none());
+    check_variable(&rt, &query, "v", None);
     query.variables = variables(alloc).expect(&rt, "memory");
-    let with_arguments = field_with_arguments(alloc).expect(&rt, "memory");
-    for (name, ty, number) in [
-        ("v", Some("Int"), None),
-        ("w", Some("W"), None),
-        ("V", None, None),
-        ("x", None, Some(1)),
-        ("y", None, Some(2)),
-        ("X", None, None),
-        ("", None, None),
+    for (name, ty) in [
+        ("v", Some("Int")),
+        ("w", Some("W")),
+        ("V", None),
+        ("", None),
     ] {
-        let found = query.variable_by_name(name);
-        let found = found.map(|node| node.ty.inner_named_type().as_str());
-        check_case(&rt, &name, &found, &ty);
-        let found = with_arguments.specified_argument_by_name(name);
-        check_case(&rt, &name, found.and_then(|value| value.to_i32()), number);
+        check_variable(&rt, &query, name, ty);
     }
-    let mut named = field(alloc).expect(&rt, "memory");
-    check_equal(&rt, named.response_name().as_str(), "r");
-    named.alias = None;
-    check_equal(&rt, named.response_name().as_str(), "s");
-    let span = SourceSpan::new(FileId::new(5), 10, 11).expect(&rt, "a span");
-    check_equal(&rt, span.len(), 1);
-    let mut seen = HashSet::new(alloc);
-    let placed = Field::new(alloc, name!(a).with_location(span));
-    assert!(&rt; seen.insert(placed).is_ok());
-    assert!(&rt; seen.contains(&Field::new(alloc, name!(a))));
-    assert!(&rt; !seen.contains(&Field::new(alloc, name!(b))));
+    let field = field_with_arguments(alloc).expect(&rt, "memory");
+    for (name, number) in [("x", Some(1)), ("y", Some(2)), ("X", None), ("", None)] {
+        check_argument(&rt, &field, name, number);
+    }
+    check_response_names(&rt, alloc);
+    check_keys(&rt, alloc);
 }

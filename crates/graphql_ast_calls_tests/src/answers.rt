@@ -1,4 +1,5 @@
 //! What calls answer with ample memory.
+use crate::checks::check_case;
 use crate::samples::{ILL_FORMED, NO_JSON, QUERY};
 use graphql_ast_calls::{Status, check_json, print_json, print_value_json, write_json};
 use std::alloc::Global;
@@ -130,56 +131,87 @@ fn rows() -> [Row; 8] {
 /// Whether the front of a buffer is this text, and the rest as it was.
 fn check_front(rt: &impl Abort, out: &[u8], text: &str) {
     for (index, byte) in out.iter().enumerate() {
-        match text.as_bytes().get(index) {
-            Some(wanted) => assert_eq!(rt; byte, wanted, "{text}"),
-            None => assert_eq!(rt; *byte, b'#', "{text}"),
-        }
+        let wanted = text.as_bytes().get(index).copied();
+        check_case(rt, text, *byte, wanted.unwrap_or(b'#'));
     }
 }
 
-fn check_call(rt: &impl Abort, alloc: Global, row: Row) {
-    let (call, json, room, status, length, front) = row;
-    let (mut buffer, mut needed) = ([b'#'; 400], 0usize);
-    let out = buffer.get_mut(..room).expect(rt, "room");
-    let found = match call {
+/// The status of a call into a buffer, and the length that it tells.
+fn called(alloc: Global, call: Call, json: &[u8], out: &mut [u8]) -> (Status, usize) {
+    let mut needed = 0usize;
+    let status = match call {
         Call::PrintValue => print_value_json(alloc, json, false, b"", 0, false, out, &mut needed),
         Call::Check => check_json(alloc, json, false, out, &mut needed),
         Call::Write => write_json(alloc, json, false, out, &mut needed),
     };
-    assert_eq!(rt; found, status, "{call:?} with {room} bytes");
-    if let Some(length) = length {
-        assert_eq!(rt; needed, length, "{call:?} with {room} bytes");
-    }
+    (status, needed)
+}
+
+/// The answer of a call into so many bytes.
+fn check_answer(
+    rt: &impl Abort,
+    call: Call,
+    room: usize,
+    found: (Status, usize),
+    wanted: (Status, usize),
+) {
+    assert_eq!(rt; found, wanted, "{call:?} with {room} bytes");
+}
+
+fn check_call(rt: &impl Abort, alloc: Global, row: Row) {
+    let (call, json, room, status, length, front) = row;
+    let mut buffer = [b'#'; 400];
+    let out = buffer.get_mut(..room).expect(rt, "room");
+    let (found, needed) = called(alloc, call, json, out);
+    let wanted = (status, length.unwrap_or(needed));
+    check_answer(rt, call, room, (found, needed), wanted);
     if let Some(text) = front {
         check_front(rt, out, text);
+    }
+}
+
+/// A document over several lines, with this prefix and at this level.
+fn check_print(
+    rt: &impl Abort,
+    alloc: Global,
+    json: &str,
+    (prefix, level): (&str, usize),
+    (status, text): (Status, &str),
+) {
+    let mut out = [b'#'; 100];
+    let mut needed = 0usize;
+    let found = print_json(
+        alloc,
+        json.as_bytes(),
+        true,
+        prefix.as_bytes(),
+        level,
+        false,
+        &mut out,
+        &mut needed,
+    );
+    check_case(rt, text, (found, needed), (status, text.len()));
+    check_front(rt, &out, text);
+}
+
+fn check_prints(rt: &impl Abort, alloc: Global) {
+    for (json, prefix, level, status, text) in PRINTS {
+        check_print(rt, alloc, json, (prefix, level), (status, text));
+    }
+}
+
+fn check_codes(rt: &impl Abort) {
+    for (status, code) in CODES {
+        assert_eq!(rt; status.code(), code, "{status:?}");
     }
 }
 
 /// Prints and the other calls answer each status, and tell of buffers that are too short.
 #[test]
 fn calls_answer_each_status(rt: HostRuntime) {
-    let alloc = rt.alloc();
-    for (json, prefix, level, status, text) in PRINTS {
-        let (mut out, mut needed) = ([b'#'; 100], 0usize);
-        let (json, prefix) = (json.as_bytes(), prefix.as_bytes());
-        let found = print_json(
-            alloc,
-            json,
-            true,
-            prefix,
-            level,
-            false,
-            &mut out,
-            &mut needed,
-        );
-        assert_eq!(rt; found, status, "{text}");
-        assert_eq!(rt; needed, text.len(), "{text}");
-        check_front(&rt, &out, text);
-    }
+    check_prints(&rt, rt.alloc());
     for row in rows() {
-        check_call(&rt, alloc, row);
+        check_call(&rt, rt.alloc(), row);
     }
-    for (status, code) in CODES {
-        assert_eq!(rt; status.code(), code, "{status:?}");
-    }
+    check_codes(&rt);
 }

@@ -67,20 +67,38 @@ const LONG: [(usize, usize, Counts); 3] = [
     (500, 1004, (1, 0, 0)),
 ];
 
+/// An item that a list has so many times.
+fn check_repeated(
+    rt: &impl Abort,
+    alloc: Global,
+    item: &Node<Value>,
+    count: usize,
+    room: usize,
+    counts: Counts,
+) {
+    let list = repeated(alloc, item, count).expect(rt, "memory");
+    check_counted(rt, &list, room, counts);
+}
+
+fn check_small(rt: &impl Abort, alloc: Global) {
+    let number = number(alloc, 1).expect(rt, "memory");
+    let name = name_in_place(rt, alloc);
+    for (count, room, counts) in SMALL {
+        check_repeated(rt, alloc, &number, count, room, counts);
+        check_repeated(rt, alloc, &name, count, room, counts);
+    }
+}
+
+fn check_long(rt: &impl Abort, alloc: Global) {
+    for (length, room, counts) in LONG {
+        let item = long_name(rt, alloc, length);
+        check_repeated(rt, alloc, &item, 2, room, counts);
+    }
+}
+
 /// Small pieces are gathered, and long ones aren't copied.
 #[test]
 fn pieces_of_each_length(rt: HostRuntime) {
-    let number = number(rt.alloc(), 1).expect(&rt, "memory");
-    let name = name_in_place(&rt, rt.alloc());
-    for (count, room, counts) in SMALL {
-        for item in [&number, &name] {
-            let list = repeated(rt.alloc(), item, count).expect(&rt, "memory");
-            check_counted(&rt, &list, room, counts);
-        }
-    }
-    for (length, room, counts) in LONG {
-        let item = long_name(&rt, rt.alloc(), length);
-        let list = repeated(rt.alloc(), &item, 2).expect(&rt, "memory");
-        check_counted(&rt, &list, room, counts);
-    }
+    check_small(&rt, rt.alloc());
+    check_long(&rt, rt.alloc());
 }

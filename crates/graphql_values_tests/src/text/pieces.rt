@@ -1,5 +1,5 @@
 //! Prints whose pieces begin and end at each place about the end of the buffer, which holds 1,024 bytes.
-use crate::checks::check_text;
+use crate::checks::check_made;
 use graphql_base::name::Name;
 use graphql_base::node::Node;
 use graphql_checks::trees::check_print;
@@ -32,19 +32,31 @@ fn check_piece(rt: &impl Abort, alloc: Global, filler: usize, piece: Node<Value>
     check_print(alloc, list.serialize().no_indent(), wanted.as_str()).expect(rt, text);
 }
 
-/// A string of so many letters, and but for none a name of as many and an int of as many digits.
-fn check_pieces(rt: &impl Abort, alloc: Global, filler: usize, length: usize) {
-    let letters = "a".repeat(alloc, length).expect(rt, "memory");
-    let string = Value::from_text(alloc, letters.as_str()).expect(rt, "memory");
+fn check_string(rt: &impl Abort, alloc: Global, filler: usize, letters: &str) {
+    let string = Value::from_text(alloc, letters).expect(rt, "memory");
     let string = Node::new(alloc, string).expect(rt, "memory");
     let quoted = format!(in alloc; "\"{letters}\"").expect(rt, "memory");
     check_piece(rt, alloc, filler, string, quoted.as_str());
+}
+
+fn check_letters(rt: &impl Abort, alloc: Global, filler: usize, letters: &str) {
+    let name = enum_value(rt, alloc, letters);
+    check_piece(rt, alloc, filler, name, letters);
+}
+
+fn check_digits(rt: &impl Abort, alloc: Global, filler: usize, length: usize) {
+    let digits = "1".repeat(alloc, length).expect(rt, "memory");
+    let int = int_value(rt, alloc, digits.as_str());
+    check_piece(rt, alloc, filler, int, digits.as_str());
+}
+
+/// A string of so many letters, and but for none a name of as many and an int of as many digits.
+fn check_pieces(rt: &impl Abort, alloc: Global, filler: usize, length: usize) {
+    let letters = "a".repeat(alloc, length).expect(rt, "memory");
+    check_string(rt, alloc, filler, letters.as_str());
     if length > 0 {
-        let name = enum_value(rt, alloc, letters.as_str());
-        check_piece(rt, alloc, filler, name, letters.as_str());
-        let digits = "1".repeat(alloc, length).expect(rt, "memory");
-        let int = int_value(rt, alloc, digits.as_str());
-        check_piece(rt, alloc, filler, int, digits.as_str());
+        check_letters(rt, alloc, filler, letters.as_str());
+        check_digits(rt, alloc, filler, length);
     }
 }
 
@@ -57,18 +69,32 @@ fn pieces_about_the_end_of_the_buffer(rt: HostRuntime) {
     }
 }
 
-/// Prints the tree behind each number of blanks that the buffer holds: they stand as the indentation of the first line.
+/// Prints the tree behind these blanks: they stand as the indentation of the first line.
+fn check_behind<T: Syntax>(rt: &impl Abort, alloc: Global, tree: &T, blanks: &str, text: &str) {
+    let mut wanted = String::from_str(alloc, blanks).expect(rt, "memory");
+    add(rt, &mut wanted, text);
+    let print = Serialize::new(tree)
+        .indent_prefix(blanks)
+        .initial_indent_level(1);
+    check_print(alloc, print, wanted.as_str()).expect(rt, text);
+}
+
+/// Prints the tree behind each number of blanks that the buffer holds.
 fn check_at_each_fill_level<T: Syntax>(rt: &impl Abort, alloc: Global, tree: &T, text: &str) {
     let mut blanks = String::new(alloc);
     for _ in 0..=1024 {
-        let mut wanted = blanks.clone().expect(rt, "memory");
-        add(rt, &mut wanted, text);
-        let print = Serialize::new(tree)
-            .indent_prefix(blanks.as_str())
-            .initial_indent_level(1);
-        check_print(alloc, print, wanted.as_str()).expect(rt, text);
+        check_behind(rt, alloc, tree, blanks.as_str(), text);
         add(rt, &mut blanks, " ");
     }
+}
+
+/// `NAME: NAME!`
+fn input_text(rt: &impl Abort, alloc: Global, name: &str) -> String {
+    let mut text = String::new(alloc);
+    for part in [name, ": ", name, "!"] {
+        add(rt, &mut text, part);
+    }
+    text
 }
 
 /// The name alone, and the input value `NAME: NAME!`.
@@ -78,11 +104,8 @@ fn check_name(rt: &impl Abort, alloc: Global, text: &str) {
     check_at_each_fill_level(rt, alloc, &value, text);
     let ty = Type::NonNullNamed(name.clone().expect(rt, "memory"));
     let ty = Node::new(alloc, ty).expect(rt, "memory");
-    let mut wanted = String::new(alloc);
-    for part in [text, ": ", text, "!"] {
-        add(rt, &mut wanted, part);
-    }
     let input = InputValueDefinition::new(alloc, name, ty);
+    let wanted = input_text(rt, alloc, text);
     check_at_each_fill_level(rt, alloc, &input, wanted.as_str());
 }
 
@@ -119,36 +142,46 @@ fn add_break(rt: &impl Abort, text: &mut String, prefix: &str, level: usize) {
     }
 }
 
+/// What begins so many lists.
+fn add_begins(rt: &impl Abort, text: &mut String, prefix: &str, levels: usize) {
+    for level in 0..levels {
+        add(rt, text, "[");
+        add_break(rt, text, prefix, level.saturating_add(1));
+    }
+}
+
+/// What ends them.
+fn add_ends(rt: &impl Abort, text: &mut String, prefix: &str, levels: usize) {
+    for level in (0..levels).rev() {
+        add(rt, text, ",");
+        add_break(rt, text, prefix, level);
+        add(rt, text, "]");
+    }
+}
+
 /// The text of such a list.
 fn wanted(rt: &impl Abort, alloc: Global, prefix: &str, levels: usize, filler: &str) -> String {
     let mut text = String::new(alloc);
     let inner = levels.saturating_add(1);
-    for level in 0..inner {
-        add(rt, &mut text, "[");
-        add_break(rt, &mut text, prefix, level.saturating_add(1));
-    }
+    add_begins(rt, &mut text, prefix, inner);
     add(rt, &mut text, filler);
     add(rt, &mut text, ",");
     add_break(rt, &mut text, prefix, inner);
     add(rt, &mut text, "y");
-    for level in (0..inner).rev() {
-        add(rt, &mut text, ",");
-        add_break(rt, &mut text, prefix, level);
-        add(rt, &mut text, "]");
-    }
+    add_ends(rt, &mut text, prefix, inner);
     text
+}
+
+fn check_level(rt: &impl Abort, alloc: Global, prefix: &str, filler: &str, levels: usize) {
+    let list = nested(rt, alloc, levels, filler);
+    let print = list.serialize().indent_prefix(prefix);
+    let wanted = wanted(rt, alloc, prefix, levels, filler);
+    check_made(rt, print.to_text(alloc), wanted.as_str());
 }
 
 fn check_breaks(rt: &impl Abort, alloc: Global, prefix: &str, filler: &str) {
     for levels in 0..40 {
-        let list = nested(rt, alloc, levels, filler);
-        let text = list
-            .serialize()
-            .indent_prefix(prefix)
-            .to_text(alloc)
-            .expect(rt, "memory");
-        let wanted = wanted(rt, alloc, prefix, levels, filler);
-        check_text(rt, text.as_str(), wanted.as_str());
+        check_level(rt, alloc, prefix, filler, levels);
     }
 }
 

@@ -110,34 +110,53 @@ fn print_to_memory(list: &Value, alloc: Global) -> (Result<(), PrintError>, u64,
     (after, faults, sink.into_inner())
 }
 
+fn check_narrow(rt: &impl Abort, alloc: Global, list: &Value, room: usize) {
+    let (printed, sink) = print_to_narrow(list, alloc, room);
+    let taken = room.min(TEXT.len());
+    check_taken(rt, printed, sink.faults, sink.bytes.as_slice(), taken);
+}
+
+/// A print whose first line has the deepest indentation.
+fn check_deepest(rt: &impl Abort) {
+    let mut sink = StreamSink::new(Cursor::new([0; 3]));
+    let deepest = Value::Null.serialize().initial_indent_level(usize::MAX);
+    let printed = deepest.print_to(&mut sink);
+    check_equal(rt, (printed, sink.faults()), (Err(PrintError::Sink), 1));
+    check_equal(rt, &sink.into_inner().into_inner(), b"   ");
+}
+
+/// One with a line that is deeper still.
+fn check_too_deep(rt: &impl Abort, alloc: Global) {
+    let mut sink = StreamSink::new(Cursor::new([0; 3]));
+    let one = one(alloc).expect(rt, "memory");
+    let too_deep = one.serialize().initial_indent_level(usize::MAX);
+    let printed = too_deep.print_to(&mut sink);
+    let wanted = Err(PrintError::LevelOverflow);
+    check_equal(rt, (printed, sink.faults()), (wanted, 0));
+    check_equal(rt, sink.into_inner().position(), 0);
+}
+
+fn check_vector(rt: &impl Abort, alloc: Global, list: &Value) {
+    let (is_whole, sink) = print_to_vector(list, alloc);
+    let twice = b"[1, EXAMPLE, true, null][1, EXAMPLE, true, null]".as_slice();
+    check_equal(rt, is_whole, true);
+    check_equal(rt, (sink.bytes(), sink.faults()), (twice, 0));
+    check_equal(rt, sink.into_bytes().len(), 48);
+}
+
 /// A sink that takes one byte a call has room for so many: at the first that it has no room for all ends, with one fault,
 /// however many pieces are left. Sinks in memory take all.
 #[test]
 fn prints_are_whole_or_end_at_a_fault(rt: HostRuntime) {
-    let list = items(rt.alloc()).expect(&rt, "memory");
+    let alloc = rt.alloc();
+    let list = items(alloc).expect(&rt, "memory");
     for room in 0..=25 {
-        let (printed, sink) = print_to_narrow(&list, rt.alloc(), room);
-        let taken = room.min(TEXT.len());
-        check_taken(&rt, printed, sink.faults, sink.bytes.as_slice(), taken);
+        check_narrow(&rt, alloc, &list, room);
     }
-    let mut sink = StreamSink::new(Cursor::new([0; 3]));
-    let deepest = Value::Null.serialize().initial_indent_level(usize::MAX);
-    let printed = deepest.print_to(&mut sink);
-    check_equal(&rt, (printed, sink.faults()), (Err(PrintError::Sink), 1));
-    check_equal(&rt, &sink.into_inner().into_inner(), b"   ");
-    let mut sink = StreamSink::new(Cursor::new([0; 3]));
-    let one = one(rt.alloc()).expect(&rt, "memory");
-    let too_deep = one.serialize().initial_indent_level(usize::MAX);
-    let printed = too_deep.print_to(&mut sink);
-    let wanted = Err(PrintError::LevelOverflow);
-    check_equal(&rt, (printed, sink.faults()), (wanted, 0));
-    check_equal(&rt, sink.into_inner().position(), 0);
-    let (is_whole, sink) = print_to_vector(&list, rt.alloc());
-    let twice = b"[1, EXAMPLE, true, null][1, EXAMPLE, true, null]".as_slice();
-    assert!(rt; is_whole);
-    check_equal(&rt, (sink.bytes(), sink.faults()), (twice, 0));
-    check_equal(&rt, sink.into_bytes().len(), 48);
-    let (printed, faults, bytes) = print_to_memory(&list, rt.alloc());
+    check_deepest(&rt);
+    check_too_deep(&rt, alloc);
+    check_vector(&rt, alloc, &list);
+    let (printed, faults, bytes) = print_to_memory(&list, alloc);
     check_taken(&rt, printed, faults, bytes.as_slice(), TEXT.len());
 }
 
@@ -171,31 +190,55 @@ const ERRORS: [ErrorKind; 3] = [
     ErrorKind::PermissionDenied,
 ];
 
+fn check_awkward(
+    rt: &impl Abort,
+    alloc: Global,
+    list: &Value,
+    answers: [Answer; 3],
+    writes: usize,
+    taken: usize,
+    error: Option<ErrorKind>,
+) {
+    let (printed, faults, last, writer) = print_to_writer(list, alloc, answers);
+    check_equal(rt, writer.writes, writes);
+    check_taken(rt, printed, faults, writer.bytes.as_slice(), taken);
+    check_equal(rt, last, error);
+}
+
+/// A sink whose writer answers these errors.
+fn failing(alloc: Global) -> StreamSink<Told> {
+    StreamSink::new(Told {
+        answers: ERRORS.map(Answer::Fails),
+        writes: 0,
+        bytes: Vec::new(alloc),
+    })
+}
+
+/// A print that ends at a fault, the error of which the sink then has.
+fn check_fault(rt: &impl Abort, sink: &mut StreamSink<Told>, wanted: ErrorKind) {
+    assert!(rt; sink.faults() < 3);
+    let printed = Value::Null.serialize().print_to(sink);
+    check_equal(rt, printed, Err(PrintError::Sink));
+    let last = sink.last_error().map(|error| error.kind());
+    check_equal(rt, last, Some(wanted));
+}
+
+fn check_errors(rt: &impl Abort, alloc: Global) {
+    let mut sink = failing(alloc);
+    check_equal(rt, sink.last_error().is_none(), true);
+    for wanted in ERRORS {
+        check_fault(rt, &mut sink, wanted);
+    }
+    check_equal(rt, sink.faults(), 3);
+}
+
 /// Nothing is tried again, and of several errors the sink has the last.
 #[test]
 fn awkward_writers(rt: HostRuntime) {
-    let list = items(rt.alloc()).expect(&rt, "memory");
+    let alloc = rt.alloc();
+    let list = items(alloc).expect(&rt, "memory");
     for (answers, writes, taken, error) in AWKWARD {
-        let (printed, faults, last, writer) = print_to_writer(&list, rt.alloc(), answers);
-        check_equal(&rt, &writer.writes, &writes);
-        check_taken(&rt, printed, faults, writer.bytes.as_slice(), taken);
-        check_equal(&rt, &last, &error);
+        check_awkward(&rt, alloc, &list, answers, writes, taken, error);
     }
-    let mut sink = StreamSink::new(Told {
-        answers: ERRORS.map(Answer::Fails),
-        writes: 0,
-        bytes: Vec::new(rt.alloc()),
-    });
-    assert!(rt; sink.last_error().is_none());
-    for wanted in ERRORS {
-        assert!(rt; sink.faults() < 3);
-        let printed = Value::Null.serialize().print_to(&mut sink);
-        check_equal(&rt, printed, Err(PrintError::Sink));
-        check_equal(
-            &rt,
-            sink.last_error().map(|error| error.kind()),
-            Some(wanted),
-        );
-    }
-    check_equal(&rt, sink.faults(), 3);
+    check_errors(&rt, alloc);
 }

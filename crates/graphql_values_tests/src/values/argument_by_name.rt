@@ -83,26 +83,45 @@ fn cases() -> [(Name, Name, &'static str, (Option<i32>, &'static str)); 6] {
     ]
 }
 
+/// What a directive without arguments answers, where this key defines it.
+fn check_answer(
+    rt: &impl Abort,
+    alloc: Global,
+    key: Name,
+    name: Name,
+    argument: &str,
+    answer: (Option<i32>, &'static str),
+) {
+    let defined = definitions(alloc, key).expect(rt, "memory");
+    let directive = Directive::new(alloc, name);
+    let value = directive.argument_by_name(argument, &defined);
+    check_case(rt, argument, told(value), answer);
+}
+
+/// `@a(n: null)`
+fn with_null(alloc: Global) -> Result<Directive, AllocError> {
+    let null = Node::new(alloc, Value::Null)?;
+    with_argument(alloc, Directive::new(alloc, name!(a)), name!(n), null)
+}
+
+/// What is specified needs no definition.
+fn check_null(rt: &impl Abort, alloc: Global) {
+    let directive = with_null(alloc).expect(rt, "memory");
+    let defined = definitions(alloc, name!(b)).expect(rt, "memory");
+    let is_null = match directive.argument_by_name("n", &defined) {
+        Ok(ArgumentValue::Value(value)) => value.is_null(),
+        _ => false,
+    };
+    check_case(rt, "specified", is_null, true);
+}
+
 /// The key defines the directive, and not the name in the definition.
 #[test]
 fn values_by_definition(rt: HostRuntime) {
-    let alloc = rt.alloc();
     for (key, name, argument, answer) in cases() {
-        let defined = definitions(alloc, key).expect(&rt, "memory");
-        let directive = Directive::new(alloc, name);
-        let value = directive.argument_by_name(argument, &defined);
-        check_case(&rt, &argument, told(value), answer);
+        check_answer(&rt, rt.alloc(), key, name, argument, answer);
     }
-    let null = Node::new(alloc, Value::Null).expect(&rt, "memory");
-    let directive = with_argument(alloc, Directive::new(alloc, name!(a)), name!(n), null).expect(
-        &rt, "memory",
-    );
-    let defined = definitions(alloc, name!(b)).expect(&rt, "memory");
-    let value = match directive.argument_by_name("n", &defined) {
-        Ok(ArgumentValue::Value(value)) => Some(value),
-        _ => None,
-    };
-    assert!(rt; value.is_some_and(|value| value.is_null()), "specified");
+    check_null(&rt, rt.alloc());
 }
 
 /// `@a(x: 1, y: N)`
@@ -150,7 +169,7 @@ fn check_lent(rt: &impl Abort, alloc: Global, name: &str, is_there: bool, shared
     let mut lent = other.clone().expect(rt, "memory");
     let is_lent = lend(&mut lent, name);
     check_case(rt, &name, (is_lent, sharing(&mut lent)), (is_there, shared));
-    assert!(rt; lent == other, "{name}");
+    check_case(rt, name, lent == other, true);
 }
 
 /// `@a(x: 1, y: 2, x: 1, y: 3)`
@@ -174,32 +193,61 @@ fn specified(directive: &Directive, name: &str) -> Option<i32> {
     directive.specified_argument_by_name(name)?.to_i32()
 }
 
+fn check_specified(rt: &impl Abort, directive: &Directive, name: &str, wanted: Option<i32>) {
+    let is_there = directive.specified_argument_by_name(name).is_some();
+    check_case(rt, name, is_there, wanted.is_some());
+    check_case(rt, name, specified(directive, name), wanted);
+}
+
+/// Of two values of a name the first is written.
+fn check_first_written(rt: &impl Abort, alloc: Global, mut repeated: Directive) {
+    let four = number(alloc, 4).expect(rt, "memory");
+    set_argument(&mut repeated, "y", four).expect(rt, "memory");
+    let found = numbers(alloc, &repeated).expect(rt, "memory");
+    let wanted = [Some(1), Some(4), Some(1), Some(3)];
+    check_equal(rt, found.as_slice(), wanted.as_slice());
+}
+
+fn check_repeated(rt: &impl Abort, alloc: Global) {
+    let repeated = repeated(alloc).expect(rt, "memory");
+    for (name, wanted) in [("y", Some(2)), ("z", None), ("Y", None), ("", None)] {
+        check_specified(rt, &repeated, name, wanted);
+    }
+    check_first_written(rt, alloc, repeated);
+}
+
+/// It is `@a(x: 1, y: N)`.
+fn check_directive(rt: &impl Abort, alloc: Global, found: &Directive, y: i32) {
+    let wanted = directive(alloc, y).expect(rt, "memory");
+    check_case(rt, &y, *found == wanted, true);
+}
+
+/// What is written is seen in one of two directives that share their arguments.
+fn check_written(rt: &impl Abort, alloc: Global) {
+    let other = directive(alloc, 2).expect(rt, "memory");
+    let mut lent = other.clone().expect(rt, "memory");
+    let three = number(alloc, 3).expect(rt, "memory");
+    set_argument(&mut lent, "y", three).expect(rt, "memory");
+    check_directive(rt, alloc, &lent, 3);
+    check_directive(rt, alloc, &other, 2);
+}
+
+fn check_errors(rt: &impl Abort, alloc: Global) {
+    let mut bare = Directive::new(alloc, name!(a));
+    let error = bare.specified_argument_by_name_mut("x").err();
+    let error = error.expect(rt, "no argument");
+    check_equal(rt, error.is_memory(), false);
+    check_equal(rt, SpecifiedArgumentError::Memory.is_memory(), true);
+}
+
 /// That of the first argument of the name, which then is no other directive's.
 #[test]
 fn specified_values_are_found_and_lent(rt: HostRuntime) {
     let alloc = rt.alloc();
-    let mut repeated = repeated(alloc).expect(&rt, "memory");
-    for (name, wanted) in [("y", Some(2)), ("z", None), ("Y", None), ("", None)] {
-        let is_there = repeated.specified_argument_by_name(name).is_some();
-        check_case(&rt, &name, is_there, wanted.is_some());
-        check_case(&rt, &name, specified(&repeated, name), wanted);
-    }
-    let four = number(alloc, 4).expect(&rt, "memory");
-    set_argument(&mut repeated, "y", four).expect(&rt, "memory");
-    let found = numbers(alloc, &repeated).expect(&rt, "memory");
-    let wanted = [Some(1), Some(4), Some(1), Some(3)];
-    check_equal(&rt, found.as_slice(), wanted.as_slice());
+    check_repeated(&rt, alloc);
     check_lent(&rt, alloc, "x", true, [false, true]);
     check_lent(&rt, alloc, "y", true, [true, false]);
     check_lent(&rt, alloc, "z", false, [true, true]);
-    let other = directive(alloc, 2).expect(&rt, "memory");
-    let mut lent = other.clone().expect(&rt, "memory");
-    let three = number(alloc, 3).expect(&rt, "memory");
-    set_argument(&mut lent, "y", three).expect(&rt, "memory");
-    assert!(rt; lent == directive(alloc, 3).expect(&rt, "memory"));
-    assert!(rt; other == directive(alloc, 2).expect(&rt, "memory"));
-    let mut bare = Directive::new(alloc, name!(a));
-    let error = bare.specified_argument_by_name_mut("x").err();
-    assert!(rt; error.is_some_and(|error| !error.is_memory()));
-    assert!(rt; SpecifiedArgumentError::Memory.is_memory());
+    check_written(&rt, alloc);
+    check_errors(&rt, alloc);
 }

@@ -8,6 +8,7 @@ use graphql_values::literal::{FloatValue, IntValue};
 use graphql_values::ty;
 use graphql_values::types::Type;
 use std::alloc::{AllocError, Global};
+use std::process::Abort;
 
 fn type_of(alloc: Global, text: &str) -> Result<Type, AllocError> {
     match text {
@@ -26,33 +27,63 @@ fn argument(alloc: Global) -> Result<Argument, AllocError> {
     })
 }
 
+fn check_made_clone<T: Clone + PartialEq + Drop>(rt: &impl Abort, made: Result<T, AllocError>) {
+    let tree = made.expect(rt, "memory");
+    check_cloned(&tree).expect(rt, "a clone");
+}
+
+fn check_types(rt: &impl Abort, alloc: Global) {
+    for text in ["A", "A!", "[A!]", "[[A]!]!"] {
+        check_made_clone(rt, type_of(alloc, text));
+    }
+}
+
+fn check_literals(rt: &impl Abort, alloc: Global) {
+    let int = IntValue::new_parsed(alloc, "-120").expect(rt, "memory");
+    check_cloned(&int).expect(rt, "a clone");
+    let float = FloatValue::new_parsed(alloc, "1.50").expect(rt, "memory");
+    check_cloned(&float).expect(rt, "a clone");
+}
+
+fn check_long_int(rt: &impl Abort, alloc: Global) {
+    let long = "-100000000000000000000000000002";
+    let int = IntValue::new_parsed(alloc, long).expect(rt, "memory");
+    check_cloned(&int).expect(rt, long);
+}
+
+fn check_long_float(rt: &impl Abort, alloc: Global) {
+    let long = "1.50000000000000000000000000002";
+    let float = FloatValue::new_parsed(alloc, long).expect(rt, "memory");
+    check_cloned(&float).expect(rt, long);
+}
+
+fn check_trees(rt: &impl Abort, alloc: Global) {
+    check_made_clone(rt, argument(alloc));
+    check_made_clone(rt, directive(alloc));
+    check_made_clone(rt, directives(alloc));
+    check_made_clone(rt, input(alloc));
+    check_made_clone(rt, definition(alloc));
+}
+
+fn check_print(rt: &impl Abort, alloc: Global) {
+    let value = nested(alloc).expect(rt, "memory");
+    let print = value.serialize().indent_prefix("-").initial_indent_level(1);
+    let copy = print.clone().expect(rt, "memory");
+    for print in [copy, print] {
+        check_made(rt, print.to_text(alloc), "-[\n--[],\n--1.5,\n-]");
+    }
+}
+
 #[test]
 fn of_trees_and_prints(rt: HostRuntime) {
+    let alloc = rt.alloc();
     for form in FORMS {
-        check_cloned(&value_of(rt.alloc(), form).expect(&rt, "memory")).expect(&rt, "a clone");
+        check_made_clone(&rt, value_of(alloc, form));
     }
-    for text in ["A", "A!", "[A!]", "[[A]!]!"] {
-        check_cloned(&type_of(rt.alloc(), text).expect(&rt, "memory")).expect(&rt, "a clone");
-    }
-    let int = IntValue::new_parsed(rt.alloc(), "-120").expect(&rt, "memory");
-    check_cloned(&int).expect(&rt, "a clone");
-    let float = FloatValue::new_parsed(rt.alloc(), "1.50").expect(&rt, "memory");
-    check_cloned(&float).expect(&rt, "a clone");
-    let long = "-100000000000000000000000000002";
-    let int = IntValue::new_parsed(rt.alloc(), long).expect(&rt, "memory");
-    check_cloned(&int).expect(&rt, long);
-    let long = "1.50000000000000000000000000002";
-    let float = FloatValue::new_parsed(rt.alloc(), long).expect(&rt, "memory");
-    check_cloned(&float).expect(&rt, long);
-    check_cloned(&argument(rt.alloc()).expect(&rt, "memory")).expect(&rt, "a clone");
-    check_cloned(&directive(rt.alloc()).expect(&rt, "memory")).expect(&rt, "a clone");
-    check_cloned(&directives(rt.alloc()).expect(&rt, "memory")).expect(&rt, "a clone");
-    check_cloned(&input(rt.alloc()).expect(&rt, "memory")).expect(&rt, "a clone");
-    check_cloned(&definition(rt.alloc()).expect(&rt, "memory")).expect(&rt, "a clone");
-    let value = nested(rt.alloc()).expect(&rt, "memory");
-    let print = value.serialize().indent_prefix("-").initial_indent_level(1);
-    let copy = print.clone().expect(&rt, "memory");
-    for print in [copy, print] {
-        check_made(&rt, print.to_text(rt.alloc()), "-[\n--[],\n--1.5,\n-]");
-    }
+    check_types(&rt, alloc);
+    check_literals(&rt, alloc);
+    check_long_int(&rt, alloc);
+    check_long_float(&rt, alloc);
+    check_trees(&rt, alloc);
+    check_print(&rt, alloc);
 }

@@ -9,8 +9,10 @@ use graphql_base::span::{FileId, SourceSpan};
 use graphql_checks::trees::check_cloned;
 use graphql_values::argument::Argument;
 use graphql_values::directive::Directive;
+use graphql_values::directive_definition::DirectiveDefinition;
 use graphql_values::ty;
 use graphql_values::types::{NamedType, Type};
+use graphql_values::value::Value;
 use std::alloc::{AllocError, Global};
 use std::collections::HashSet;
 use std::process::Abort;
@@ -37,61 +39,81 @@ fn placed(alloc: Global, file: u64) -> Result<Directive, AllocError> {
 
 /// A tree, one that it is equal to, as to a clone, and one that it isn't.
 fn check_compared<T: Clone + PartialEq + Drop>(rt: &impl Abort, tree: &T, same: &T, other: &T) {
-    assert!(rt; *tree == *same);
-    assert!(rt; *tree != *other);
+    check_equal(rt, (*tree == *same, *tree != *other), (true, true));
     check_cloned(tree).expect(rt, "a clone");
+}
+
+/// The location of the name is kept.
+fn check_type_clone(rt: &impl Abort, ty: &Type) {
+    let copy = ty.clone().expect(rt, "memory");
+    let location = copy.inner_named_type().location();
+    check_equal(rt, location.is_some(), true);
+    check_equal(rt, location, name_in(7).location());
+}
+
+fn check_types(rt: &impl Abort, alloc: Global) {
+    let ty = Type::NonNullNamed(name_in(7)).list(alloc);
+    let ty = ty.expect(rt, "memory");
+    let same = ty!(in alloc; [Foo!]).expect(rt, "memory");
+    let other = ty!(in alloc; [Foo]).expect(rt, "memory");
+    check_compared(rt, &ty, &same, &other);
+    check_type_clone(rt, &ty);
+}
+
+/// The location of the first item is kept.
+fn check_list_clone(rt: &impl Abort, list: &Value) {
+    let copy = list.clone().expect(rt, "memory");
+    let first = copy.as_list().and_then(|items| items.first());
+    let location = first.and_then(|node| node.location());
+    check_equal(rt, location, SourceSpan::new(FileId::new(7), 3, 4));
 }
 
 #[test]
 fn types_and_values(rt: HostRuntime) {
     let alloc = rt.alloc();
-    let ty = Type::NonNullNamed(name_in(7))
-        .list(alloc)
-        .expect(&rt, "memory");
-    let same = ty!(in alloc; [Foo!]).expect(&rt, "memory");
-    let other = ty!(in alloc; [Foo]).expect(&rt, "memory");
-    check_compared(&rt, &ty, &same, &other);
-    let copy = ty.clone().expect(&rt, "memory");
-    assert!(rt; copy.inner_named_type().location().is_some());
-    check_equal(
-        &rt,
-        copy.inner_named_type().location(),
-        name_in(7).location(),
-    );
+    check_types(&rt, alloc);
     let value = object(alloc, 1).expect(&rt, "memory");
     let same = object(alloc, 2).expect(&rt, "memory");
     let list = list(alloc, 7).expect(&rt, "memory");
     check_compared(&rt, &value, &same, &list);
-    let copy = list.clone().expect(&rt, "memory");
-    let first = copy.as_list().and_then(|items| items.first());
-    check_equal(
-        &rt,
-        first.and_then(|node| node.location()),
-        SourceSpan::new(FileId::new(7), 3, 4),
-    );
+    check_list_clone(&rt, &list);
+}
+
+/// The location of the first argument is kept.
+fn check_directive_clone(rt: &impl Abort, directive: &Directive) {
+    let copy = directive.clone().expect(rt, "memory");
+    let location = copy.arguments.first().and_then(|node| node.location());
+    check_equal(rt, location, SourceSpan::new(FileId::new(7), 3, 7));
+}
+
+fn check_directives(rt: &impl Abort, alloc: Global) {
+    let here = placed(alloc, 7).expect(rt, "memory");
+    let there = placed(alloc, 2).expect(rt, "memory");
+    check_compared(rt, &here, &there, &Directive::new(alloc, name!(a)));
+    check_directive_clone(rt, &here);
+    let mut set = HashSet::new(alloc);
+    set.insert(here).expect(rt, "memory");
+    check_equal(rt, set.contains(&there), true);
+}
+
+fn repeatable(alloc: Global) -> Result<DirectiveDefinition, AllocError> {
+    let mut definition = definition(alloc)?;
+    definition.repeatable = true;
+    Ok(definition)
+}
+
+fn check_definitions(rt: &impl Abort, alloc: Global) {
+    let tree = definition(alloc).expect(rt, "memory");
+    let same = definition(alloc).expect(rt, "memory");
+    let other = repeatable(alloc).expect(rt, "memory");
+    check_compared(rt, &tree, &same, &other);
+    let mut set = HashSet::new(alloc);
+    set.insert(tree).expect(rt, "memory");
+    check_equal(rt, set.contains(&same), true);
 }
 
 #[test]
 fn directives_and_definitions(rt: HostRuntime) {
-    let alloc = rt.alloc();
-    let here = placed(alloc, 7).expect(&rt, "memory");
-    let there = placed(alloc, 2).expect(&rt, "memory");
-    check_compared(&rt, &here, &there, &Directive::new(alloc, name!(a)));
-    let copy = here.clone().expect(&rt, "memory");
-    check_equal(
-        &rt,
-        copy.arguments.first().and_then(|node| node.location()),
-        SourceSpan::new(FileId::new(7), 3, 7),
-    );
-    let mut set = HashSet::new(alloc);
-    set.insert(here).expect(&rt, "memory");
-    assert!(rt; set.contains(&there));
-    let tree = definition(alloc).expect(&rt, "memory");
-    let same = definition(alloc).expect(&rt, "memory");
-    let mut other = definition(alloc).expect(&rt, "memory");
-    other.repeatable = true;
-    check_compared(&rt, &tree, &same, &other);
-    let mut set = HashSet::new(alloc);
-    set.insert(tree).expect(&rt, "memory");
-    assert!(rt; set.contains(&same));
+    check_directives(&rt, rt.alloc());
+    check_definitions(&rt, rt.alloc());
 }

@@ -4,6 +4,7 @@ ghost use Rattle.std.specs.Bool.{OnFalse, OnTrue};
 ghost use Rattle.graphql_values.specs.code.Loans.{first_changed};
 ghost use Rattle.graphql_values.specs.code.Queries.{is_input_value_definition_named};
 
+use crate::checks::{check_case, check_equal};
 use graphql_base::name;
 use graphql_base::name::Name;
 use graphql_base::node::{Node, NodeStr};
@@ -12,6 +13,7 @@ use graphql_values::directive_location::DirectiveLocation;
 use graphql_values::input_value_definition::InputValueDefinition;
 use graphql_values::types::Type;
 use std::alloc::{AllocError, Global};
+use std::process::Abort;
 
 fn argument(alloc: Global, name: Name, ty: Name) -> Result<Node<InputValueDefinition>, AllocError> {
     let ty = Node::new(alloc, Type::Named(ty))?;
@@ -62,23 +64,38 @@ fn set_argument(
     }
 }
 
+/// The type of the first argument of a name, before and after one is written.
+fn check_argument(
+    rt: &impl Abort,
+    other: &DirectiveDefinition,
+    changed: &DirectiveDefinition,
+    name: &str,
+    types: (Option<&str>, Option<&str>),
+) {
+    let before = type_of(other.argument_by_name(name));
+    let after = type_of(changed.argument_by_name(name));
+    check_case(rt, name, (before, after), types);
+}
+
+fn check_arguments(rt: &impl Abort, other: &DirectiveDefinition, changed: &DirectiveDefinition) {
+    for (name, types) in [
+        ("a", (Some("A"), Some("C"))),
+        ("b", (Some("B"), Some("B"))),
+        ("c", (None, Some("A"))),
+        ("A", (None, None)),
+    ] {
+        check_argument(rt, other, changed, name, types);
+    }
+}
+
 /// The first of a name is answered, and written.
 #[test]
 fn arguments_by_name(rt: HostRuntime) {
-    let mut changed = definition(rt.alloc()).expect(&rt, "memory");
+    let alloc = rt.alloc();
+    let mut changed = definition(alloc).expect(&rt, "memory");
     let other = changed.clone().expect(&rt, "memory");
-    let written = argument(rt.alloc(), name!(c), name!(A)).expect(&rt, "memory");
-    assert!(rt; set_argument(&mut changed, "a", written));
-    for (name, before, after) in [
-        ("a", Some("A"), Some("C")),
-        ("b", Some("B"), Some("B")),
-        ("c", None, Some("A")),
-        ("A", None, None),
-    ] {
-        let found = type_of(other.argument_by_name(name));
-        assert_eq!(rt; found, before, "{name} before");
-        let found = type_of(changed.argument_by_name(name));
-        assert_eq!(rt; found, after, "{name} after");
-    }
-    assert!(rt; changed.argument_by_name_mut("z").is_none());
+    let written = argument(alloc, name!(c), name!(A)).expect(&rt, "memory");
+    check_equal(&rt, set_argument(&mut changed, "a", written), true);
+    check_arguments(&rt, &other, &changed);
+    check_equal(&rt, changed.argument_by_name_mut("z").is_none(), true);
 }

@@ -76,8 +76,7 @@ fn check_loans(
     assert!(rt; lent == directive);
 }
 
-/// Of a directive a value is copied once, where it is lent, and not those that were lent before.
-fn check_all(rt: &impl Abort, calls: Calls, alloc: Global) {
+fn check_prints(rt: &impl Abort, calls: Calls, alloc: Global) {
     let wanted = "[1, EXAMPLE, true, null]";
     check_print(rt, calls, items(alloc), wanted, "a list takes 1");
     let wanted = "@a(x: 1, y: 2)";
@@ -86,6 +85,9 @@ fn check_all(rt: &impl Abort, calls: Calls, alloc: Global) {
     let wanted = "a: [[I!]] = [[], 1.5]";
     let made = input(alloc);
     check_print(rt, calls, made, wanted, "an input value takes 2");
+}
+
+fn check_loans_of_two(rt: &impl Abort, calls: Calls, alloc: Global) {
     for loans in [
         (["x"].as_slice(), true, "a loan of x takes 1"),
         (["y"].as_slice(), true, "a loan of y takes 1"),
@@ -103,10 +105,20 @@ fn check_all(rt: &impl Abort, calls: Calls, alloc: Global) {
     ] {
         check_loans(rt, calls, all_shared(alloc), loans);
     }
+}
+
+fn check_loans_of_one(rt: &impl Abort, calls: Calls, alloc: Global) {
     let loans = (["x"].as_slice(), true, "a loan of x alone takes 1");
     check_loans(rt, calls, one_shared(alloc, 0), loans);
     let loans = (["y"].as_slice(), true, "a loan of y alone takes 1");
     check_loans(rt, calls, one_shared(alloc, 1), loans);
+}
+
+/// Of a directive a value is copied once, where it is lent, and not those that were lent before.
+fn check_all(rt: &impl Abort, calls: Calls, alloc: Global) {
+    check_prints(rt, calls, alloc);
+    check_loans_of_two(rt, calls, alloc);
+    check_loans_of_one(rt, calls, alloc);
 }
 
 #[test]

@@ -117,28 +117,42 @@ fn check_long_texts(rt: &impl Abort, alloc: Global) {
     check_literal(rt, alloc, float.as_str(), false, true);
 }
 
-/// Short ones and long ones. What is displayed of a literal is its text, and of an error the text that is none.
+fn check_short_texts(rt: &impl Abort, alloc: Global) {
+    for made in &short_texts(rt, alloc) {
+        let text = made.as_str();
+        let is_float = is_one_of(FLOATS.as_slice(), text);
+        check_literal(rt, alloc, text, is_one_of(INTS.as_slice(), text), is_float);
+    }
+}
+
+/// What is displayed of a literal is its text.
+fn check_displayed(rt: &impl Abort, alloc: Global) {
+    let int = IntValue::new_parsed(alloc, "10").expect(rt, "memory");
+    check_made(rt, format!(in alloc; "{int}|{int:>4}"), "10|  10");
+    let float = FloatValue::new_parsed(alloc, "1.50").expect(rt, "memory");
+    check_text(rt, float.as_str(), "1.50");
+    let wanted = "1.50|1.50  |";
+    check_made(rt, format!(in alloc; "{float}|{float:<6}|"), wanted);
+}
+
+/// And of an error the text that is none.
+fn check_error_displayed(rt: &impl Abort, alloc: Global) {
+    let error = IntValue::new(alloc, "01").err().expect(rt, "an error");
+    let wanted = "`01` is not a valid GraphQL number";
+    check_made(rt, format!(in alloc; "{error}"), wanted);
+}
+
+/// Short ones and long ones.
 #[test]
 fn texts_are_literals_or_refused(rt: HostRuntime) {
     let alloc = rt.alloc();
-    for made in &short_texts(&rt, alloc) {
-        let text = made.as_str();
-        let is_float = is_one_of(FLOATS.as_slice(), text);
-        check_literal(&rt, alloc, text, is_one_of(INTS.as_slice(), text), is_float);
-    }
+    check_short_texts(&rt, alloc);
     for (text, is_int, is_float) in TEXTS {
         check_literal(&rt, alloc, text, is_int, is_float);
     }
     check_long_texts(&rt, alloc);
-    let int = IntValue::new_parsed(alloc, "10").expect(&rt, "memory");
-    let float = FloatValue::new_parsed(alloc, "1.50").expect(&rt, "memory");
-    check_text(&rt, float.as_str(), "1.50");
-    let error = IntValue::new(alloc, "01").err().expect(&rt, "an error");
-    check_made(&rt, format!(in alloc; "{int}|{int:>4}"), "10|  10");
-    let wanted = "1.50|1.50  |";
-    check_made(&rt, format!(in alloc; "{float}|{float:<6}|"), wanted);
-    let wanted = "`01` is not a valid GraphQL number";
-    check_made(&rt, format!(in alloc; "{error}"), wanted);
+    check_displayed(&rt, alloc);
+    check_error_displayed(&rt, alloc);
 }
 
 /// A text, its number within 32 bits or why there is none, and its number within 64 bits.
@@ -185,25 +199,47 @@ const WRITTEN: [(i64, &str); 6] = [
     (-2147483648, "-2147483648"),
 ];
 
+fn check_number(
+    rt: &impl Abort,
+    alloc: Global,
+    text: &str,
+    narrow: Result<i32, &str>,
+    wide: Option<i64>,
+) {
+    assert!(rt; IntValue::valid_syntax(text));
+    let int = IntValue::new_parsed(alloc, text).expect(rt, "memory");
+    check_narrow(rt, alloc, &int, narrow);
+    let int = IntValue::new(alloc, text).expect(rt, "an integer");
+    check_case(rt, text, int.try_to_i64().ok(), wide);
+}
+
+fn check_numbers(rt: &impl Abort, alloc: Global) {
+    for (text, narrow, wide) in NUMBERS {
+        check_number(rt, alloc, text, narrow, wide);
+    }
+}
+
+fn check_wide_written(rt: &impl Abort, alloc: Global, number: i64, text: &str) {
+    let int = IntValue::from_i64(alloc, number).expect(rt, "memory");
+    check_text(rt, int.as_str(), text);
+    check_case(rt, text, int.try_to_i64().ok(), Some(number));
+    let value = Value::from_i64(alloc, number).expect(rt, "memory");
+    check_case(rt, text, value.to_i64(), Some(number));
+}
+
+/// Within 64 bits, and within 32 if it fits.
+fn check_written(rt: &impl Abort, alloc: Global, number: i64, text: &str) {
+    check_wide_written(rt, alloc, number, text);
+    if let Ok(narrow) = i32::try_from(number) {
+        let int = IntValue::from_i32(alloc, narrow).expect(rt, "memory");
+        check_text(rt, int.as_str(), text);
+    }
+}
+
 #[test]
 fn numbers_are_those_of_their_texts(rt: HostRuntime) {
-    let alloc = rt.alloc();
-    for (text, narrow, wide) in NUMBERS {
-        assert!(rt; IntValue::valid_syntax(text));
-        let int = IntValue::new_parsed(alloc, text).expect(&rt, "memory");
-        check_narrow(&rt, alloc, &int, narrow);
-        let int = IntValue::new(alloc, text).expect(&rt, "an integer");
-        check_case(&rt, &text, int.try_to_i64().ok(), wide);
-    }
+    check_numbers(&rt, rt.alloc());
     for (number, text) in WRITTEN {
-        let int = IntValue::from_i64(alloc, number).expect(&rt, "memory");
-        check_text(&rt, int.as_str(), text);
-        check_case(&rt, &text, int.try_to_i64().ok(), Some(number));
-        let value = Value::from_i64(alloc, number).expect(&rt, "memory");
-        check_case(&rt, &text, value.to_i64(), Some(number));
-        if let Ok(narrow) = i32::try_from(number) {
-            let int = IntValue::from_i32(alloc, narrow).expect(&rt, "memory");
-            check_text(&rt, int.as_str(), text);
-        }
+        check_written(&rt, rt.alloc(), number, text);
     }
 }

@@ -12,6 +12,22 @@ use graphql_values::directive::{Directive, SpecifiedArgumentError};
 use graphql_values::directive_list::DirectiveList;
 use graphql_values::literal::{FloatValue, IntValue};
 use graphql_values::value::Value;
+use std::alloc::Global;
+use std::process::Abort;
+
+/// Neither of two directives that share their arguments differs from what they were.
+fn check_unchanged(rt: &impl Abort, shared: &Directive, original: &Directive, before: &Directive) {
+    check_equal(rt, *shared == *before, true);
+    check_equal(rt, *original == *before, true);
+}
+
+/// The value of `y` is lent, or memory is refused.
+fn check_lent(rt: &impl Abort, directive: &mut Directive) {
+    match directive.specified_argument_by_name_mut("y") {
+        Ok(value) => check_equal(rt, value.to_i32(), Some(2)),
+        Err(error) => check_equal(rt, error.is_memory(), true),
+    }
+}
 
 /// No memory is asked for what is not specified, nor of one owner.
 /// Allocations: 12.
@@ -24,22 +40,29 @@ fn a_value_is_lent_or_the_directive_stays(rt: HostRuntime) {
     let Ok(mut shared) = original.clone() else {
         return;
     };
-    check_equal(
-        &rt,
-        shared.specified_argument_by_name_mut("z").err(),
-        Some(SpecifiedArgumentError::NotSpecified),
-    );
-    assert!(rt; shared == before && original == before);
-    let error = match shared.specified_argument_by_name_mut("y") {
-        Ok(value) => {
-            assert!(rt; value.to_i32() == Some(2));
-            None
-        }
-        Err(error) => Some(error),
+    let error = shared.specified_argument_by_name_mut("z").err();
+    check_equal(&rt, error, Some(SpecifiedArgumentError::NotSpecified));
+    check_unchanged(&rt, &shared, &original, &before);
+    check_lent(&rt, &mut shared);
+    check_unchanged(&rt, &shared, &original, &before);
+    let is_lent = before.specified_argument_by_name_mut("y").is_ok();
+    check_equal(&rt, is_lent, true);
+}
+
+/// The node is pushed and taken again, or handed back.
+fn check_pushed(rt: &impl Abort, alloc: Global, list: &mut DirectiveList, node: Node<Directive>) {
+    let back = match list.push(node) {
+        Ok(()) => list.pop(),
+        Err(node) => Some(node),
     };
-    assert!(rt; error.is_none_or(|error| error.is_memory()));
-    assert!(rt; shared == before && original == before);
-    assert!(rt; before.specified_argument_by_name_mut("y").is_ok());
+    let back = back.expect(rt, "the node");
+    check_equal(rt, *back == Directive::new(alloc, name!(c)), true);
+}
+
+fn check_collected(rt: &impl Abort, alloc: Global, list: DirectiveList, wanted: &DirectiveList) {
+    if let Ok(collected) = DirectiveList::collect_from(alloc, list.into_iter()) {
+        check_equal(rt, collected == *wanted, true);
+    }
 }
 
 /// Allocations: 9.
@@ -50,15 +73,42 @@ fn nodes_are_pushed_and_collected_or_handed_back(rt: HostRuntime) {
         return;
     };
     if let Ok(node) = Node::new(alloc, Directive::new(alloc, name!(c))) {
-        let back = match list.push(node) {
-            Ok(()) => list.pop(),
-            Err(node) => Some(node),
-        };
-        assert!(rt; back.is_some_and(|node| *node == Directive::new(alloc, name!(c))));
-        assert!(rt; list == before);
+        check_pushed(&rt, alloc, &mut list, node);
+        check_equal(&rt, list == before, true);
     }
-    if let Ok(collected) = DirectiveList::collect_from(alloc, list.into_iter()) {
-        assert!(rt; collected == before);
+    check_collected(&rt, alloc, list, &before);
+}
+
+fn check_numbers(rt: &impl Abort, alloc: Global) {
+    for made in [
+        IntValue::from_i32(alloc, -2147483648),
+        IntValue::from_i64(alloc, -9223372036854775808),
+    ] {
+        check_cloned(&made.expect(rt, "no memory")).expect(rt, "a clone");
+    }
+}
+
+fn check_int(rt: &impl Abort, alloc: Global) {
+    let int = IntValue::new(alloc, "-12").expect(rt, "no memory");
+    check_text(rt, int.as_str(), "-12");
+}
+
+fn check_floats(rt: &impl Abort, alloc: Global) {
+    let text = "1.5000000000000000000000000002";
+    let float = FloatValue::new_parsed(alloc, text).expect(rt, "no memory");
+    check_text(rt, float.as_str(), text);
+    check_cloned(&float).expect(rt, "a clone");
+    let float = FloatValue::new(alloc, text).expect(rt, "no memory");
+    check_equal(rt, float.as_str().len(), 30);
+}
+
+fn check_values(rt: &impl Abort, alloc: Global) {
+    for (value, wanted) in [
+        (Value::Null, "null"),
+        (Value::Enum(name!(ON)), "ON"),
+        (Value::List(Vec::new(alloc)), "[]"),
+    ] {
+        check_printed(rt, &value, wanted);
     }
 }
 
@@ -66,26 +116,9 @@ fn nodes_are_pushed_and_collected_or_handed_back(rt: HostRuntime) {
 #[test]
 fn no_memory_is_asked_for(rt: HostRuntime) {
     let alloc = rt.alloc();
-    for made in [
-        IntValue::from_i32(alloc, -2147483648),
-        IntValue::from_i64(alloc, -9223372036854775808),
-    ] {
-        check_cloned(&made.expect(&rt, "no memory")).expect(&rt, "a clone");
-    }
-    let int = IntValue::new(alloc, "-12").expect(&rt, "no memory");
-    check_text(&rt, int.as_str(), "-12");
-    let text = "1.5000000000000000000000000002";
-    let float = FloatValue::new_parsed(alloc, text).expect(&rt, "no memory");
-    check_text(&rt, float.as_str(), text);
-    check_cloned(&float).expect(&rt, "a clone");
-    let float = FloatValue::new(alloc, text).expect(&rt, "no memory");
-    check_equal(&rt, float.as_str().len(), 30);
-    for (value, wanted) in [
-        (Value::Null, "null"),
-        (Value::Enum(name!(ON)), "ON"),
-        (Value::List(Vec::new(alloc)), "[]"),
-    ] {
-        check_printed(&rt, &value, wanted);
-    }
+    check_numbers(&rt, alloc);
+    check_int(&rt, alloc);
+    check_floats(&rt, alloc);
+    check_values(&rt, alloc);
     check_printed(&rt, &Directive::new(alloc, name!(a)), "@a");
 }

@@ -5,6 +5,7 @@ use graphql_base::node::Node;
 use graphql_base::span::{FileId, SourceSpan};
 use graphql_values::value::Value;
 use std::alloc::{AllocError, Global};
+use std::process::Abort;
 
 /// 1 at a place.
 fn placed(alloc: Global, file: u64) -> Result<Node<Value>, AllocError> {
@@ -33,21 +34,37 @@ pub(super) fn object(alloc: Global, file: u64) -> Result<Value, AllocError> {
     Ok(Value::Object(fields))
 }
 
-#[test]
-fn queries(rt: HostRuntime) {
-    let alloc = rt.alloc();
-    assert!(rt; Value::from(()).is_null());
-    check_equal(&rt, Value::from(true).to_bool(), Some(true));
+fn check_words(rt: &impl Abort) {
+    check_equal(rt, Value::from(()).is_null(), true);
+    check_equal(rt, Value::from(true).to_bool(), Some(true));
     let name = Value::Enum(name!(A));
-    assert!(rt; name.as_enum().is_some());
-    assert!(rt; name.as_variable().is_none());
-    let text = Value::from_text(alloc, "é\n").expect(&rt, "memory");
-    check_equal(&rt, text.as_str(), Some("é\n"));
-    assert!(rt; text == Value::from(String::from_str(alloc, "é\n").expect(&rt, "memory")));
-    let number = Value::from_i32(alloc, -5).expect(&rt, "memory");
-    check_equal(&rt, number.to_i32(), Some(-5));
-    let value = object(alloc, 1).expect(&rt, "memory");
+    check_equal(rt, name.as_enum().is_some(), true);
+    check_equal(rt, name.as_variable().is_none(), true);
+}
+
+fn check_string(rt: &impl Abort, alloc: Global) {
+    let value = Value::from_text(alloc, "é\n").expect(rt, "memory");
+    check_equal(rt, value.as_str(), Some("é\n"));
+    let text = String::from_str(alloc, "é\n").expect(rt, "memory");
+    check_equal(rt, value == Value::from(text), true);
+}
+
+fn check_number(rt: &impl Abort, alloc: Global) {
+    let number = Value::from_i32(alloc, -5).expect(rt, "memory");
+    check_equal(rt, number.to_i32(), Some(-5));
+}
+
+fn check_object(rt: &impl Abort, alloc: Global) {
+    let value = object(alloc, 1).expect(rt, "memory");
     let field = value.as_object().and_then(|fields| fields.first());
     let items = field.and_then(|field| field.1.as_list());
-    check_equal(&rt, items.map(|items| items.len()), Some(2));
+    check_equal(rt, items.map(|items| items.len()), Some(2));
+}
+
+#[test]
+fn queries(rt: HostRuntime) {
+    check_words(&rt);
+    check_string(&rt, rt.alloc());
+    check_number(&rt, rt.alloc());
+    check_object(&rt, rt.alloc());
 }

@@ -25,25 +25,37 @@ fn check_calls<T: Clone + PartialEq + Display + Syntax + Drop>(
     }
 }
 
+fn check_values(rt: &impl Abort, alloc: Global) {
+    let displayed = "[\n  [],\n  1.5,\n]";
+    check_calls(rt, alloc, nested(alloc), "[[], 1.5]", displayed);
+    if let Ok(value) = items(alloc) {
+        check_print_or_refused(rt, &value, "[1, EXAMPLE, true, null]");
+    }
+}
+
+fn check_directives(rt: &impl Abort, alloc: Global) {
+    let one = "@a(x: 1, y: 2)";
+    check_calls(rt, alloc, directive(alloc), one, one);
+    let two = " @a @b";
+    check_calls(rt, alloc, directives(alloc), two, two);
+}
+
+fn check_definitions(rt: &impl Abort, alloc: Global) {
+    let flat = "a: [[I!]] = [[], 1.5]";
+    let displayed = "a: [[I!]] = [\n  [],\n  1.5,\n]";
+    check_calls(rt, alloc, input(alloc), flat, displayed);
+    let text = "directive @d(a: [[I!]] = [[], 1.5])";
+    check_calls(rt, alloc, definition(alloc), text, text);
+}
+
 /// Trees of each kind: of a directive and more the text is on one line in each layout.
 /// Allocations: 76.
 #[test]
 fn trees_are_copied_printed_and_displayed_or_refused(rt: HostRuntime) {
     let alloc = rt.alloc();
-    let displayed = "[\n  [],\n  1.5,\n]";
-    check_calls(&rt, alloc, nested(alloc), "[[], 1.5]", displayed);
-    if let Ok(value) = items(alloc) {
-        check_print_or_refused(&rt, &value, "[1, EXAMPLE, true, null]");
-    }
-    let one = "@a(x: 1, y: 2)";
-    check_calls(&rt, alloc, directive(alloc), one, one);
-    let two = " @a @b";
-    check_calls(&rt, alloc, directives(alloc), two, two);
-    let flat = "a: [[I!]] = [[], 1.5]";
-    let displayed = "a: [[I!]] = [\n  [],\n  1.5,\n]";
-    check_calls(&rt, alloc, input(alloc), flat, displayed);
-    let text = "directive @d(a: [[I!]] = [[], 1.5])";
-    check_calls(&rt, alloc, definition(alloc), text, text);
+    check_values(&rt, alloc);
+    check_directives(&rt, alloc);
+    check_definitions(&rt, alloc);
     for form in FORMS {
         if let Ok(value) = value_of(alloc, form) {
             check_cloned_or_refused(&value).expect(&rt, "a clone");

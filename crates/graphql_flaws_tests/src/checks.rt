@@ -7,32 +7,60 @@ use graphql_ast_json::{
 };
 use graphql_flaws::{FindFlaws, FoundFlaw};
 use std::alloc::Global;
+use std::fmt::{Debug, Display};
 use std::process::Abort;
 
-/// That these are told, a line each.
-fn check_lines(rt: &impl Abort, alloc: Global, flaws: &[FoundFlaw<'_>], wanted: &[&str]) {
+/// That these are equal. A call, since a comparison written out is dear where many follow: the proof of a test goes over all of them.
+pub(crate) fn check_equal<T: PartialEq + Debug + Drop>(rt: &impl Abort, found: T, wanted: T) {
+    assert_eq!(rt; found, wanted);
+}
+
+/// The same of one of several cases, which is told where they differ.
+pub(crate) fn check_case<T: PartialEq + Debug + Drop>(
+    rt: &impl Abort,
+    case: impl Display + Drop,
+    found: T,
+    wanted: T,
+) {
+    assert_eq!(rt; found, wanted, "{case}");
+}
+
+/// What is told of flaws, a line each.
+fn told(rt: &impl Abort, alloc: Global, flaws: &[FoundFlaw<'_>]) -> String {
     let mut lines = String::new(alloc);
     for flaw in flaws {
         let line = format!(in alloc; "{flaw}\n").expect(rt, "memory");
         lines.push_str(line.as_str()).expect(rt, "memory");
     }
+    lines
+}
+
+/// These, a line each.
+fn lines_of(rt: &impl Abort, alloc: Global, lines: &[&str]) -> String {
     let mut whole = String::new(alloc);
-    for line in wanted {
+    for line in lines {
         whole.push_str(line).expect(rt, "memory");
         whole.push('\n').expect(rt, "memory");
     }
-    assert_eq!(rt; lines.as_str(), whole.as_str());
+    whole
+}
+
+/// That these are told, a line each.
+fn check_lines(rt: &impl Abort, alloc: Global, flaws: &[FoundFlaw<'_>], wanted: &[&str]) {
+    let found = told(rt, alloc, flaws);
+    let wanted = lines_of(rt, alloc, wanted);
+    check_equal(rt, found.as_str(), wanted.as_str());
 }
 
 /// That the first is what `find_ill_formed` finds.
 fn check_first(rt: &impl Abort, first: Option<&FoundFlaw<'_>>, found: Option<IllFormed<'_>>) {
     match (first, found) {
         (Some(first), Some(found)) => {
-            assert_eq!(rt; first.found.condition, found.condition);
-            assert!(rt; first.found.name == found.name);
-            assert_eq!(rt; first.found.around, found.around);
+            check_equal(rt, first.found.condition, found.condition);
+            check_equal(rt, first.found.name, found.name);
+            check_equal(rt, first.found.around, found.around);
         }
-        (first, found) => assert!(rt; first.is_none() && found.is_none()),
+        (first, found) => check_equal(rt, (first.is_none(), found.is_none()), (true, true)),
     }
 }
 
@@ -50,9 +78,9 @@ fn check_path<T: AstJson + FindFlaws + Drop>(
         (Some(first), Err(WellFormedError::IllFormed { path, broken, .. })) => {
             let ours = format!(in alloc; "{first}").expect(rt, "memory");
             let read = format!(in alloc; "at {path}: {broken}").expect(rt, "memory");
-            assert_eq!(rt; ours.as_str(), read.as_str());
+            check_equal(rt, ours.as_str(), read.as_str());
         }
-        (first, read) => assert!(rt; first.is_none() && read.is_ok(), "{json}"),
+        (first, read) => check_case(rt, json, (first.is_none(), read.is_ok()), (true, true)),
     }
 }
 

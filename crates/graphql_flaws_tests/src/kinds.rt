@@ -126,21 +126,32 @@ const FRAGMENT: Row = (
     ],
 );
 
+fn check_values(rt: &impl Abort, alloc: Global) {
+    check_rows::<Value>(rt, alloc, &VALUES);
+    check_rows::<Directive>(rt, alloc, &[DIRECTIVE]);
+    check_rows::<DirectiveList>(rt, alloc, &[DIRECTIVES]);
+    check_rows::<InputValueDefinition>(rt, alloc, &[INPUT_VALUE]);
+    check_rows::<DirectiveDefinition>(rt, alloc, &[DIRECTIVE_DEFINITION]);
+}
+
+fn check_selections(rt: &impl Abort, alloc: Global) {
+    check_rows::<Field>(rt, alloc, &[FIELD]);
+    check_rows::<FragmentSpread>(rt, alloc, &[SPREAD]);
+    check_rows::<InlineFragment>(rt, alloc, &[INLINE]);
+    check_rows::<Selection>(rt, alloc, &[FIELD, SPREAD, INLINE]);
+}
+
+fn check_executable_definitions(rt: &impl Abort, alloc: Global) {
+    check_rows::<VariableDefinition>(rt, alloc, &[VARIABLE_DEFINITION]);
+    check_rows::<OperationDefinition>(rt, alloc, &[OPERATION]);
+    check_rows::<FragmentDefinition>(rt, alloc, &[FRAGMENT]);
+}
+
 #[test]
 fn flaws_of_values_and_executable_kinds(rt: HostRuntime) {
-    let alloc = rt.alloc();
-    check_rows::<Value>(&rt, alloc, &VALUES);
-    check_rows::<Directive>(&rt, alloc, &[DIRECTIVE]);
-    check_rows::<DirectiveList>(&rt, alloc, &[DIRECTIVES]);
-    check_rows::<InputValueDefinition>(&rt, alloc, &[INPUT_VALUE]);
-    check_rows::<DirectiveDefinition>(&rt, alloc, &[DIRECTIVE_DEFINITION]);
-    check_rows::<Field>(&rt, alloc, &[FIELD]);
-    check_rows::<FragmentSpread>(&rt, alloc, &[SPREAD]);
-    check_rows::<InlineFragment>(&rt, alloc, &[INLINE]);
-    check_rows::<Selection>(&rt, alloc, &[FIELD, SPREAD, INLINE]);
-    check_rows::<VariableDefinition>(&rt, alloc, &[VARIABLE_DEFINITION]);
-    check_rows::<OperationDefinition>(&rt, alloc, &[OPERATION]);
-    check_rows::<FragmentDefinition>(&rt, alloc, &[FRAGMENT]);
+    check_values(&rt, rt.alloc());
+    check_selections(&rt, rt.alloc());
+    check_executable_definitions(&rt, rt.alloc());
 }
 
 // DEFINITIONS AND EXTENSIONS
@@ -269,25 +280,36 @@ const INPUT_EXTENSIONS: [Row; 3] = [
     ),
 ];
 
+fn check_parts(rt: &impl Abort, alloc: Global) {
+    check_rows::<Document>(rt, alloc, &[DOCUMENT]);
+    check_rows::<SchemaDefinition>(rt, alloc, &[SCHEMA]);
+    check_rows::<Definition>(rt, alloc, &[SCHEMA]);
+    check_rows::<EnumValueDefinition>(rt, alloc, &[ENUM_VALUE]);
+    check_rows::<FieldDefinition>(rt, alloc, &[FIELD_DEFINITION]);
+}
+
+fn check_types(rt: &impl Abort, alloc: Global) {
+    check_rows::<ScalarTypeDefinition>(rt, alloc, &[SCALAR]);
+    check_rows::<UnionTypeDefinition>(rt, alloc, &[UNION]);
+    check_rows::<ObjectTypeDefinition>(rt, alloc, &[OBJECT]);
+    check_rows::<InterfaceTypeDefinition>(rt, alloc, &[INTERFACE]);
+    check_rows::<EnumTypeDefinition>(rt, alloc, &[ENUM]);
+    check_rows::<InputObjectTypeDefinition>(rt, alloc, &[INPUT]);
+}
+
+fn check_extensions(rt: &impl Abort, alloc: Global) {
+    check_rows::<SchemaExtension>(rt, alloc, &SCHEMA_EXTENSIONS);
+    check_rows::<ScalarTypeExtension>(rt, alloc, &SCALAR_EXTENSIONS);
+    check_rows::<ObjectTypeExtension>(rt, alloc, &OBJECT_EXTENSIONS);
+    check_rows::<InterfaceTypeExtension>(rt, alloc, &INTERFACE_EXTENSIONS);
+    check_rows::<UnionTypeExtension>(rt, alloc, &UNION_EXTENSIONS);
+    check_rows::<EnumTypeExtension>(rt, alloc, &ENUM_EXTENSIONS);
+    check_rows::<InputObjectTypeExtension>(rt, alloc, &INPUT_EXTENSIONS);
+}
+
 #[test]
 fn flaws_of_definitions_and_extensions(rt: HostRuntime) {
-    let alloc = rt.alloc();
-    check_rows::<Document>(&rt, alloc, &[DOCUMENT]);
-    check_rows::<SchemaDefinition>(&rt, alloc, &[SCHEMA]);
-    check_rows::<Definition>(&rt, alloc, &[SCHEMA]);
-    check_rows::<EnumValueDefinition>(&rt, alloc, &[ENUM_VALUE]);
-    check_rows::<FieldDefinition>(&rt, alloc, &[FIELD_DEFINITION]);
-    check_rows::<ScalarTypeDefinition>(&rt, alloc, &[SCALAR]);
-    check_rows::<UnionTypeDefinition>(&rt, alloc, &[UNION]);
-    check_rows::<ObjectTypeDefinition>(&rt, alloc, &[OBJECT]);
-    check_rows::<InterfaceTypeDefinition>(&rt, alloc, &[INTERFACE]);
-    check_rows::<EnumTypeDefinition>(&rt, alloc, &[ENUM]);
-    check_rows::<InputObjectTypeDefinition>(&rt, alloc, &[INPUT]);
-    check_rows::<SchemaExtension>(&rt, alloc, &SCHEMA_EXTENSIONS);
-    check_rows::<ScalarTypeExtension>(&rt, alloc, &SCALAR_EXTENSIONS);
-    check_rows::<ObjectTypeExtension>(&rt, alloc, &OBJECT_EXTENSIONS);
-    check_rows::<InterfaceTypeExtension>(&rt, alloc, &INTERFACE_EXTENSIONS);
-    check_rows::<UnionTypeExtension>(&rt, alloc, &UNION_EXTENSIONS);
-    check_rows::<EnumTypeExtension>(&rt, alloc, &ENUM_EXTENSIONS);
-    check_rows::<InputObjectTypeExtension>(&rt, alloc, &INPUT_EXTENSIONS);
+    check_parts(&rt, rt.alloc());
+    check_types(&rt, rt.alloc());
+    check_extensions(&rt, rt.alloc());
 }

@@ -1,12 +1,13 @@
 //! Documents with several flaws, with locations and without, and documents that have none.
-use crate::checks::check;
+use crate::checks::{check, check_equal};
 use crate::notation::json_of;
 use graphql_ast::ast::{Document, Field, FragmentSpread, Selection, Value};
 use graphql_ast::span::FileId;
 use graphql_ast::{Node, name};
 use graphql_ast_json::from_ast_json_str;
-use graphql_flaws::FindFlaws;
+use graphql_flaws::{FindFlaws, FoundFlaw};
 use std::alloc::{AllocError, Global};
+use std::process::Abort;
 
 /// Definitions, and what is told of a document of them.
 const DOCUMENTS: [(&str, &[&str]); 5] = [
@@ -61,26 +62,34 @@ const LOCATED: &str = "(Document;'definitions':[\
 
 const STARTS: [Option<u32>; 5] = [Some(9), Some(9), Some(0), Some(9), None];
 
+fn check_document(rt: &impl Abort, alloc: Global, definitions: &str, wanted: &[&str]) {
+    let row = format!(in alloc; "(Document;'definitions':[{definitions}])").expect(rt, "memory");
+    check::<Document>(rt, alloc, row.as_str(), wanted);
+}
+
+fn check_starts(rt: &impl Abort, flaws: &[FoundFlaw<'_>]) {
+    check_equal(rt, flaws.len(), STARTS.len());
+    for (flaw, wanted) in flaws.iter().zip(STARTS) {
+        let start = flaw.found.location().map(|span| span.start());
+        check_equal(rt, start, wanted);
+    }
+}
+
+fn check_located(rt: &impl Abort, alloc: Global) {
+    let json = json_of(alloc, LOCATED).expect(rt, "memory");
+    let document = from_ast_json_str::<Document>(alloc, json.as_str(), FileId::new(1));
+    let document = document.expect(rt, "a document");
+    let flaws = document.flaws(alloc).expect(rt, "memory");
+    check_starts(rt, &flaws);
+}
+
 /// And the flaws have the innermost location.
 #[test]
 fn documents_have_their_flaws(rt: HostRuntime) {
-    let alloc = rt.alloc();
     for (definitions, wanted) in DOCUMENTS {
-        let row = format!(in alloc; "(Document;'definitions':[{definitions}])");
-        let row = row.expect(&rt, "memory");
-        check::<Document>(&rt, alloc, row.as_str(), wanted);
+        check_document(&rt, rt.alloc(), definitions, wanted);
     }
-    let json = json_of(alloc, LOCATED).expect(&rt, "memory");
-    let document = from_ast_json_str::<Document>(alloc, json.as_str(), FileId::new(1));
-    let document = document.expect(&rt, "a document");
-    let flaws = document.flaws(alloc).expect(&rt, "memory");
-    assert_eq!(rt; flaws.len(), STARTS.len());
-    for (flaw, wanted) in flaws.iter().zip(STARTS) {
-        match flaw.found.location() {
-            Some(span) => assert_eq!(rt; Some(span.start()), wanted),
-            None => assert!(rt; wanted.is_none()),
-        }
-    }
+    check_located(&rt, rt.alloc());
 }
 
 const LEVELS: usize = 1000;
@@ -106,19 +115,28 @@ fn lists(alloc: Global, levels: usize) -> Result<Value, AllocError> {
     Ok(value)
 }
 
+/// That there is one flaw, with so many steps in its path.
+fn check_one(rt: &impl Abort, flaws: &[FoundFlaw<'_>], steps: usize) {
+    check_equal(rt, flaws.len(), 1);
+    for flaw in flaws {
+        check_equal(rt, flaw.path.steps.len(), steps);
+    }
+}
+
+fn check_fields(rt: &impl Abort, alloc: Global) {
+    let fields = fields(alloc, LEVELS).expect(rt, "memory");
+    let flaws = fields.flaws(alloc).expect(rt, "memory");
+    check_one(rt, &flaws, 3 * LEVELS + 2);
+}
+
+fn check_lists(rt: &impl Abort, alloc: Global) {
+    let lists = lists(alloc, LEVELS).expect(rt, "memory");
+    let flaws = lists.flaws(alloc).expect(rt, "memory");
+    check_one(rt, &flaws, 2 * LEVELS + 1);
+}
+
 #[test]
 fn deep_trees_have_their_flaws(rt: HostRuntime) {
-    let alloc = rt.alloc();
-    let fields = fields(alloc, LEVELS).expect(&rt, "memory");
-    let flaws = fields.flaws(alloc).expect(&rt, "memory");
-    assert_eq!(rt; flaws.len(), 1);
-    for flaw in &flaws {
-        assert_eq!(rt; flaw.path.steps.len(), 3 * LEVELS + 2);
-    }
-    let lists = lists(alloc, LEVELS).expect(&rt, "memory");
-    let flaws = lists.flaws(alloc).expect(&rt, "memory");
-    assert_eq!(rt; flaws.len(), 1);
-    for flaw in &flaws {
-        assert_eq!(rt; flaw.path.steps.len(), 2 * LEVELS + 1);
-    }
+    check_fields(&rt, rt.alloc());
+    check_lists(&rt, rt.alloc());
 }

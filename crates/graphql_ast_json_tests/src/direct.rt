@@ -15,6 +15,7 @@ use graphql_base::node::{Node, NodeStr};
 use graphql_base::span::FileId;
 use serde_json::Value as Json;
 use std::alloc::{AllocError, Global};
+use std::process::Abort;
 
 /// A document, which is read of JSON in either form. Of a value of `serde_json` by itself it answers that memory was refused.
 #[derive(Drop)]
@@ -72,18 +73,16 @@ const TEXTS: [(&str, &str); 3] = [
     ),
 ];
 
-/// A text of a kind that reads parsed JSON is read by its `read_json`, as it is parsed. So are those of the kinds of this repository,
-/// and not of all of other crates.
-#[test]
-fn kinds_that_read_parsed_json_are_read_by_themselves(rt: HostRuntime) {
-    let alloc = rt.alloc();
-    for (text, wanted) in TEXTS {
-        let told = match from_ast_json_str::<Direct>(alloc, text, FileId::new(1)) {
-            Ok(direct) => format!(in alloc; "{}", direct.document),
-            Err(error) => format!(in alloc; "{error}"),
-        };
-        check_equal(&rt, told.expect(&rt, "memory").as_str(), wanted);
-    }
+fn check_told(rt: &impl Abort, alloc: Global, text: &str, wanted: &str) {
+    let told = match from_ast_json_str::<Direct>(alloc, text, FileId::new(1)) {
+        Ok(direct) => format!(in alloc; "{}", direct.document),
+        Err(error) => format!(in alloc; "{error}"),
+    };
+    check_equal(rt, told.expect(rt, "memory").as_str(), wanted);
+}
+
+/// Kinds, and whether each reads parsed JSON.
+fn check_kinds(rt: &impl Abort) {
     for (kind, reads, wanted) in [
         ("document", Document::reads_parsed(), true),
         ("node of a document", Node::<Document>::reads_parsed(), true),
@@ -94,6 +93,16 @@ fn kinds_that_read_parsed_json_are_read_by_themselves(rt: HostRuntime) {
         ("text", NodeStr::reads_parsed(), true),
         ("kind of another crate", Outside::reads_parsed(), false),
     ] {
-        check_case(&rt, &kind, &reads, &wanted);
+        check_case(rt, kind, reads, wanted);
     }
+}
+
+/// A text of a kind that reads parsed JSON is read by its `read_json`, as it is parsed. So are those of the kinds of this repository,
+/// and not of all of other crates.
+#[test]
+fn kinds_that_read_parsed_json_are_read_by_themselves(rt: HostRuntime) {
+    for (text, wanted) in TEXTS {
+        check_told(&rt, rt.alloc(), text, wanted);
+    }
+    check_kinds(&rt);
 }

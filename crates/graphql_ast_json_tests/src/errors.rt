@@ -64,30 +64,49 @@ fn refusal(rt: &impl Abort, alloc: Global, text: &str) -> String {
     }
 }
 
+/// What is said of a text that is of no value, and whether it is too deep.
+fn check_said(rt: &impl Abort, alloc: Global, text: &str, wanted: &str) {
+    let said = refusal(rt, alloc, text);
+    check_case(rt, text, said.as_str(), wanted);
+    let is_deep = is_too_deep(alloc, text).expect(rt, "memory");
+    check_case(rt, text, is_deep, wanted == TOO_DEEP);
+}
+
+fn check_json(rt: &impl Abort, alloc: Global, parts: &[(&str, usize)], wanted: &str) {
+    let text = text_of(alloc, parts).expect(rt, "memory");
+    check_said(rt, alloc, text.as_str(), wanted);
+}
+
+/// What `serde_json` says of a text that is no JSON.
+fn no_json(rt: &impl Abort, alloc: Global, text: &str) -> String {
+    let Err(error) = Json::from_str(alloc, text) else {
+        panic!(rt; "{text} is no JSON");
+    };
+    format!(in alloc; "not JSON: {error}").expect(rt, "memory")
+}
+
+fn check_no_json(rt: &impl Abort, alloc: Global, parts: &[(&str, usize)]) {
+    let text = text_of(alloc, parts).expect(rt, "memory");
+    let wanted = no_json(rt, alloc, text.as_str());
+    check_said(rt, alloc, text.as_str(), wanted.as_str());
+    check_case(rt, &text, wanted.as_str() == TOO_DEEP, false);
+}
+
+fn check_memory(rt: &impl Abort, alloc: Global) {
+    let error = AstJsonError::Memory;
+    check_equal(rt, error.is_memory(), true);
+    let said = format!(in alloc; "{error}").expect(rt, "memory");
+    check_equal(rt, said.as_str(), "out of memory");
+}
+
 /// JSON that is too deep, texts that are no JSON, and refused memory.
 #[test]
 fn texts_and_memory_are_named(rt: HostRuntime) {
-    let alloc = rt.alloc();
     for (parts, wanted) in JSON {
-        let text = text_of(alloc, parts).expect(&rt, "memory");
-        let said = refusal(&rt, alloc, text.as_str());
-        check_case(&rt, &text, said.as_str(), wanted);
-        let is_deep = is_too_deep(alloc, text.as_str()).expect(&rt, "memory");
-        check_case(&rt, &text, is_deep, wanted == TOO_DEEP);
+        check_json(&rt, rt.alloc(), parts, wanted);
     }
     for parts in NO_JSON {
-        let text = text_of(alloc, parts).expect(&rt, "memory");
-        let Err(error) = Json::from_str(alloc, text.as_str()) else {
-            panic!(rt; "{text} is no JSON");
-        };
-        let wanted = format!(in alloc; "not JSON: {error}").expect(&rt, "memory");
-        let said = refusal(&rt, alloc, text.as_str());
-        check_case(&rt, &text, said.as_str(), wanted.as_str());
-        let is_deep = is_too_deep(alloc, text.as_str()).expect(&rt, "memory");
-        assert!(rt; !is_deep, "{text}");
+        check_no_json(&rt, rt.alloc(), parts);
     }
-    let error = AstJsonError::Memory;
-    assert!(rt; error.is_memory());
-    let said = format!(in alloc; "{error}").expect(&rt, "memory");
-    check_equal(&rt, said.as_str(), "out of memory");
+    check_memory(&rt, rt.alloc());
 }

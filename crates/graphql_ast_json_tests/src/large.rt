@@ -79,15 +79,20 @@ fn list_types(alloc: Global) -> Result<Type, AllocError> {
     Ok(ty)
 }
 
+/// A field with an inline fragment of these selections.
+fn set_around(alloc: Global, set: Vec<Selection>) -> Result<Vec<Selection>, AllocError> {
+    let mut fragment = InlineFragment::new(alloc);
+    fragment.selection_set = set;
+    let mut field = Field::new(alloc, name!(a));
+    field.selection_set = vec![in alloc; Selection::inline_fragment(alloc, fragment)?]?;
+    Ok(vec![in alloc; Selection::field(alloc, field)?]?)
+}
+
 /// Fields, in each of which an inline fragment stands.
 fn sets(alloc: Global) -> Result<Vec<Selection>, AllocError> {
     let mut set = vec![in alloc; Selection::field(alloc, Field::new(alloc, name!(a)))?]?;
     for _ in 0..LEVELS / 2 {
-        let mut fragment = InlineFragment::new(alloc);
-        fragment.selection_set = set;
-        let mut field = Field::new(alloc, name!(a));
-        field.selection_set = vec![in alloc; Selection::inline_fragment(alloc, fragment)?]?;
-        set = vec![in alloc; Selection::field(alloc, field)?]?;
+        set = set_around(alloc, set)?;
     }
     Ok(set)
 }
@@ -161,35 +166,59 @@ fn check_made<T: AstJson + PartialEq + Drop>(
     check_written(rt, alloc, &tree);
 }
 
+fn check_long_list(rt: &impl Abort, alloc: Global) {
+    let ends = (r#"{"kind":"ListValue","values":["#, "]}");
+    let text = repeated(rt, alloc, ends, r#"{"kind":"NullValue"}"#, 5000);
+    let list = check_read::<Value>(rt, alloc, text.as_str());
+    check_equal(rt, list.as_list().map(|items| items.len()), Some(5000));
+}
+
+fn check_long_operation(rt: &impl Abort, alloc: Global) {
+    let text = repeated(rt, alloc, OPERATION, FIELD, 5000);
+    let query = check_read::<OperationDefinition>(rt, alloc, text.as_str());
+    check_equal(rt, query.selection_set.len(), 5000);
+}
+
+fn check_long_document(rt: &impl Abort, alloc: Global) {
+    let ends = (r#"{"kind":"Document","definitions":["#, "]}");
+    let text = repeated(rt, alloc, ends, SCALAR, 17_000);
+    check_equal(rt, text.len() > 1 << 20, true);
+    let document = check_read::<Document>(rt, alloc, text.as_str());
+    check_equal(rt, document.definitions.len(), 17_000);
+}
+
+fn check_long_string(rt: &impl Abort, alloc: Global) {
+    let letters = "x".repeat(alloc, (1 << 20) + 1).expect(rt, "memory");
+    let text = format!(in alloc; "{{\"kind\":\"StringValue\",\"value\":\"{letters}\"}}");
+    let string = check_read::<Value>(rt, alloc, text.expect(rt, "memory").as_str());
+    check_equal(rt, string.as_str(), Some(letters.as_str()));
+}
+
+fn check_deep_values(rt: &impl Abort, alloc: Global) {
+    check_made(rt, alloc, lists(alloc));
+    check_made(rt, alloc, directive(alloc));
+    check_made(rt, alloc, list_types(alloc));
+    check_made(rt, alloc, variable(alloc));
+    check_made(rt, alloc, input(alloc));
+    check_made(rt, alloc, field_definition(alloc));
+}
+
+fn check_deep_selections(rt: &impl Abort, alloc: Global) {
+    check_made(rt, alloc, selection(alloc));
+    check_made(rt, alloc, fragment(alloc));
+    check_made(rt, alloc, operation(alloc));
+    check_made(rt, alloc, definition(alloc));
+    check_made(rt, alloc, deep_document(alloc));
+}
+
 /// Long lists and texts, and deep trees. The document is of a text above 1 MiB, and so is the string.
 #[test]
 fn large_trees_are_read_and_written(rt: HostRuntime) {
     let alloc = rt.alloc();
-    let ends = (r#"{"kind":"ListValue","values":["#, "]}");
-    let text = repeated(&rt, alloc, ends, r#"{"kind":"NullValue"}"#, 5000);
-    let list = check_read::<Value>(&rt, alloc, text.as_str());
-    check_equal(&rt, list.as_list().map(|items| items.len()), Some(5000));
-    let text = repeated(&rt, alloc, OPERATION, FIELD, 5000);
-    let query = check_read::<OperationDefinition>(&rt, alloc, text.as_str());
-    check_equal(&rt, query.selection_set.len(), 5000);
-    let ends = (r#"{"kind":"Document","definitions":["#, "]}");
-    let text = repeated(&rt, alloc, ends, SCALAR, 17_000);
-    assert!(&rt; text.len() > 1 << 20);
-    let document = check_read::<Document>(&rt, alloc, text.as_str());
-    check_equal(&rt, document.definitions.len(), 17_000);
-    let letters = "x".repeat(alloc, (1 << 20) + 1).expect(&rt, "memory");
-    let text = format!(in alloc; "{{\"kind\":\"StringValue\",\"value\":\"{letters}\"}}");
-    let string = check_read::<Value>(&rt, alloc, text.expect(&rt, "memory").as_str());
-    check_equal(&rt, string.as_str(), Some(letters.as_str()));
-    check_made(&rt, alloc, lists(alloc));
-    check_made(&rt, alloc, directive(alloc));
-    check_made(&rt, alloc, list_types(alloc));
-    check_made(&rt, alloc, variable(alloc));
-    check_made(&rt, alloc, input(alloc));
-    check_made(&rt, alloc, field_definition(alloc));
-    check_made(&rt, alloc, selection(alloc));
-    check_made(&rt, alloc, fragment(alloc));
-    check_made(&rt, alloc, operation(alloc));
-    check_made(&rt, alloc, definition(alloc));
-    check_made(&rt, alloc, deep_document(alloc));
+    check_long_list(&rt, alloc);
+    check_long_operation(&rt, alloc);
+    check_long_document(&rt, alloc);
+    check_long_string(&rt, alloc);
+    check_deep_values(&rt, alloc);
+    check_deep_selections(&rt, alloc);
 }

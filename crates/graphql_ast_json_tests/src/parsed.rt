@@ -89,6 +89,22 @@ fn said_outside(rt: &impl Abort, alloc: Global, read: Result<Outside, AstJsonErr
     }
 }
 
+/// That the readings of a node say this, and so one by a kind of another crate.
+fn check_node(
+    rt: &impl Abort,
+    alloc: Global,
+    node: JsonNode<'_, '_>,
+    read: &str,
+    well_formed: &str,
+) {
+    let found = said(rt, alloc, Document::read_json(node));
+    check_equal(rt, found.as_str(), read);
+    let found = said_outside(rt, alloc, Outside::read_json(node));
+    check_equal(rt, found.as_str(), read);
+    let found = said_well_formed(rt, alloc, read_well_formed_json(node));
+    check_equal(rt, found.as_str(), well_formed);
+}
+
 /// What the readings of JSON say, by a rule for what is unknown: of what was parsed the same as of
 /// a value of `serde_json`, by its own reader and as a node, and so by a kind of another crate.
 fn said_of_both(
@@ -98,29 +114,54 @@ fn said_of_both(
     json: &Json,
     unknown: Unknown,
 ) -> (String, String) {
-    let parsed = JsonNode::parsed(alloc, value, FileId::new(1), unknown);
-    let owned = JsonNode::owned(alloc, json, FileId::new(1), unknown);
+    let source = FileId::new(1);
     let reader = NodeReader {
         alloc,
         json,
-        source: FileId::new(1),
+        source,
         unknown,
     };
     let read = said(rt, alloc, Document::read_ast_json(reader));
-    let found = said(rt, alloc, Document::read_json(parsed));
-    check_equal(rt, found.as_str(), read.as_str());
-    let found = said(rt, alloc, Document::read_json(owned));
-    check_equal(rt, found.as_str(), read.as_str());
-    for node in [parsed, owned] {
-        let found = said_outside(rt, alloc, Outside::read_json(node));
-        check_equal(rt, found.as_str(), read.as_str());
-    }
     let well_formed = said_well_formed(rt, alloc, read_well_formed_ast_json(reader));
-    let found = said_well_formed(rt, alloc, read_well_formed_json(parsed));
-    check_equal(rt, found.as_str(), well_formed.as_str());
-    let found = said_well_formed(rt, alloc, read_well_formed_json(owned));
-    check_equal(rt, found.as_str(), well_formed.as_str());
+    let parsed = JsonNode::parsed(alloc, value, source, unknown);
+    check_node(rt, alloc, parsed, read.as_str(), well_formed.as_str());
+    let owned = JsonNode::owned(alloc, json, source, unknown);
+    check_node(rt, alloc, owned, read.as_str(), well_formed.as_str());
     (read, well_formed)
+}
+
+/// That a reading of a text by a kind of another crate says this.
+fn check_outside(rt: &impl Abort, alloc: Global, text: &str, read: &str) {
+    let outside = from_ast_json_str::<Outside>(alloc, text, FileId::new(1));
+    let found = said_outside(rt, alloc, outside);
+    check_equal(rt, found.as_str(), read);
+}
+
+/// That the readings of JSON say what those of its text do.
+fn check_both(
+    rt: &impl Abort,
+    alloc: Global,
+    (value, json): (&Parsed<'_>, &Json),
+    read: &str,
+    well_formed: &str,
+) {
+    let wanted = said_of_both(rt, alloc, value, json, Unknown::Refuse);
+    check_equal(rt, read, wanted.0.as_str());
+    check_equal(rt, well_formed, wanted.1.as_str());
+    said_of_both(rt, alloc, value, json, Unknown::PassOver);
+}
+
+/// That the readings of a text that is no JSON say what `serde_json` does.
+fn check_refused(
+    rt: &impl Abort,
+    alloc: Global,
+    error: &serde_json::Error,
+    read: &str,
+    well_formed: &str,
+) {
+    let wanted = format!(in alloc; "not JSON: {error}").expect(rt, "memory");
+    check_equal(rt, read, wanted.as_str());
+    check_equal(rt, well_formed, wanted.as_str());
 }
 
 /// Whether a text is read alike in both forms, and by a kind that reads values of `serde_json` alone. A text that is not read is
@@ -129,21 +170,11 @@ fn check(rt: &impl Abort, alloc: Global, text: &str) {
     let mut scratch = Scratch::new(alloc);
     let parsed = parse_json(alloc, text, &mut scratch).expect(rt, "memory");
     let (read, well_formed) = said_of_text(rt, alloc, text);
-    let outside = from_ast_json_str::<Outside>(alloc, text, FileId::new(1));
-    let outside = said_outside(rt, alloc, outside);
-    check_equal(rt, outside.as_str(), read.as_str());
+    let (read, well_formed) = (read.as_str(), well_formed.as_str());
+    check_outside(rt, alloc, text, read);
     match (parsed, Json::from_str(alloc, text)) {
-        (Some(value), Ok(json)) => {
-            let wanted = said_of_both(rt, alloc, &value, &json, Unknown::Refuse);
-            check_equal(rt, read.as_str(), wanted.0.as_str());
-            check_equal(rt, well_formed.as_str(), wanted.1.as_str());
-            said_of_both(rt, alloc, &value, &json, Unknown::PassOver);
-        }
-        (None, Err(error)) => {
-            let wanted = format!(in alloc; "not JSON: {error}").expect(rt, "memory");
-            check_equal(rt, read.as_str(), wanted.as_str());
-            check_equal(rt, well_formed.as_str(), wanted.as_str());
-        }
+        (Some(value), Ok(json)) => check_both(rt, alloc, (&value, &json), read, well_formed),
+        (None, Err(error)) => check_refused(rt, alloc, &error, read, well_formed),
         _ => panic!(rt; "read in one form alone"),
     }
 }
@@ -161,51 +192,63 @@ fn changed(rt: &impl Abort, alloc: Global, text: &str, at: usize, piece: &str) -
     whole
 }
 
+/// What stands in place of a character at an index.
+fn piece_at(at: usize) -> &'static str {
+    match at % 6 {
+        0 => "",
+        1 => "\"",
+        2 => "0",
+        3 => "}",
+        4 => "x",
+        _ => ",\"kind\":1,",
+    }
+}
+
 /// Whether a text of ASCII is read alike, and with each of its characters changed.
 fn check_changes(rt: &impl Abort, alloc: Global, text: &str) {
     check(rt, alloc, text);
     for at in 0..text.len() {
-        let piece = match at % 6 {
-            0 => "",
-            1 => "\"",
-            2 => "0",
-            3 => "}",
-            4 => "x",
-            _ => ",\"kind\":1,",
-        };
-        check(rt, alloc, changed(rt, alloc, text, at, piece).as_str());
+        let changed = changed(rt, alloc, text, at, piece_at(at));
+        check(rt, alloc, changed.as_str());
     }
+}
+
+/// Texts, whether each is read, and what a reading of a well-formed tree alone says of it.
+const TEXTS: [(&str, bool, &str); 3] = [
+    (
+        UNKNOWN,
+        false,
+        "at `definitions[0]`, in a node from 0 to 9: \
+         found a member `alpha`, which no ObjectTypeDefinition has",
+    ),
+    (
+        TYPE,
+        true,
+        "\"\"\"\na\nb\u{e9}\n\"\"\"\ntype T {\n  f: [T]!\n}\n",
+    ),
+    (
+        OPERATION,
+        true,
+        "at `definitions[0].selectionSet.selections[0].arguments[0].value.fields[0].value\
+         .values[1].value`: a reserved enum value: `true`",
+    ),
+];
+
+fn check_text(rt: &impl Abort, alloc: Global, text: &str, is_read: bool, wanted: &str) {
+    let (read, well_formed) = said_of_text(rt, alloc, text);
+    let read = read.as_str();
+    check_equal(rt, well_formed.as_str(), wanted);
+    check_equal(rt, Json::from_str(alloc, read).is_ok(), is_read);
+    check_case(rt, read, is_read || read == wanted, true);
+    check_changes(rt, alloc, text);
 }
 
 /// With unknown members and without: where they are refused, most texts that have them and are JSON are refused for one. The operation
 /// is read, though it isn't well formed.
 #[test]
 fn both_forms_are_read_alike(rt: HostRuntime) {
-    let alloc = rt.alloc();
-    for (text, is_read, wanted) in [
-        (
-            UNKNOWN,
-            false,
-            "at `definitions[0]`, in a node from 0 to 9: \
-             found a member `alpha`, which no ObjectTypeDefinition has",
-        ),
-        (
-            TYPE,
-            true,
-            "\"\"\"\na\nb\u{e9}\n\"\"\"\ntype T {\n  f: [T]!\n}\n",
-        ),
-        (
-            OPERATION,
-            true,
-            "at `definitions[0].selectionSet.selections[0].arguments[0].value.fields[0].value\
-             .values[1].value`: a reserved enum value: `true`",
-        ),
-    ] {
-        let (read, well_formed) = said_of_text(&rt, alloc, text);
-        check_equal(&rt, well_formed.as_str(), wanted);
-        check_equal(&rt, Json::from_str(alloc, read.as_str()).is_ok(), is_read);
-        assert!(rt; is_read || read.as_str() == wanted, "{read}");
-        check_changes(&rt, alloc, text);
+    for (text, is_read, wanted) in TEXTS {
+        check_text(&rt, rt.alloc(), text, is_read, wanted);
     }
 }
 
@@ -230,20 +273,27 @@ const BOUNDS: [(&[(&str, usize)], bool); 9] = [
     ),
 ];
 
+fn check_too_deep(rt: &impl Abort, alloc: Global, text: &str) {
+    let (read, well_formed) = said_of_text(rt, alloc, text);
+    check_case(rt, text, read.as_str(), TOO_DEEP);
+    check_case(rt, text, well_formed.as_str(), TOO_DEEP);
+}
+
+fn check_bound(rt: &impl Abort, alloc: Global, parts: &[(&str, usize)], is_deep: bool) {
+    let text = text_of(alloc, parts).expect(rt, "memory");
+    if is_deep {
+        check_too_deep(rt, alloc, text.as_str());
+    } else {
+        check(rt, alloc, text.as_str());
+    }
+    let read = from_ast_json_str::<Document>(alloc, text.as_str(), FileId::new(1));
+    check_case(rt, &text, read.is_err(), true);
+}
+
 #[test]
 fn depth_and_numbers_are_bounded_alike(rt: HostRuntime) {
-    let alloc = rt.alloc();
     for (parts, is_deep) in BOUNDS {
-        let text = text_of(alloc, parts).expect(&rt, "memory");
-        let (read, well_formed) = said_of_text(&rt, alloc, text.as_str());
-        if is_deep {
-            check_case(&rt, &text, read.as_str(), TOO_DEEP);
-            check_case(&rt, &text, well_formed.as_str(), TOO_DEEP);
-        } else {
-            check(&rt, alloc, text.as_str());
-        }
-        let read = from_ast_json_str::<Document>(alloc, text.as_str(), FileId::new(1));
-        assert!(rt; read.is_err(), "{text}");
+        check_bound(&rt, rt.alloc(), parts, is_deep);
     }
 }
 
@@ -381,21 +431,35 @@ fn check_said(rt: &impl Abort, alloc: Global, text: &str, wanted: &str) {
     check_case(rt, &text, read.as_str(), wanted);
 }
 
+/// What is read of a location whose members stand between these.
+fn check_location(rt: &impl Abort, alloc: Global, ends: (&str, &str), offset: &str) {
+    let members = around(rt, alloc, ends, offset);
+    let text = around(rt, alloc, GIVEN, members.as_str());
+    check(rt, alloc, text.as_str());
+}
+
+fn check_locations(rt: &impl Abort, alloc: Global) {
+    for offset in OFFSETS {
+        for ends in LOCATIONS {
+            check_location(rt, alloc, ends, offset);
+        }
+    }
+}
+
+/// What is said of a document whose definition has these members of a location.
+fn check_members(rt: &impl Abort, alloc: Global, members: &str, ends: (&str, &str), told: &str) {
+    let text = around(rt, alloc, GIVEN, members);
+    let wanted = around(rt, alloc, ends, told);
+    check_said(rt, alloc, text.as_str(), wanted.as_str());
+}
+
 /// What is read of a location is written with its definition, and so is compared too.
 #[test]
 fn locations_and_unknown_members_are_read_alike(rt: HostRuntime) {
     let alloc = rt.alloc();
-    for offset in OFFSETS {
-        for ends in LOCATIONS {
-            let members = around(&rt, alloc, ends, offset);
-            let text = around(&rt, alloc, GIVEN, members.as_str());
-            check(&rt, alloc, text.as_str());
-        }
-    }
+    check_locations(&rt, alloc);
     for (members, ends, told) in SAID {
-        let text = around(&rt, alloc, GIVEN, members);
-        let wanted = around(&rt, alloc, ends, told);
-        check_said(&rt, alloc, text.as_str(), wanted.as_str());
+        check_members(&rt, alloc, members, ends, told);
     }
     for (text, wanted) in UNKNOWN_MEMBERS {
         check_said(&rt, alloc, text, wanted);

@@ -108,21 +108,25 @@ impl<R: Abort> Deep<'_, R> {
     ) {
         let rt = self.rt;
         let (tree, other) = (trees.0.expect(rt, "memory"), trees.1.expect(rt, "memory"));
-        assert!(rt; tree.is_well_formed(), "{before}");
+        self.check_depths(&tree, before);
+        self.check_last_level(&tree, before, behind);
+        self.check_level_above(&tree, before);
+        self.check_clone(&tree, &other, before);
+        let mut seen = HashSet::new(self.alloc);
+        seen.insert(tree).expect(rt, "memory");
+        check_case(rt, before, seen.contains(&other), true);
+    }
+
+    fn check_depths<T: Syntax>(&self, tree: &T, before: &str) {
+        check_case(self.rt, before, tree.is_well_formed(), true);
         let found = tree
             .find_depths()
             .map(|depths| (depths.nesting, depths.lists));
-        check_case(rt, &before, found, Some(self.depths));
-        self.check_levels(&tree, before, behind);
-        let copy = tree.clone().expect(rt, "memory");
-        assert!(rt; copy == tree && other == tree, "{before}");
-        let mut seen = HashSet::new(self.alloc);
-        seen.insert(tree).expect(rt, "memory");
-        assert!(rt; seen.contains(&other), "{before}");
+        check_case(self.rt, before, found, Some(self.depths));
     }
 
-    /// The text at the last level that fits, and that the next is one too many.
-    fn check_levels<T: Syntax>(&self, tree: &T, before: &str, behind: &str) {
+    /// The text at the last level that fits.
+    fn check_last_level<T: Syntax>(&self, tree: &T, before: &str, behind: &str) {
         let (rt, depth) = (self.rt, self.depths.0);
         let print = Serialize::new(tree).no_indent();
         let last = print.initial_indent_level(usize::MAX - depth);
@@ -131,12 +135,34 @@ impl<R: Abort> Deep<'_, R> {
             .as_str()
             .strip_prefix(before)
             .and_then(|rest| rest.strip_suffix(behind));
-        check_case(rt, &before, inner, Some(self.inner));
+        check_case(rt, before, inner, Some(self.inner));
+    }
+
+    /// The next level is one too many, where a tree nests.
+    fn check_level_above<T: Syntax>(&self, tree: &T, before: &str) {
+        let depth = self.depths.0;
         if depth > 0 {
+            let print = Serialize::new(tree).no_indent();
             let above = print.initial_indent_level(usize::MAX - depth + 1);
             let answer = above.to_text(self.alloc);
-            check_case(rt, &before, answer.err(), Some(PrintError::LevelOverflow));
+            check_case(
+                self.rt,
+                before,
+                answer.err(),
+                Some(PrintError::LevelOverflow),
+            );
         }
+    }
+
+    /// A clone is equal to the tree, and so is another one.
+    fn check_clone<T: Clone + PartialEq + Drop>(&self, tree: &T, other: &T, before: &str) {
+        let copy = tree.clone().expect(self.rt, "memory");
+        check_case(
+            self.rt,
+            before,
+            (copy == *tree, *other == *tree),
+            (true, true),
+        );
     }
 }
 
@@ -247,7 +273,7 @@ fn spread(alloc: Global) -> Result<FragmentSpread, AllocError> {
     })
 }
 
-/// What stands before the lists that an argument of a directive has, in definitions of types and in extensions.
+/// What stands before the lists that an argument of a directive has.
 fn check_types<R: Abort>(lists: &Deep<'_, R>) {
     let alloc = lists.alloc;
     lists.take((scalar(alloc), scalar(alloc)), "scalar N @d(x: ", ")");
@@ -255,6 +281,10 @@ fn check_types<R: Abort>(lists: &Deep<'_, R>) {
     let trees = (interface(alloc), interface(alloc));
     lists.take(trees, "interface N @d(x: ", ")");
     lists.take((union(alloc), union(alloc)), "union N @d(x: ", ")");
+}
+
+fn check_enums_and_inputs<R: Abort>(lists: &Deep<'_, R>) {
+    let alloc = lists.alloc;
     let trees = (enumeration(alloc), enumeration(alloc));
     lists.take(trees, "enum N @d(x: ", ")");
     lists.take((input(alloc), input(alloc)), "input N @d(x: ", ")");
@@ -271,6 +301,10 @@ fn check_extensions<R: Abort>(lists: &Deep<'_, R>) {
     lists.take(trees, "extend type N @d(x: ", ")");
     let trees = (interface_extension(alloc), interface_extension(alloc));
     lists.take(trees, "extend interface N @d(x: ", ")");
+}
+
+fn check_extensions_of_members<R: Abort>(lists: &Deep<'_, R>) {
+    let alloc = lists.alloc;
     let trees = (union_extension(alloc), union_extension(alloc));
     lists.take(trees, "extend union N @d(x: ", ")");
     let trees = (enum_extension(alloc), enum_extension(alloc));
@@ -315,20 +349,22 @@ fn directive_definition(alloc: Global) -> Result<DirectiveDefinition, AllocError
     })
 }
 
-/// Values themselves and a default value nest one less deep than what stands in an argument.
-#[test]
-fn lists_and_objects_nest_in_each_kind(rt: HostRuntime) {
-    let alloc = rt.alloc();
-    let inner = nested(alloc, "[", "[]", "]").expect(&rt, "memory");
-    let object = nested(alloc, "{k: ", "{}", "}").expect(&rt, "memory");
-    let (inner, object) = (inner.as_str(), object.as_str());
-    let values = Deep::of(&rt, alloc, inner, (999, 0));
+fn check_values<R: Abort>(values: &Deep<'_, R>) {
+    let alloc = values.alloc;
     let trees = (value_of(lists(alloc)), value_of(lists(alloc)));
     values.take(trees, "", "");
     values.take((input_value(alloc), input_value(alloc)), "x: Int = ", "");
+}
+
+fn check_objects(rt: &impl Abort, alloc: Global) {
+    let inner = nested(alloc, "{k: ", "{}", "}").expect(rt, "memory");
+    let values = Deep::of(rt, alloc, inner.as_str(), (999, 0));
     let trees = (value_of(objects(alloc)), value_of(objects(alloc)));
-    Deep::of(&rt, alloc, object, (999, 0)).take(trees, "", "");
-    let lists = Deep::of(&rt, alloc, inner, (1000, 0));
+    values.take(trees, "", "");
+}
+
+fn check_directives<R: Abort>(lists: &Deep<'_, R>) {
+    let alloc = lists.alloc;
     lists.take((directive(alloc), directive(alloc)), "@d(x: ", ")");
     lists.take((directives(alloc), directives(alloc)), " @d(x: ", ")");
     let trees = (directive_definition(alloc), directive_definition(alloc));
@@ -336,8 +372,21 @@ fn lists_and_objects_nest_in_each_kind(rt: HostRuntime) {
     let trees = (schema(alloc), schema(alloc));
     lists.take(trees, "schema @d(x: ", ") { query: Q }");
     lists.take((spread(alloc), spread(alloc)), "...F @d(x: ", ")");
+}
+
+/// Values themselves and a default value nest one less deep than what stands in an argument.
+#[test]
+fn lists_and_objects_nest_in_each_kind(rt: HostRuntime) {
+    let alloc = rt.alloc();
+    let inner = nested(alloc, "[", "[]", "]").expect(&rt, "memory");
+    check_values(&Deep::of(&rt, alloc, inner.as_str(), (999, 0)));
+    check_objects(&rt, alloc);
+    let lists = Deep::of(&rt, alloc, inner.as_str(), (1000, 0));
+    check_directives(&lists);
     check_types(&lists);
+    check_enums_and_inputs(&lists);
     check_extensions(&lists);
+    check_extensions_of_members(&lists);
 }
 
 /// `f { a { a .. { a } .. } }`
@@ -403,30 +452,56 @@ fn typed_object(alloc: Global) -> Result<Document, AllocError> {
     Ok(document)
 }
 
-#[test]
-fn sets_and_list_types_nest_in_each_kind_that_has_them(rt: HostRuntime) {
-    let alloc = rt.alloc();
-    let inner = nested(alloc, "{ a ", "{ a }", " }").expect(&rt, "memory");
-    check_equal(&rt, inner.len(), 5999);
-    let sets = Deep::of(&rt, alloc, inner.as_str(), (1000, 0));
+fn check_selections<R: Abort>(sets: &Deep<'_, R>) {
+    let alloc = sets.alloc;
     sets.take((field(alloc), field(alloc)), "f ", "");
     sets.take((selection(alloc), selection(alloc)), "f ", "");
     let trees = (inline_fragment(alloc), inline_fragment(alloc));
     sets.take(trees, "... ", "");
+}
+
+fn check_definitions<R: Abort>(sets: &Deep<'_, R>) {
+    let alloc = sets.alloc;
     sets.take((fragment(alloc), fragment(alloc)), "fragment F on T ", "");
     sets.take((operation(alloc), operation(alloc)), "", "");
     sets.take((definition(alloc), definition(alloc)), "", "");
     sets.take((only_definition(alloc), only_definition(alloc)), "", "");
-    let inner = nested(alloc, "[", "[Int]", "]").expect(&rt, "memory");
-    let types = Deep::of(&rt, alloc, inner.as_str(), (0, 1000));
+}
+
+fn check_sets(rt: &impl Abort, alloc: Global) {
+    let inner = nested(alloc, "{ a ", "{ a }", " }").expect(rt, "memory");
+    check_equal(rt, inner.len(), 5999);
+    let sets = Deep::of(rt, alloc, inner.as_str(), (1000, 0));
+    check_selections(&sets);
+    check_definitions(&sets);
+}
+
+/// List types, which are around no group.
+fn check_typed<R: Abort>(types: &Deep<'_, R>) {
+    let alloc = types.alloc;
     types.take((variable(alloc), variable(alloc)), "$v: ", "");
     types.take((typed_input(alloc), typed_input(alloc)), "x: ", "");
     types.take((typed_field(alloc), typed_field(alloc)), "f: ", "");
-    let trees = (typed_object(alloc), typed_object(alloc));
+}
+
+/// A list type by itself.
+fn check_type(rt: &impl Abort, alloc: Global, wanted: &str) {
+    let ty = list_types(alloc).expect(rt, "memory");
+    let text = format!(in alloc; "{ty}").expect(rt, "memory");
+    check_equal(rt, text.as_str(), wanted);
+    let copy = ty.clone().expect(rt, "memory");
+    let other = list_types(alloc).expect(rt, "memory");
+    check_equal(rt, copy == other, true);
+}
+
+#[test]
+fn sets_and_list_types_nest_in_each_kind_that_has_them(rt: HostRuntime) {
+    let alloc = rt.alloc();
+    check_sets(&rt, alloc);
+    let inner = nested(alloc, "[", "[Int]", "]").expect(&rt, "memory");
+    check_typed(&Deep::of(&rt, alloc, inner.as_str(), (0, 1000)));
     let types = Deep::of(&rt, alloc, inner.as_str(), (1, 1000));
+    let trees = (typed_object(alloc), typed_object(alloc));
     types.take(trees, "type T { f: ", " }");
-    let ty = list_types(alloc).expect(&rt, "memory");
-    let text = format!(in alloc; "{ty}").expect(&rt, "memory");
-    check_equal(&rt, text.as_str(), inner.as_str());
-    assert!(&rt; ty.clone().expect(&rt, "memory") == list_types(alloc).expect(&rt, "memory"));
+    check_type(&rt, alloc, inner.as_str());
 }

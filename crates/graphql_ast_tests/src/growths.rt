@@ -68,6 +68,21 @@ fn check_built<T: Syntax>(rt: &impl Abort, tree: &T, has_groups: bool, takes: &s
     );
 }
 
+/// A print at the greatest level, which overflows where a tree has groups, and one at level 0.
+fn check_prints<T: Syntax>(rt: &impl Abort, tree: &T, has_groups: bool, takes: &str) {
+    let flat = Serialize::new(tree).no_indent();
+    let mut sink = Open { taken: 0 };
+    let above = flat.initial_indent_level(usize::MAX).print_to(&mut sink);
+    let wanted = if has_groups {
+        Err(PrintError::LevelOverflow)
+    } else {
+        Ok(())
+    };
+    assert_eq!(rt; above, wanted, "a print that overflows takes 0");
+    assert!(rt; sink.taken == 0 || !has_groups);
+    check_case(rt, &takes, flat.print_to(&mut sink), Ok(()));
+}
+
 fn check<T: Syntax + Drop>(
     rt: &impl Abort,
     calls: Calls,
@@ -80,17 +95,7 @@ fn check<T: Syntax + Drop>(
     let has_groups = !takes.ends_with("takes 0");
     check_built(rt, &tree, has_groups, takes);
     if calls == Calls::Prints {
-        let flat = Serialize::new(&tree).no_indent();
-        let mut sink = Open { taken: 0 };
-        let above = flat.initial_indent_level(usize::MAX).print_to(&mut sink);
-        let wanted = if has_groups {
-            Err(PrintError::LevelOverflow)
-        } else {
-            Ok(())
-        };
-        assert_eq!(rt; above, wanted, "a print that overflows takes 0");
-        assert!(rt; sink.taken == 0 || !has_groups);
-        check_case(rt, &takes, flat.print_to(&mut sink), Ok(()));
+        check_prints(rt, &tree, has_groups, takes);
     }
 }
 
@@ -115,6 +120,9 @@ fn check_executable(rt: &impl Abort, calls: Calls, alloc: Global) {
     check(rt, calls, made, "an inline fragment takes 2");
     let made = inline_selection(alloc);
     check(rt, calls, made, "a selected inline fragment takes 2");
+}
+
+fn check_fields_and_definitions(rt: &impl Abort, calls: Calls, alloc: Global) {
     check(rt, calls, field(alloc), "a field takes 2");
     let made = field_selection(alloc);
     check(rt, calls, made, "a selected field takes 2");
@@ -135,6 +143,9 @@ fn check_types(rt: &impl Abort, calls: Calls, alloc: Global) {
     check(rt, calls, made, "an object type takes 2");
     let made = interface_type_definition(alloc);
     check(rt, calls, made, "an interface type takes 2");
+}
+
+fn check_types_of_members(rt: &impl Abort, calls: Calls, alloc: Global) {
     let made = union_type_definition(alloc);
     check(rt, calls, made, "a union type takes 1");
     let made = enum_type_definition(alloc);
@@ -152,6 +163,9 @@ fn check_type_extensions(rt: &impl Abort, calls: Calls, alloc: Global) {
     check(rt, calls, made, "an extended object type takes 2");
     let made = interface_type_extension(alloc);
     check(rt, calls, made, "an extended interface type takes 2");
+}
+
+fn check_extensions_of_members(rt: &impl Abort, calls: Calls, alloc: Global) {
     let made = union_type_extension(alloc);
     check(rt, calls, made, "an extended union type takes 1");
     let made = enum_type_extension(alloc);
@@ -181,8 +195,11 @@ fn document(alloc: Global) -> Result<Document, AllocError> {
 fn check_all(rt: &impl Abort, calls: Calls, alloc: Global) {
     check_values(rt, calls, alloc);
     check_executable(rt, calls, alloc);
+    check_fields_and_definitions(rt, calls, alloc);
     check_types(rt, calls, alloc);
+    check_types_of_members(rt, calls, alloc);
     check_type_extensions(rt, calls, alloc);
+    check_extensions_of_members(rt, calls, alloc);
     check_documents(rt, calls, alloc);
 }
 

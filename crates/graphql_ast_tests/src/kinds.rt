@@ -80,35 +80,47 @@ pub(crate) fn values<E: EachKind>(alloc: Global, each: &mut E) {
     each.take(directive_definition(alloc), DEFINITIONS[2]);
 }
 
-pub(crate) fn executable<E: EachKind>(alloc: Global, each: &mut E) {
+fn variables_and_fragments<E: EachKind>(alloc: Global, each: &mut E) {
     each.take(variable_definition(alloc), VARIABLE);
     each.take(fragment_spread(alloc), SPREAD);
     each.take(spread_selection(alloc), SPREAD);
     each.take(inline_fragment(alloc), INLINE);
     each.take(inline_selection(alloc), INLINE);
+}
+
+pub(crate) fn executable<E: EachKind>(alloc: Global, each: &mut E) {
+    variables_and_fragments(alloc, each);
     each.take(field(alloc), FIELD);
     each.take(field_selection(alloc), FIELD);
     each.take(operation_definition(alloc), DEFINITIONS[0]);
     each.take(fragment_definition(alloc), DEFINITIONS[1]);
 }
 
-pub(crate) fn types<E: EachKind>(alloc: Global, each: &mut E) {
+fn parts_and_first_types<E: EachKind>(alloc: Global, each: &mut E) {
     each.take(field_definition(alloc), FIELD_DEFINITION);
     each.take(enum_value_definition(alloc), "\"D\" V @d(x: 1)");
     each.take(schema_definition(alloc), DEFINITIONS[3]);
     each.take(scalar_type_definition(alloc), DEFINITIONS[4]);
     each.take(object_type_definition(alloc), DEFINITIONS[5]);
     each.take(interface_type_definition(alloc), DEFINITIONS[6]);
+}
+
+pub(crate) fn types<E: EachKind>(alloc: Global, each: &mut E) {
+    parts_and_first_types(alloc, each);
     each.take(union_type_definition(alloc), DEFINITIONS[7]);
     each.take(enum_type_definition(alloc), DEFINITIONS[8]);
     each.take(input_object_type_definition(alloc), DEFINITIONS[9]);
 }
 
-pub(crate) fn type_extensions<E: EachKind>(alloc: Global, each: &mut E) {
+fn first_extensions<E: EachKind>(alloc: Global, each: &mut E) {
     each.take(schema_extension(alloc), DEFINITIONS[10]);
     each.take(scalar_type_extension(alloc), DEFINITIONS[11]);
     each.take(object_type_extension(alloc), DEFINITIONS[12]);
     each.take(interface_type_extension(alloc), DEFINITIONS[13]);
+}
+
+pub(crate) fn type_extensions<E: EachKind>(alloc: Global, each: &mut E) {
+    first_extensions(alloc, each);
     each.take(union_type_extension(alloc), DEFINITIONS[14]);
     each.take(enum_type_extension(alloc), DEFINITIONS[15]);
     each.take(input_object_type_extension(alloc), DEFINITIONS[16]);

@@ -272,6 +272,21 @@ fn check_places(rt: &impl Abort, file: &SourceFile, places: &[(usize, Option<(us
     }
 }
 
+fn check_start(
+    rt: &impl Abort,
+    document: &Document,
+    file: u64,
+    start: u32,
+    wanted: Option<(usize, usize)>,
+) {
+    let span = SourceSpan::new(FileId::new(file), start, 20).expect(rt, "a span");
+    assert_eq!(rt;
+        document.line_column(span),
+        wanted.map(position),
+        "{file}: {start}"
+    );
+}
+
 /// In source texts, and in documents by the files of their locations.
 #[test]
 fn of_offsets(rt: HostRuntime) {
@@ -287,11 +302,6 @@ fn of_offsets(rt: HostRuntime) {
         (3, 7, None),
         (5, 0, None),
     ] {
-        let span = SourceSpan::new(FileId::new(file), start, 20).expect(&rt, "a span");
-        assert_eq!(rt;
-            document.line_column(span),
-            wanted.map(position),
-            "{file}: {start}"
-        );
+        check_start(&rt, &document, file, start, wanted);
     }
 }

@@ -111,6 +111,34 @@ fn counts(document: &Document) -> [usize; 5] {
     ]
 }
 
+/// What a document has under `A` and under `a`, and that it has nothing under other names.
+fn check_names(
+    rt: &impl Abort,
+    document: &Document,
+    under_a: Found<'static>,
+    under_small_a: Found<'static>,
+) {
+    let cases = [
+        ("A", under_a),
+        ("a", under_small_a),
+        ("B", NOTHING),
+        ("", NOTHING),
+    ];
+    check_found(rt, document, &cases);
+}
+
+/// The type of the first operation without a name, and how many there are of each.
+fn check_counts(
+    rt: &impl Abort,
+    document: &Document,
+    anonymous: Option<OperationType>,
+    wanted: [usize; 5],
+) {
+    let found = document.operation(None).map(|node| node.operation_type);
+    check_case(rt, document, found, anonymous);
+    check_case(rt, document, counts(document), wanted);
+}
+
 /// Each document, what it has under each name, the first operation without a name, and how many there are of each.
 #[test]
 fn of_each_kind(rt: HostRuntime) {
@@ -138,15 +166,7 @@ fn of_each_kind(rt: HostRuntime) {
         (Ok(Document::new(alloc)), NOTHING, NOTHING, None, [0; 5]),
     ] {
         let document = made.expect(&rt, "memory");
-        let cases = [
-            ("A", under_a),
-            ("a", under_small_a),
-            ("B", NOTHING),
-            ("", NOTHING),
-        ];
-        check_found(&rt, &document, &cases);
-        let found = document.operation(None).map(|node| node.operation_type);
-        check_case(&rt, &document, &found, &anonymous);
-        assert!(rt; counts(&document) == wanted, "{document}");
+        check_names(&rt, &document, under_a, under_small_a);
+        check_counts(&rt, &document, anonymous, wanted);
     }
 }

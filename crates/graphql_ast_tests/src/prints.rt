@@ -59,20 +59,24 @@ const EMPTY: [Laid; 4] = [
     (None, 1, ""),
 ];
 
-/// Each text of a document; the layout of two spaces at level 0 is the default one, also where it is displayed.
-fn check_laid_out(rt: &impl Abort, alloc: Global, document: &Document, cases: &[Laid]) {
-    for (prefix, level, wanted) in cases {
-        let print = document.serialize();
-        let laid_out = match prefix {
-            None => print.no_indent(),
-            Some(prefix) => print.indent_prefix(prefix),
-        };
-        check_print(alloc, laid_out.initial_indent_level(*level), wanted).expect(rt, wanted);
-        if *prefix == Some("  ") && *level == 0 {
-            check_print(alloc, print, wanted).expect(rt, wanted);
-            let text = format!(in alloc; "{document}").expect(rt, "memory");
-            check_equal(rt, &text.as_str(), wanted);
-        }
+/// A document in the default layout, also where it is displayed.
+fn check_default(rt: &impl Abort, alloc: Global, document: &Document, wanted: &str) {
+    check_print(alloc, document.serialize(), wanted).expect(rt, wanted);
+    let text = format!(in alloc; "{document}").expect(rt, "memory");
+    check_equal(rt, text.as_str(), wanted);
+}
+
+/// A text of a document; the layout of two spaces at level 0 is the default one.
+fn check_laid_out(rt: &impl Abort, alloc: Global, document: &Document, laid: Laid) {
+    let (prefix, level, wanted) = laid;
+    let print = document.serialize();
+    let laid_out = match prefix {
+        None => print.no_indent(),
+        Some(prefix) => print.indent_prefix(prefix),
+    };
+    check_print(alloc, laid_out.initial_indent_level(level), wanted).expect(rt, wanted);
+    if prefix == Some("  ") && level == 0 {
+        check_default(rt, alloc, document, wanted);
     }
 }
 
@@ -86,15 +90,21 @@ fn check_document(
 ) {
     let document = made.expect(rt, "memory");
     check_case(rt, &document, document.is_well_formed(), is_well_formed);
-    check_laid_out(rt, alloc, &document, cases);
+    for laid in cases {
+        check_laid_out(rt, alloc, &document, *laid);
+    }
+}
+
+fn check_each_variant(rt: &impl Abort, alloc: Global) {
+    let each_variant = each_variant(alloc).expect(rt, "memory");
+    let each_variant = document(alloc, each_variant);
+    check_line(alloc, &each_variant, EACH_VARIANT, true).expect(rt, "each variant");
 }
 
 #[test]
 fn of_documents(rt: HostRuntime) {
     let alloc = rt.alloc();
-    let each_variant = each_variant(alloc).expect(&rt, "memory");
-    let each_variant = document(alloc, each_variant);
-    check_line(alloc, &each_variant, EACH_VARIANT, true).expect(&rt, "each variant");
+    check_each_variant(&rt, alloc);
     check_document(&rt, alloc, type_and_query(alloc), true, &TYPE_AND_QUERY);
     check_document(&rt, alloc, query_and_type(alloc), true, &QUERY_AND_TYPE);
     let described = described_query(alloc).expect(&rt, "memory");

@@ -1,10 +1,10 @@
 //! What definitions answer.
 use crate::checks::{check_case, check_equal};
-use crate::samples::{anonymous_query, described_query, each_variant, query};
+use crate::samples::{anonymous_query, described_query, each_variant, query_at};
 use graphql_ast::ast::Definition;
-use graphql_ast::node::Node;
 use graphql_ast::serialize::Syntax;
 use graphql_ast::span::{FileId, SourceSpan};
+use std::alloc::Global;
 use std::process::Abort;
 
 /// Which of the seventeen accessors answer a node, in the order of the variants.
@@ -40,6 +40,17 @@ type Told = (
     [bool; 4],
 );
 
+/// Whether a definition is executable, is an extension, defines a type, and is described.
+fn check_flags(rt: &impl Abort, definition: &Definition, wanted: [bool; 4]) {
+    let found = [
+        definition.is_executable_definition(),
+        definition.is_extension_definition(),
+        definition.is_type_definition(),
+        definition.description().is_some(),
+    ];
+    check_case(rt, definition, found, wanted);
+}
+
 fn check_told(rt: &impl Abort, definition: &Definition, wanted: Told) {
     let (words, name, directives, selections, flags) = wanted;
     check_case(rt, &definition, definition.kind_name(), words);
@@ -49,13 +60,7 @@ fn check_told(rt: &impl Abort, definition: &Definition, wanted: Told) {
     check_case(rt, &definition, &found, &directives);
     let found = definition.selection_set().map(|set| set.len());
     check_case(rt, &definition, &found, &selections);
-    let found = [
-        definition.is_executable_definition(),
-        definition.is_extension_definition(),
-        definition.is_type_definition(),
-        definition.description().is_some(),
-    ];
-    check_case(rt, &definition, &found, &flags);
+    check_flags(rt, definition, flags);
 }
 
 const EXECUTABLE: [bool; 4] = [true, false, false, false];
@@ -94,6 +99,42 @@ fn check_accessors(rt: &impl Abort, definition: &Definition, variant: usize) {
     }
 }
 
+/// A definition that is well formed, without a location, and as its clone.
+fn check_plain(rt: &impl Abort, definition: &Definition) {
+    check_case(rt, definition, definition.location(), None);
+    check_case(rt, definition, definition.is_well_formed(), true);
+    let copy = definition.clone().expect(rt, "memory");
+    check_case(rt, definition, copy == *definition, true);
+}
+
+fn check_variant(rt: &impl Abort, definition: &Definition, wanted: Told, variant: usize) {
+    check_told(rt, definition, wanted);
+    check_accessors(rt, definition, variant);
+    check_plain(rt, definition);
+}
+
+fn check_query(
+    rt: &impl Abort,
+    definition: &Definition,
+    is_described: bool,
+    location: Option<SourceSpan>,
+) {
+    let flags = [true, false, false, is_described];
+    check_told(rt, definition, ("query", None, Some(0), Some(1), flags));
+    check_case(rt, definition, definition.location(), location);
+}
+
+fn check_queries(rt: &impl Abort, alloc: Global) {
+    let span = SourceSpan::new(FileId::new(5), 10, 15).expect(rt, "a span");
+    let elsewhere = query_at(alloc, span).expect(rt, "memory");
+    let anonymous = anonymous_query(alloc).expect(rt, "memory");
+    check_equal(rt, elsewhere == anonymous, true);
+    check_query(rt, &anonymous, false, None);
+    check_query(rt, &elsewhere, false, Some(span));
+    let described = described_query(alloc).expect(rt, "memory");
+    check_query(rt, &described, true, None);
+}
+
 /// Each variant. And queries with a description, without a name, and at a location, which isn't compared.
 #[test]
 fn of_each_variant(rt: HostRuntime) {
@@ -101,27 +142,7 @@ fn of_each_variant(rt: HostRuntime) {
     let all = each_variant(alloc).expect(&rt, "memory");
     check_equal(&rt, all.len(), 17);
     for (variant, (definition, wanted)) in all.iter().zip(&OF_EACH_VARIANT).enumerate() {
-        check_told(&rt, definition, *wanted);
-        assert!(rt; definition.location().is_none(), "{definition}");
-        check_accessors(&rt, definition, variant);
-        assert!(rt; definition.is_well_formed(), "{definition}");
-        let copy = definition.clone().expect(&rt, "memory");
-        assert!(rt; copy == *definition, "{definition}");
+        check_variant(&rt, definition, *wanted, variant);
     }
-    let span = SourceSpan::new(FileId::new(5), 10, 15).expect(&rt, "a span");
-    let query = query(alloc).expect(&rt, "memory");
-    let node = Node::new_parsed(alloc, query, span).expect(&rt, "memory");
-    let anonymous = anonymous_query(alloc).expect(&rt, "memory");
-    let elsewhere = Definition::from(node);
-    assert!(rt; elsewhere == anonymous);
-    let described = described_query(alloc).expect(&rt, "memory");
-    for (definition, is_described, location) in [
-        (described, true, None),
-        (anonymous, false, None),
-        (elsewhere, false, Some(span)),
-    ] {
-        let flags = [true, false, false, is_described];
-        check_told(&rt, &definition, ("query", None, Some(0), Some(1), flags));
-        assert!(rt; definition.location() == location, "{definition}");
-    }
+    check_queries(&rt, alloc);
 }

@@ -10,6 +10,7 @@ use graphql_ast::ast::{
 };
 use graphql_ast::name;
 use graphql_ast::node::{Node, NodeStr};
+use graphql_ast::span::SourceSpan;
 use std::alloc::{AllocError, Global};
 
 /// ` @d`
@@ -41,6 +42,11 @@ pub(crate) fn described_query(alloc: Global) -> Result<Definition, AllocError> {
 /// `{ a }`, of a definition.
 pub(crate) fn anonymous_query(alloc: Global) -> Result<Definition, AllocError> {
     Ok(Definition::from(Node::new(alloc, query(alloc)?)?))
+}
+
+/// `{ a }`, of a definition at a location.
+pub(crate) fn query_at(alloc: Global, span: SourceSpan) -> Result<Definition, AllocError> {
+    Ok(Definition::from(Node::new_parsed(alloc, query(alloc)?, span)?))
 }
 
 /// `type A`

@@ -117,6 +117,23 @@ fn check_room<T: Syntax>(
     assert!(rt; wanted.as_bytes().starts_with(sink.bytes.as_slice()));
 }
 
+/// One write was refused, with this error or without one.
+fn check_fault(rt: &impl Abort, sink: &StreamSink<Refusing>, error: Option<ErrorKind>) {
+    check_equal(rt, sink.faults(), 1);
+    check_equal(rt, sink.last_error().map(|error| error.kind()), error);
+}
+
+/// What a writer took before the write that it refused, of one print, and behind it, of another.
+fn check_taken(rt: &impl Abort, writer: &Refusing, wanted: &str, taken: usize) {
+    let bytes = writer.bytes.as_slice();
+    check_equal(rt, bytes.get(..taken), wanted.as_bytes().get(..taken));
+    check_equal(rt, bytes.get(taken..), Some(wanted.as_bytes()));
+    if writer.most == 1 {
+        let others = writer.writes.checked_sub(writer.refused);
+        check_equal(rt, others, wanted.len().checked_add(1));
+    }
+}
+
 /// A write that is refused ends the print, and the writer's error is kept, also by a print that follows and is whole.
 fn check_refused<T: Syntax>(
     rt: &impl Abort,
@@ -125,22 +142,14 @@ fn check_refused<T: Syntax>(
     writer: Refusing,
     taken: usize,
 ) {
-    let (refused, error) = (writer.refused, writer.error);
+    let error = writer.error;
     let mut sink = StreamSink::new(writer);
     check_equal(rt, print.print_to(&mut sink), Err(PrintError::Sink));
     assert_eq!(rt; sink.faults(), 1);
-    check_equal(rt, sink.last_error().map(|error| error.kind()), error);
+    check_fault(rt, &sink, error);
     check_equal(rt, print.print_to(&mut sink), Ok(()));
-    check_equal(rt, sink.faults(), 1);
-    check_equal(rt, sink.last_error().map(|error| error.kind()), error);
-    let writer = sink.into_inner();
-    let bytes = writer.bytes.as_slice();
-    check_equal(rt, bytes.get(..taken), wanted.as_bytes().get(..taken));
-    check_equal(rt, bytes.get(taken..), Some(wanted.as_bytes()));
-    if writer.most == 1 {
-        let others = writer.writes.checked_sub(refused);
-        check_equal(rt, others, wanted.len().checked_add(1));
-    }
+    check_fault(rt, &sink, error);
+    check_taken(rt, &sink.into_inner(), wanted, taken);
 }
 
 /// How a write is refused: with an error, or by taking nothing.
@@ -241,6 +250,28 @@ fn long(rt: &impl Abort, alloc: Global, length: usize) -> (Value, String) {
     (list, text.expect(rt, "memory"))
 }
 
+/// A small list, and a document of two definitions.
+fn small<E: EachKind>(alloc: Global, each: &mut E) {
+    each.take(
+        value!(in alloc; [1, EXAMPLE, true, null]),
+        "[1, EXAMPLE, true, null]",
+    );
+    each.take(type_and_query(alloc), "type A query { a }");
+}
+
+/// The document of all definitions.
+fn check_document(rt: &impl Abort, alloc: Global) {
+    let all = document(alloc).expect(rt, "memory");
+    let line = document_line(alloc).expect(rt, "memory");
+    check_layouts(rt, alloc, &all, line.as_str(), 1);
+}
+
+fn check_long(rt: &impl Abort, alloc: Global, length: usize) {
+    let (list, wanted) = long(rt, alloc, length);
+    let print = Serialize::new(&list).no_indent();
+    check_layout(rt, alloc, print, wanted.as_str(), 61);
+}
+
 /// Of each kind; of a document of two definitions, and of one of all; and of texts that are longer than what is gathered before it is
 /// sent, with pieces that are gathered and one that isn't.
 #[test]
@@ -252,17 +283,9 @@ fn of_each_kind_and_of_long_texts(rt: HostRuntime) {
     kinds::types(alloc, &mut sinks);
     kinds::type_extensions(alloc, &mut sinks);
     kinds::definitions(alloc, &mut sinks);
-    sinks.take(
-        value!(in alloc; [1, EXAMPLE, true, null]),
-        "[1, EXAMPLE, true, null]",
-    );
-    sinks.take(type_and_query(alloc), "type A query { a }");
-    let all = document(alloc).expect(&rt, "memory");
-    let line = document_line(alloc).expect(&rt, "memory");
-    check_layouts(&rt, alloc, &all, line.as_str(), 1);
+    small(alloc, &mut sinks);
+    check_document(&rt, alloc);
     for length in [700, 1100] {
-        let (list, wanted) = long(&rt, alloc, length);
-        let print = Serialize::new(&list).no_indent();
-        check_layout(&rt, alloc, print, wanted.as_str(), 61);
+        check_long(&rt, alloc, length);
     }
 }

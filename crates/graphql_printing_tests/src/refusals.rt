@@ -54,7 +54,7 @@ fn flaws_are_told_or_memory_was_refused(rt: HostRuntime) {
     check(&rt, rt.alloc(), &[], ILL_FORMED, (1, ""));
 }
 
-/// Allocations: 161.
+/// Allocations: 163.
 #[test]
 fn other_json_is_told_or_memory_was_refused(rt: HostRuntime) {
     let alloc = rt.alloc();

@@ -5,6 +5,7 @@ use super::{VectorError, report, run_vectors, run_words};
 use graphql_ast::serialize::PrintError;
 use graphql_ast::sink::SinkFault;
 use std::alloc::{AllocError, Global};
+use std::fmt::Debug;
 use std::io;
 use std::io::{ErrorKind, Write};
 use std::process::Abort;
@@ -86,6 +87,11 @@ impl Write for Page {
     }
 }
 
+/// That these are equal. A call, since a comparison written out is dear where many follow: the proof of a test goes over all of them.
+fn check_equal<T: PartialEq + Debug + Drop>(rt: &impl Abort, found: T, wanted: T) {
+    assert_eq!(rt; found, wanted);
+}
+
 fn words_of(alloc: Global, texts: &[&str]) -> Result<Vec<String>, AllocError> {
     let mut words = Vec::new(alloc);
     for text in texts {
@@ -103,9 +109,9 @@ fn check_run(
 ) -> Result<(), Fail> {
     let words = words_of(alloc, words)?;
     let (status, out, err) = run_vectors(alloc, &words, Page::new(), Page::new());
-    assert_eq!(rt; status, wanted.0);
-    assert_eq!(rt; out.text(), Some(wanted.1));
-    assert_eq!(rt; err.text(), Some(wanted.2));
+    check_equal(rt, status, wanted.0);
+    check_equal(rt, out.text(), Some(wanted.1));
+    check_equal(rt, err.text(), Some(wanted.2));
     Ok(())
 }
 
@@ -177,8 +183,8 @@ const UNKNOWN: (u8, &str, &str) = (2, "", "unknown vector\n");
 /// Asserts the status and the line of an error.
 fn check_report(rt: &impl Abort, alloc: Global, error: VectorError, wanted: (u8, &str)) {
     let (status, err) = report(error, Page::new());
-    assert_eq!(rt; status, wanted.0);
-    assert_eq!(rt; err.text(), Some(wanted.1));
+    check_equal(rt, status, wanted.0);
+    check_equal(rt, err.text(), Some(wanted.1));
 }
 
 /// Each error, with its status and its line.
@@ -200,6 +206,33 @@ const ERRORS: [(VectorError, (u8, &str)); 6] = [
     (VectorError::Line(SinkFault), (1, "the writer failed\n")),
 ];
 
+fn check_errors(rt: &impl Abort, alloc: Global) {
+    for (error, wanted) in ERRORS {
+        check_report(rt, alloc, error, wanted);
+    }
+}
+
+/// Words that are no vector's number.
+const UNKNOWN_WORDS: [&str; 13] = [
+    "", "01", "+1", "-1", " 1", "1 ", "1\n", "0", "23", "011", "100", "١", "one",
+];
+
+fn check_unknown_words(rt: &impl Abort, alloc: Global) -> Result<(), Fail> {
+    for word in UNKNOWN_WORDS {
+        check_run(rt, alloc, &[word], UNKNOWN)?;
+    }
+    let digits = "1".repeat(alloc, 10_000)?;
+    check_run(rt, alloc, &[digits.as_str()], UNKNOWN)
+}
+
+/// Where memory for the words was refused.
+fn check_no_words(rt: &impl Abort, alloc: Global) {
+    let (status, out, err) = run_words(alloc, Err(AllocError), Page::new(), Page::new());
+    check_equal(rt, status, 1);
+    check_equal(rt, out.text(), Some(""));
+    check_equal(rt, err.text(), Some("out of memory\n"));
+}
+
 /// Known vectors are printed, other words are unknown, and errors have texts.
 #[test]
 fn vectors_are_printed_and_errors_are_told(rt: HostRuntime) -> Result<(), Fail> {
@@ -208,39 +241,25 @@ fn vectors_are_printed_and_errors_are_told(rt: HostRuntime) -> Result<(), Fail> 
         check_printed(&rt, alloc, vectors)?;
     }
     check_run(&rt, alloc, &["16"], OVERFLOW)?;
-    let digits = "1".repeat(alloc, 10_000)?;
-    for word in [
-        "",
-        "01",
-        "+1",
-        "-1",
-        " 1",
-        "1 ",
-        "1\n",
-        "0",
-        "23",
-        "011",
-        "100",
-        "١",
-        "one",
-        digits.as_str(),
-    ] {
-        check_run(&rt, alloc, &[word], UNKNOWN)?;
-    }
+    check_unknown_words(&rt, alloc)?;
     check_run(&rt, alloc, &[], UNKNOWN)?;
     check_run(&rt, alloc, &["1", "1"], UNKNOWN)?;
-    for (error, wanted) in ERRORS {
-        check_report(&rt, alloc, error, wanted);
-    }
-    let (status, out, err) = run_words(alloc, Err(AllocError), Page::new(), Page::new());
-    assert_eq!(&rt;
-        (status, out.text(), err.text()),
-        (1, Some(""), Some("out of memory\n"))
-    );
+    check_errors(&rt, alloc);
+    check_no_words(&rt, alloc);
     Ok(())
 }
 
 const FOUR_VALUES: &str = "[1, EXAMPLE, true, null]\n";
+
+/// What a run ends with whose writer refuses a call at this place.
+fn check_ended(
+    rt: &impl Abort,
+    (refusal, place): (Refusal, usize),
+    found: (u8, Option<&str>),
+    wanted: (u8, Option<&str>),
+) {
+    assert_eq!(rt; found, wanted, "{refusal:?} at {place}");
+}
 
 /// Prints a vector on a writer that refuses one call, and asserts that nothing is written after it.
 fn check_refusal(
@@ -252,9 +271,44 @@ fn check_refusal(
     let words = words_of(alloc, &[number])?;
     let out = Page::refusing_at(place, refusal);
     let (status, out, err) = run_vectors(alloc, &words, out, Page::new());
-    assert_eq!(rt; status, 1, "{refusal:?} at {place}");
-    assert_eq!(rt; out.text(), text.get(..place), "{refusal:?} at {place}");
-    assert_eq!(rt; err.text(), Some("the writer failed\n"));
+    let (found, wanted) = ((status, out.text()), (1, text.get(..place)));
+    check_ended(rt, (refusal, place), found, wanted);
+    check_equal(rt, err.text(), Some("the writer failed\n"));
+    Ok(())
+}
+
+fn check_refused_values(rt: &impl Abort, alloc: Global, refusal: Refusal) -> Result<(), Fail> {
+    for place in 0..FOUR_VALUES.len() {
+        check_refusal(rt, alloc, ("1", FOUR_VALUES), (refusal, place))?;
+    }
+    Ok(())
+}
+
+fn check_refused_document(rt: &impl Abort, alloc: Global) -> Result<(), Fail> {
+    for place in 0..TYPE_AND_QUERY.len() {
+        let refused = (Refusal::Fails, place);
+        check_refusal(rt, alloc, ("9", TYPE_AND_QUERY), refused)?;
+    }
+    Ok(())
+}
+
+/// Runs the program on this word, where standard output and standard error refuse a call at these places, and asserts the status
+/// and what is printed.
+fn check_refused_report(
+    rt: &impl Abort,
+    alloc: Global,
+    word: &str,
+    (out_at, err_at): (Option<usize>, usize),
+    (wanted, printed): (u8, &str),
+) -> Result<(), Fail> {
+    let words = words_of(alloc, &[word])?;
+    let mut out = Page::new();
+    out.refuses_at = out_at;
+    let err = Page::refusing_at(err_at, Refusal::Fails);
+    let (status, out, err) = run_vectors(alloc, &words, out, err);
+    check_equal(rt, (word, status), (word, wanted));
+    check_equal(rt, out.text(), Some(printed));
+    check_equal(rt, err.len, err_at);
     Ok(())
 }
 
@@ -263,31 +317,13 @@ fn check_refusal(
 fn nothing_follows_a_refused_write(rt: HostRuntime) -> Result<(), Fail> {
     let alloc = rt.alloc();
     for refusal in REFUSALS {
-        for place in 0..FOUR_VALUES.len() {
-            check_refusal(&rt, alloc, ("1", FOUR_VALUES), (refusal, place))?;
-        }
+        check_refused_values(&rt, alloc, refusal)?;
     }
-    for place in 0..TYPE_AND_QUERY.len() {
-        let refused = (Refusal::Fails, place);
-        check_refusal(&rt, alloc, ("9", TYPE_AND_QUERY), refused)?;
-    }
-    // the word, where standard output and standard error refuse, the status, and what is printed
-    for (word, out_at, err_at, wanted, printed) in [
-        ("01", None, 0, 2, ""),
-        ("01", None, 3, 2, ""),
-        ("01", None, 14, 2, ""),
-        ("1", Some(1), 0, 1, "["),
-    ] {
-        let words = words_of(alloc, &[word])?;
-        let mut out = Page::new();
-        out.refuses_at = out_at;
-        let err = Page::refusing_at(err_at, Refusal::Fails);
-        let (status, out, err) = run_vectors(alloc, &words, out, err);
-        assert_eq!(rt; status, wanted, "{word}: {err_at}");
-        assert_eq!(rt; out.text(), Some(printed), "{word}: {err_at}");
-        assert_eq!(rt; err.len, err_at, "{word}: {err_at}");
-    }
-    Ok(())
+    check_refused_document(&rt, alloc)?;
+    check_refused_report(&rt, alloc, "01", (None, 0), (2, ""))?;
+    check_refused_report(&rt, alloc, "01", (None, 3), (2, ""))?;
+    check_refused_report(&rt, alloc, "01", (None, 14), (2, ""))?;
+    check_refused_report(&rt, alloc, "1", (Some(1), 0), (1, "["))
 }
 
 /// Runs the program on the number of a vector, and asserts that the run ends as is wanted, or reports refused memory

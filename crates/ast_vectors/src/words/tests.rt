@@ -47,17 +47,25 @@ const NAME: &[u8] = b"ast_vectors";
 /// Bytes that are no text: a byte that stands nowhere in UTF-8.
 const NO_TEXT: &[u8] = &[b'1', 0xFF];
 
+fn check_texts(rt: &impl Abort, alloc: Global) -> Result<(), Fail> {
+    check_words(rt, alloc, &[], &[])?;
+    check_words(rt, alloc, &[NAME], &[])?;
+    check_words(rt, alloc, &[NAME, b"1"], &["1"])?;
+    let three: [&[u8]; 4] = [NAME, b"", b"14", b"\xC3\xA9"];
+    check_words(rt, alloc, &three, &["", "14", "é"])
+}
+
+fn check_no_texts(rt: &impl Abort, alloc: Global) -> Result<(), Fail> {
+    check_words(rt, alloc, &[NAME, NO_TEXT], &[""])?;
+    check_words(rt, alloc, &[NAME, b"1", NO_TEXT, b"2"], &["1", "", "2"])
+}
+
 /// What is no text is an empty word, and so is what is longer than 64 bytes.
 #[test]
 fn words_are_read_in_their_order(rt: HostRuntime) -> Result<(), Fail> {
     let alloc = rt.alloc();
-    check_words(&rt, alloc, &[], &[])?;
-    check_words(&rt, alloc, &[NAME], &[])?;
-    check_words(&rt, alloc, &[NAME, b"1"], &["1"])?;
-    let three: [&[u8]; 4] = [NAME, b"", b"14", b"\xC3\xA9"];
-    check_words(&rt, alloc, &three, &["", "14", "é"])?;
-    check_words(&rt, alloc, &[NAME, NO_TEXT], &[""])?;
-    check_words(&rt, alloc, &[NAME, b"1", NO_TEXT, b"2"], &["1", "", "2"])?;
+    check_texts(&rt, alloc)?;
+    check_no_texts(&rt, alloc)?;
     let text = "1".repeat(alloc, 64)?;
     check_words(&rt, alloc, &[NAME, &[b'1'; 64]], &[text.as_str()])?;
     let longer: [&[u8]; 4] = [NAME, b"1", &[b'1'; 65], b"2"];

@@ -1,4 +1,5 @@
 //! A worked tree of each kind without its locations.
+use crate::checks::check_equal;
 use graphql_locations::Located;
 use std::alloc::{AllocError, Global};
 use std::process::Abort;
@@ -22,21 +23,27 @@ fn check<T: Located + PartialEq + Drop>(
 ) {
     if let Some(tree) = refused.made(made) {
         if let Some(made) = refused.made(tree.without_locations(alloc)) {
-            assert!(rt; made == tree);
+            check_equal(rt, made == tree, true);
         }
     }
 }
 
-fn check_parts(rt: &impl Abort, alloc: Global, refused: &mut Refused) {
+fn check_values(rt: &impl Abort, alloc: Global, refused: &mut Refused) {
     check(rt, alloc, refused, value(alloc));
     check(rt, alloc, refused, type_reference(alloc));
     check(rt, alloc, refused, argument(alloc));
     check(rt, alloc, refused, directive(alloc));
     check(rt, alloc, refused, directive_list(alloc));
     check(rt, alloc, refused, input_value_definition(alloc));
+}
+
+fn check_definition_parts(rt: &impl Abort, alloc: Global, refused: &mut Refused) {
     check(rt, alloc, refused, variable_definition(alloc));
     check(rt, alloc, refused, field_definition(alloc));
     check(rt, alloc, refused, enum_value_definition(alloc));
+}
+
+fn check_selections(rt: &impl Abort, alloc: Global, refused: &mut Refused) {
     check(rt, alloc, refused, fragment_spread(alloc));
     check(rt, alloc, refused, spread_selection(alloc));
     check(rt, alloc, refused, inline_fragment(alloc));
@@ -54,7 +61,9 @@ pub(crate) fn check_definitions(rt: &impl Abort, alloc: Global, refused: &mut Re
 #[test]
 fn locations_are_taken_out_of_each_kind(rt: HostRuntime) {
     let mut refused = Refused::none();
-    check_parts(&rt, rt.alloc(), &mut refused);
+    check_values(&rt, rt.alloc(), &mut refused);
+    check_definition_parts(&rt, rt.alloc(), &mut refused);
+    check_selections(&rt, rt.alloc(), &mut refused);
     check_definitions(&rt, rt.alloc(), &mut refused);
-    assert_eq!(rt; refused.calls, 0);
+    check_equal(&rt, refused.calls, 0);
 }

@@ -1,4 +1,5 @@
 //! Nodes that stand at several places, and nodes in one another.
+use crate::checks::check_equal;
 use graphql_ast::ast::{Field, OperationDefinition, Selection, Value};
 use graphql_ast::span::{FileId, SourceSpan};
 use graphql_ast::{Node, name};
@@ -12,8 +13,9 @@ const LEVELS: usize = 1000;
 fn check_plain(rt: &impl Abort, selection: Option<&mut Selection>) {
     match selection.expect(rt, "a selection") {
         Selection::Field(node) => {
-            assert!(rt; node.location().is_none() && node.name.location().is_none());
-            assert!(rt; node.get_mut().is_some());
+            let locations = (node.location(), node.name.location());
+            check_equal(rt, locations, (None, None));
+            check_equal(rt, node.get_mut().is_some(), true);
         }
         _ => assert!(rt; false, "another selection"),
     }
@@ -49,20 +51,32 @@ fn lists(alloc: Global, levels: usize, span: SourceSpan) -> Result<Value, AllocE
     Ok(value)
 }
 
+fn check_shared(rt: &impl Abort, alloc: Global) {
+    let operation = shared(alloc).expect(rt, "memory");
+    let mut made = operation.without_locations(alloc).expect(rt, "memory");
+    check_equal(rt, made == operation, true);
+    check_plain(rt, made.selection_set.first_mut());
+    check_plain(rt, made.selection_set.last_mut());
+}
+
+fn check_fields(rt: &impl Abort, alloc: Global, span: SourceSpan) {
+    let fields = fields(alloc, LEVELS, span).expect(rt, "memory");
+    let made = fields.without_locations(alloc).expect(rt, "memory");
+    check_equal(rt, made == fields, true);
+    check_equal(rt, made.location(), None);
+}
+
+fn check_lists(rt: &impl Abort, alloc: Global, span: SourceSpan) {
+    let lists = lists(alloc, LEVELS, span).expect(rt, "memory");
+    let made = lists.without_locations(alloc).expect(rt, "memory");
+    check_equal(rt, made == lists, true);
+}
+
 /// The node that stands at two places is made twice, and shared with none. Deep trees lose their locations too.
 #[test]
 fn shared_and_deep_trees_lose_their_locations(rt: HostRuntime) {
-    let alloc = rt.alloc();
-    let operation = shared(alloc).expect(&rt, "memory");
-    let mut made = operation.without_locations(alloc).expect(&rt, "memory");
-    assert!(rt; made == operation);
-    check_plain(&rt, made.selection_set.first_mut());
-    check_plain(&rt, made.selection_set.last_mut());
+    check_shared(&rt, rt.alloc());
     let span = SourceSpan::new(FileId::new(5), 0, 3).expect(&rt, "a span");
-    let fields = fields(alloc, LEVELS, span).expect(&rt, "memory");
-    let made = fields.without_locations(alloc).expect(&rt, "memory");
-    assert!(rt; made == fields && made.location().is_none());
-    let lists = lists(alloc, LEVELS, span).expect(&rt, "memory");
-    let made = lists.without_locations(alloc).expect(&rt, "memory");
-    assert!(rt; made == lists);
+    check_fields(&rt, rt.alloc(), span);
+    check_lists(&rt, rt.alloc(), span);
 }

@@ -2,8 +2,23 @@
 use graphql_checks::trees::check_line;
 use graphql_text::engine::{Serialize, Syntax};
 use std::alloc::{AllocError, Global};
-use std::fmt::Display;
+use std::fmt::{Debug, Display};
 use std::process::Abort;
+
+/// That these are equal. A call, since a comparison written out is dear where many follow: the proof of a test goes over all of them.
+pub(crate) fn check_equal<T: PartialEq + Debug + Drop>(rt: &impl Abort, found: T, wanted: T) {
+    assert_eq!(rt; found, wanted);
+}
+
+/// The same of one of several cases, which is told where they differ.
+pub(crate) fn check_case<T: PartialEq + Debug + Drop>(
+    rt: &impl Abort,
+    case: impl Display + Drop,
+    found: T,
+    wanted: T,
+) {
+    assert_eq!(rt; found, wanted, "{case}");
+}
 
 /// The print in the default layout.
 pub(crate) fn check_displayed<T: Display>(rt: &impl Abort, alloc: Global, tree: &T, wanted: &str) {

@@ -1,5 +1,5 @@
 //! Prints at their edges.
-use crate::checks::check_displayed;
+use crate::checks::{check_case, check_displayed, check_equal};
 use crate::samples::object;
 use graphql_base::name;
 use graphql_base::node::{Node, NodeStr};
@@ -10,6 +10,7 @@ use graphql_type_system::object_type::ObjectTypeDefinition;
 use graphql_type_system::scalar_type::ScalarTypeDefinition;
 use graphql_values::ty;
 use std::alloc::{AllocError, Global};
+use std::process::Abort;
 
 fn described_scalar(alloc: Global, description: &str) -> Result<ScalarTypeDefinition, AllocError> {
     Ok(ScalarTypeDefinition {
@@ -45,40 +46,45 @@ fn object_of(alloc: Global, count: usize) -> Result<ObjectTypeDefinition, AllocE
     })
 }
 
+fn check_levels(rt: &impl Abort, alloc: Global) {
+    let object = object_of(alloc, 1).expect(rt, "memory");
+    let print = object.serialize().no_indent();
+    let last = print.initial_indent_level(usize::MAX - 1).to_text(alloc);
+    let text = last.expect(rt, "memory");
+    check_equal(rt, text.as_str(), "type T { f: Int }");
+    let above = print.initial_indent_level(usize::MAX).to_text(alloc);
+    check_equal(rt, above.err(), Some(PrintError::LevelOverflow));
+}
+
+fn check_wide(rt: &impl Abort, alloc: Global) {
+    let wide = object_of(alloc, 10_000).expect(rt, "memory");
+    let text = wide.serialize().no_indent().to_text(alloc);
+    check_equal(rt, text.expect(rt, "memory").len(), 70_010);
+    let same = wide.clone().expect(rt, "memory");
+    check_equal(rt, same == wide, true);
+}
+
 /// The last level that there is, and ten thousand fields.
 #[test]
 fn levels_at_the_edge(rt: HostRuntime) {
-    let alloc = rt.alloc();
-    let object = object_of(alloc, 1).expect(&rt, "memory");
-    let print = object.serialize().no_indent();
-    let last = print
-        .initial_indent_level(usize::MAX - 1)
-        .to_text(alloc)
-        .expect(&rt, "memory");
-    assert_eq!(rt; last.as_str(), "type T { f: Int }");
-    let above = print.initial_indent_level(usize::MAX).to_text(alloc);
-    assert!(rt; above.is_err_and(|error| error == PrintError::LevelOverflow));
-    let wide = object_of(alloc, 10_000).expect(&rt, "memory");
-    let text = wide
-        .serialize()
-        .no_indent()
-        .to_text(alloc)
-        .expect(&rt, "memory");
-    assert_eq!(rt; text.len(), 70_010);
-    let same = wide.clone().expect(&rt, "memory");
-    assert!(rt; same == wide);
+    check_levels(&rt, rt.alloc());
+    check_wide(&rt, rt.alloc());
+}
+
+fn check_fault(rt: &impl Abort, alloc: Global, object: &ObjectTypeDefinition, room: usize) {
+    let mut sink = Narrow::with_room(alloc, room);
+    let answer = object.serialize().no_indent().print_to(&mut sink);
+    check_case(rt, room, answer, Err(PrintError::Sink));
+    check_case(rt, room, sink.faults, 1);
 }
 
 #[test]
 fn a_sink_that_faults_after_each_byte(rt: HostRuntime) {
     let object = object(rt.alloc()).expect(&rt, "memory");
-    let print = object.serialize().no_indent();
     for room in 0..63 {
-        let mut sink = Narrow::with_room(rt.alloc(), room);
-        let answer = print.print_to(&mut sink);
-        assert_eq!(rt; answer, Err(PrintError::Sink), "{room}");
-        assert_eq!(rt; sink.faults, 1, "{room}");
+        check_fault(&rt, rt.alloc(), &object, room);
     }
     let mut sink = Narrow::with_room(rt.alloc(), 63);
-    assert_eq!(rt; print.print_to(&mut sink), Ok(()));
+    let answer = object.serialize().no_indent().print_to(&mut sink);
+    check_equal(&rt, answer, Ok(()));
 }

@@ -1,4 +1,5 @@
 //! What is looked up by name.
+use crate::checks::check_case;
 use graphql_base::name;
 use graphql_base::node::Node;
 use graphql_type_system::enum_type::{EnumTypeDefinition, EnumTypeExtension};
@@ -12,6 +13,7 @@ use graphql_values::directive_list::DirectiveList;
 use graphql_values::input_value_definition::InputValueDefinition;
 use graphql_values::{ty, value};
 use std::alloc::{AllocError, Global};
+use std::process::Abort;
 
 /// What is asked for, and the mark of what is found: the first `x` of two, the one `y`, and nothing in another case,
 /// by a part of a name or without one. In an empty list nothing is found.
@@ -151,17 +153,25 @@ impl Holders {
     }
 }
 
+fn check_none(rt: &impl Abort, holders: &Holders) {
+    for (whose, found) in holders.found("x") {
+        check_case(rt, whose, found, None);
+    }
+}
+
+fn check_found(rt: &impl Abort, holders: &Holders, name: &str, wanted: Option<usize>) {
+    for (whose, found) in holders.found(name) {
+        check_case(rt, whose, (name, found), (name, wanted));
+    }
+}
+
 /// Fields, values, input fields and arguments.
 #[test]
 fn of_members_by_name(rt: HostRuntime) {
     let mut holders = Holders::new(rt.alloc());
-    for (whose, found) in holders.found("x") {
-        assert_eq!(rt; found, None, "{whose} without members");
-    }
+    check_none(&rt, &holders);
     holders.fill(rt.alloc()).expect(&rt, "memory");
     for (name, wanted) in asked() {
-        for (whose, found) in holders.found(name) {
-            assert_eq!(rt; found, wanted, "{name} of {whose}");
-        }
+        check_found(&rt, &holders, name, wanted);
     }
 }

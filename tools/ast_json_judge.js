@@ -1,5 +1,5 @@
 // Judges AST JSON, for the script mutated_json.js: whether a text is read, as what, and if not, with which error. It follows the definitions
-// (specs/kinds, specs/nodes and specs/code of graphql_ast_json), docs/DECISIONS.md, docs/LAYOUT.md (block strings) and docs/GRAMMAR.md alone.
+// (specs/ of ast_json_nodes, specs/kinds and specs/code of graphql_ast_json), docs/DECISIONS.md, docs/LAYOUT.md (block strings) and docs/GRAMMAR.md alone.
 
 // JSON
 

@@ -1,13 +1,15 @@
 #!/usr/bin/env python3
 """Counts what prints and other calls cost, by valgrind, over the programs print_speed and op_speed as `rt run` or `rt ci` leave them.
 
-    tools/costs.py [--jobs JOBS] [prints] [misses] [calls DOCUMENT.json]
+    tools/costs.py [--jobs JOBS] [prints] [misses] [trees] [calls DOCUMENT.json]
 
 Without a word it counts prints and misses. Each number is that of one round: of a run with four rounds, less that of a run with two, by two.
 
 - prints: instructions a byte that is printed to a text, of each tree of docs/COST.md in the default layout and on one line, with names by `Name::compact`
   and, in brackets, with names that have memory of their own;
 - misses: last-level read misses for 1,000 bytes of a document or a list of 1,000, with a cache of 1 MiB, by cachegrind;
+- trees: the memory of 200 objects, types and queries, in KiB, with what its allocator takes besides, by massif: that of a program that builds 400, less that
+  of one that builds 200, neither of which prints;
 - calls: of each operation of op_speed over that document in AST JSON the instructions, in millions and a byte, and the memory that it asks for, a byte: of
   the GraphQL that is printed of the tree, or of the AST JSON where that is read or written. Of a look-up the instructions an item of its list. The bytes
   that a call asks for are those that dhat counts, also where they are given back within it.
@@ -18,11 +20,13 @@ import argparse
 import re
 import subprocess
 import sys
+import tempfile
 from concurrent.futures import ThreadPoolExecutor
 from pathlib import Path
 
 CRATES = Path(__file__).resolve().parent.parent / "crates"
 PRINTS = [("objects", 200), ("texts", 1000), ("escapes", 1000), ("operations", 200), ("queries", 200), ("types", 500), ("schema", 500), ("document", 440)]
+TREES = [("objects", 200), ("schema", 200), ("queries", 200)]
 MISSES = [("objects", 1000), ("schema", 1000), ("queries", 1000)]
 CALLS = ["equal", "well_formed", "clone", "look_up", "print", "walk", "rebuild", "build", "build_drop", "build_print", "read", "write"]
 FINDS = ["find_directive", "find_argument", "find_field", "find_enum_value", "find_variable", "find_type"]
@@ -87,6 +91,25 @@ def of_misses(pool):
         print(f"{tree} {count}: {1000 * compact[0] / compact[1]:.0f} ({1000 * own[0] / own[1]:.0f})", flush=True)
 
 
+def heap_of(tree, count, names):
+    """The most that the heap holds while a program builds so many, with what the allocator takes besides."""
+    with tempfile.NamedTemporaryFile() as told:
+        words = [program("print_speed"), tree, count, 0, "default", "sink", names, "exact"]
+        done = subprocess.run(["valgrind", "--tool=massif", "--peak-inaccuracy=0.0", f"--massif-out-file={told.name}", *map(str, words)], capture_output=True, text=True)
+        snapshots = re.findall(r"mem_heap_B=(\d+)\nmem_heap_extra_B=(\d+)", Path(told.name).read_text(encoding="utf-8"))
+    if done.returncode != 0 or not snapshots:
+        sys.exit(f"{' '.join(map(str, words))} ended with status {done.returncode}:\n{done.stderr[-800:]}")
+    return max(int(heap) + int(besides) for heap, besides in snapshots)
+
+
+def of_trees(pool):
+    asked = {(tree, n, names): pool.submit(heap_of, tree, n * count, names) for tree, count in TREES for n in [1, 2] for names in ["compact", "own"]}
+    print("memory of a tree, KiB (names of their own)")
+    for tree, count in TREES:
+        compact, own = ((asked[tree, 2, names].result() - asked[tree, 1, names].result()) / 1024 for names in ["compact", "own"])
+        print(f"{tree} {count}: {compact:.0f} ({own:.0f})", flush=True)
+
+
 def of_calls(pool, document):
     def ask(counter, operation):
         return pool.submit(round_of, counter, lambda rounds: [program("op_speed"), operation, rounds], document)
@@ -117,6 +140,8 @@ def main():
                 of_prints(pool)
             elif word == "misses":
                 of_misses(pool)
+            elif word == "trees":
+                of_trees(pool)
             elif word == "calls" and (document := next(what, None)):
                 of_calls(pool, document)
             else:

@@ -26,7 +26,7 @@ crates/golden/data. All texts are the model's but for those of `read` and `refus
   selection sets. As `rt run` builds the program its stack carries 5,000; the checked build of `rt try` runs out of stack between 2,500
   and 3,000;
 - `read`: JSON that is written as it was read, with its locations and with `block`, and prints of trees with locations, with `block`, and with members that
-  are null or left out; `refused`: JSON that is of no tree, and the error that the words of crates/graphql_ast_json/src/error.rt say of it;
+  are null or left out; `refused`: JSON that is of no tree, and the error that the words of crates/ast_json_nodes/src/error.rt say of it;
 - `random-value`, `random-directive`, `random-type-system`, `random-executable`, `random-document`: random trees, some of them ill formed,
   each in one or several layouts and at levels near the greatest; the number in a name counts the trees of its kind.
 """

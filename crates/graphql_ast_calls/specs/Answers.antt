@@ -6,8 +6,8 @@ use Rattle.graphql_ast.specs.Kinds.{Kind, layout_of}
 use Rattle.graphql_ast.specs.Levels.{Overflows}
 use Rattle.graphql_ast.specs.Reading.{ReadsAlone}
 use Rattle.graphql_ast.specs.BlockStringValue.{is_blank}
-use Rattle.graphql_ast_json.specs.declared.read.Unknown.{Unknown}
-use Rattle.graphql_ast_json.specs.declared.read.Unknown.TheVariants.{Refuse, PassOver}
+use Rattle.ast_json_nodes.specs.declared.read.Unknown.{Unknown}
+use Rattle.ast_json_nodes.specs.declared.read.Unknown.TheVariants.{Refuse, PassOver}
 use Rattle.graphql_ast_calls.specs.Buffers.{told_length}
 use Rattle.graphql_ast_calls.specs.Messages.{HasMessage, Holds}
 use Rattle.graphql_ast_calls.specs.declared.status.Status.{Status}

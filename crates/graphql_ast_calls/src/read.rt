@@ -3,7 +3,7 @@ ghost use Rattle.std.specs.Prelude.{◌≡◌, ℕ, List, IfErr, IfOk, IfSome, I
 ghost use Rattle.serde_json.specs.Errors.{IsMemory};
 ghost use Rattle.serde_json.specs.Read.{read};
 ghost use Rattle.serde_json.specs.View.{view};
-ghost use Rattle.graphql_ast_json.specs.code.JsonNodes.{node_data};
+ghost use Rattle.ast_json_nodes.specs.code.JsonNodes.{node_data};
 ghost use Rattle.parsed_json.specs.ParsedJson.{parsed_data};
 ghost use Rattle.graphql_ast_calls.specs.Answers.{IsJsonOf, IsNoJson, reading};
 ghost use Rattle.graphql_ast_calls.specs.Refusals.{IsDataRefusal, IsIllFormedOrMemory, IsNoTreeOrMemory, IsNotJsonOrMemory, IsRefusal, IsTreeRefusal, TellsRefusal};

@@ -6,25 +6,9 @@ pub mod DraftsAreNodes
 pub mod GivenMembers
 -- of Nodes: the text of a kind, as far as it tells kinds apart
 pub mod KindTexts
--- of Nodes: whether a name is one of some names
-pub mod NamesAmong
--- of JsonNodes.member_names: the names of members alone, as they stand in order
-pub mod MemberNames
--- of Nodes: the names of the members of JSON that was parsed
-pub mod ParsedNames
--- of JsonNodes: what tells the type of JSON
-pub mod JsonTypes
--- of Nodes.Each: lists of nodes go item by item
-pub mod NodeLists
--- what stands inside of JSON nests less deep than the JSON
-pub mod JsonDepths
 -- of Nodes and NodeReading: where a name stands
 pub mod NameLocations
 -- of ToldErrors: what is told where a member is no text
 pub mod ToldTexts
 -- of ToldErrors: what is told of a member, and of the first item that is of no tree
 pub mod ToldMembers
--- of Nodes: a location whose members are `end` and `start` alone
-pub mod TwoOffsets
--- of Offsets: units of characters, and where a text is cut by them
-pub mod OffsetUnits

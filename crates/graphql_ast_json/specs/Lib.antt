@@ -1,7 +1,5 @@
 -- Syntax trees as JSON, in the form of graphql-js 16.
 
--- nodes of any kind
-pub mod nodes
 -- which JSON is of which tree, kind by kind
 pub mod kinds
 -- what writing and reading make

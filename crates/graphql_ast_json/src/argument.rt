@@ -5,11 +5,11 @@ ghost use Rattle.graphql_ast_json.specs.kinds.DirectiveJson.{IsArgument};
 ghost use Rattle.graphql_ast_json.specs.lemmas.DirectiveNodes.{argument_laws};
 
 use crate::ast_json::AstNode;
-use crate::error::AstJsonError;
 use crate::form::OnOneLine;
-use crate::read::{JsonNode, NodeReader};
 use crate::value::read::named_value;
 use crate::write::NodeWriter;
+use ast_json_nodes::error::AstJsonError;
+use ast_json_nodes::{JsonNode, NodeReader};
 use graphql_ast::ast::{Argument, Value};
 use graphql_ast::name::Name;
 use serde_json::Value as Json;

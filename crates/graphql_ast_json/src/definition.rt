@@ -2,13 +2,13 @@
 ghost use Rattle.graphql_ast.specs.AstTrees.{definition_tree};
 ghost use Rattle.graphql_ast.specs.DefinitionQueries.{definition_location};
 ghost use Rattle.graphql_ast.specs.Definitions.{DefinitionTree};
-ghost use Rattle.graphql_ast_json.specs.code.NodeReading.{StandsAt};
+ghost use Rattle.ast_json_nodes.specs.code.NodeReading.{StandsAt};
 ghost use Rattle.graphql_ast_json.specs.kinds.DocumentJson.{IsAnyDefinition};
 ghost use Rattle.graphql_ast_json.specs.lemmas.DocumentNodes.{any_definition_laws};
 
 use crate::ast_json::AstJson;
-use crate::error::AstJsonError;
-use crate::read::{JsonNode, NodeReader};
+use ast_json_nodes::error::AstJsonError;
+use ast_json_nodes::{JsonNode, NodeReader};
 use graphql_ast::ast::Definition;
 use graphql_base::node::Node;
 use serde_json::Value as Json;

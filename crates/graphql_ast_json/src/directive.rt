@@ -5,9 +5,10 @@ ghost use Rattle.graphql_ast_json.specs.kinds.DirectiveJson.{IsDirective};
 ghost use Rattle.graphql_ast_json.specs.lemmas.DirectiveNodes.{directive_laws};
 
 use crate::ast_json::AstNode;
-use crate::error::AstJsonError;
-use crate::read::{JsonNode, NodeReader};
+use crate::members::{list, member};
 use crate::write::NodeWriter;
+use ast_json_nodes::error::AstJsonError;
+use ast_json_nodes::{JsonNode, NodeReader};
 use graphql_ast::ast::{Argument, Directive};
 use graphql_ast::name::Name;
 use graphql_base::node::Node;
@@ -30,8 +31,8 @@ impl AstNode for Directive {
     fn read_json_node(node: JsonNode<'_, '_>) -> Result<Directive, AstJsonError> {
         node.check("Directive", &["name", "arguments"])?;
         Ok(Directive {
-            name: node.member::<Name>("name")?,
-            arguments: node.list::<Node<Argument>>("arguments")?,
+            name: member::<Name>(node, "name")?,
+            arguments: list::<Node<Argument>>(node, "arguments")?,
         })
     }
 

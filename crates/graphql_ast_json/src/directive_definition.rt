@@ -5,9 +5,10 @@ ghost use Rattle.graphql_ast_json.specs.kinds.DefinitionJson.{IsDirectiveDefinit
 ghost use Rattle.graphql_ast_json.specs.lemmas.DefinitionNodes.{directive_definition_laws};
 
 use crate::ast_json::AstNode;
-use crate::error::AstJsonError;
-use crate::read::{JsonNode, NodeReader};
+use crate::members::{list, member, optional, required_list};
 use crate::write::NodeWriter;
+use ast_json_nodes::error::AstJsonError;
+use ast_json_nodes::{JsonNode, NodeReader};
 use graphql_ast::ast::{DirectiveDefinition, DirectiveLocation, InputValueDefinition};
 use graphql_ast::name::Name;
 use graphql_base::node::{Node, NodeStr};
@@ -40,11 +41,11 @@ impl AstNode for DirectiveDefinition {
             ],
         )?;
         Ok(DirectiveDefinition {
-            description: node.optional::<NodeStr>("description")?,
-            name: node.member::<Name>("name")?,
-            arguments: node.list::<Node<InputValueDefinition>>("arguments")?,
+            description: optional::<NodeStr>(node, "description")?,
+            name: member::<Name>(node, "name")?,
+            arguments: list::<Node<InputValueDefinition>>(node, "arguments")?,
             repeatable: node.flag("repeatable")?,
-            locations: node.required_list::<DirectiveLocation>("locations")?,
+            locations: required_list::<DirectiveLocation>(node, "locations")?,
         })
     }
 

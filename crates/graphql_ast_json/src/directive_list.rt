@@ -6,9 +6,10 @@ ghost use Rattle.graphql_ast_json.specs.kinds.DirectiveJson.{AreDirectives};
 ghost use Rattle.graphql_ast_json.specs.lemmas.DirectiveNodes.{directives_laws};
 
 use crate::ast_json::AstJson;
-use crate::error::AstJsonError;
-use crate::read::{JsonNode, NodeReader};
+use crate::members::array;
 use crate::write::write_list;
+use ast_json_nodes::error::AstJsonError;
+use ast_json_nodes::{JsonNode, NodeReader};
 use graphql_ast::ast::{Directive, DirectiveList};
 use graphql_base::node::Node;
 use serde_json::Value as Json;
@@ -32,7 +33,7 @@ impl AstJson for DirectiveList {
     }
 
     fn read_json(node: JsonNode<'_, '_>) -> Result<DirectiveList, AstJsonError> {
-        Ok(DirectiveList(node.array::<Node<Directive>>()?))
+        Ok(DirectiveList(array::<Node<Directive>>(node)?))
     }
 
     fn reads_parsed() -> bool {

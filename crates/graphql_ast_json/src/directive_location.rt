@@ -6,9 +6,9 @@ ghost use Rattle.graphql_ast_json.specs.kinds.DefinitionJson.{IsDirectiveLocatio
 ghost use Rattle.graphql_ast_json.specs.lemmas.DefinitionNodes.{location_laws};
 
 use crate::ast_json::AstNode;
-use crate::error::AstJsonError;
-use crate::read::{JsonNode, NodeReader};
 use crate::write::NodeWriter;
+use ast_json_nodes::error::AstJsonError;
+use ast_json_nodes::{JsonNode, NodeReader};
 use graphql_ast::ast::DirectiveLocation;
 use serde_json::Value as Json;
 use std::alloc::AllocError;

@@ -6,9 +6,10 @@ ghost use Rattle.graphql_ast_json.specs.kinds.DocumentJson.{IsDocument};
 ghost use Rattle.graphql_ast_json.specs.lemmas.DocumentNodes.{document_laws};
 
 use crate::ast_json::AstNode;
-use crate::error::AstJsonError;
-use crate::read::{JsonNode, NodeReader};
+use crate::members::required_list;
 use crate::write::NodeWriter;
+use ast_json_nodes::error::AstJsonError;
+use ast_json_nodes::{JsonNode, NodeReader};
 use graphql_ast::ast::{Definition, Document};
 use serde_json::Value as Json;
 use std::alloc::AllocError;
@@ -29,7 +30,7 @@ impl AstNode for Document {
 
     fn read_json_node(node: JsonNode<'_, '_>) -> Result<Document, AstJsonError> {
         node.check("Document", &["definitions"])?;
-        let definitions = node.required_list::<Definition>("definitions")?;
+        let definitions = required_list::<Definition>(node, "definitions")?;
         let mut document = Document::new(node.alloc);
         document.definitions = definitions;
         Ok(document)

@@ -5,9 +5,10 @@ ghost use Rattle.graphql_ast_json.specs.kinds.TypeSystemJson.{IsEnumTypeDefiniti
 ghost use Rattle.graphql_ast_json.specs.lemmas.TypeSystemNodes.{enum_type_definition_laws, enum_type_extension_laws};
 
 use crate::ast_json::AstNode;
-use crate::error::AstJsonError;
-use crate::read::{JsonNode, NodeReader};
+use crate::members::{directives, list, member, optional};
 use crate::write::NodeWriter;
+use ast_json_nodes::error::AstJsonError;
+use ast_json_nodes::{JsonNode, NodeReader};
 use graphql_ast::ast::{EnumTypeDefinition, EnumTypeExtension, EnumValueDefinition};
 use graphql_ast::name::Name;
 use graphql_base::node::{Node, NodeStr};
@@ -33,10 +34,10 @@ impl AstNode for EnumTypeDefinition {
             &["description", "name", "directives", "values"],
         )?;
         Ok(EnumTypeDefinition {
-            description: node.optional::<NodeStr>("description")?,
-            name: node.member::<Name>("name")?,
-            directives: node.directives()?,
-            values: node.list::<Node<EnumValueDefinition>>("values")?,
+            description: optional::<NodeStr>(node, "description")?,
+            name: member::<Name>(node, "name")?,
+            directives: directives(node)?,
+            values: list::<Node<EnumValueDefinition>>(node, "values")?,
         })
     }
 
@@ -66,9 +67,9 @@ impl AstNode for EnumTypeExtension {
     fn read_json_node(node: JsonNode<'_, '_>) -> Result<EnumTypeExtension, AstJsonError> {
         node.check("EnumTypeExtension", &["name", "directives", "values"])?;
         Ok(EnumTypeExtension {
-            name: node.member::<Name>("name")?,
-            directives: node.directives()?,
-            values: node.list::<Node<EnumValueDefinition>>("values")?,
+            name: member::<Name>(node, "name")?,
+            directives: directives(node)?,
+            values: list::<Node<EnumValueDefinition>>(node, "values")?,
         })
     }
 

@@ -5,9 +5,10 @@ ghost use Rattle.graphql_ast_json.specs.kinds.TypeSystemJson.{IsEnumValueDefinit
 ghost use Rattle.graphql_ast_json.specs.lemmas.TypeSystemNodes.{enum_value_definition_laws};
 
 use crate::ast_json::AstNode;
-use crate::error::AstJsonError;
-use crate::read::{JsonNode, NodeReader};
+use crate::members::{directives, member, optional};
 use crate::write::NodeWriter;
+use ast_json_nodes::error::AstJsonError;
+use ast_json_nodes::{JsonNode, NodeReader};
 use graphql_ast::ast::EnumValueDefinition;
 use graphql_ast::name::Name;
 use graphql_base::node::NodeStr;
@@ -33,9 +34,9 @@ impl AstNode for EnumValueDefinition {
             &["description", "name", "directives"],
         )?;
         Ok(EnumValueDefinition {
-            description: node.optional::<NodeStr>("description")?,
-            value: node.member::<Name>("name")?,
-            directives: node.directives()?,
+            description: optional::<NodeStr>(node, "description")?,
+            value: member::<Name>(node, "name")?,
+            directives: directives(node)?,
         })
     }
 

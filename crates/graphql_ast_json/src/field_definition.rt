@@ -5,9 +5,10 @@ ghost use Rattle.graphql_ast_json.specs.kinds.TypeSystemJson.{IsFieldDefinition}
 ghost use Rattle.graphql_ast_json.specs.lemmas.TypeSystemNodes.{field_definition_laws};
 
 use crate::ast_json::AstNode;
-use crate::error::AstJsonError;
-use crate::read::{JsonNode, NodeReader};
+use crate::members::{directives, list, member, optional};
 use crate::write::NodeWriter;
+use ast_json_nodes::error::AstJsonError;
+use ast_json_nodes::{JsonNode, NodeReader};
 use graphql_ast::ast::{FieldDefinition, InputValueDefinition, Type};
 use graphql_ast::name::Name;
 use graphql_base::node::{Node, NodeStr};
@@ -34,11 +35,11 @@ impl AstNode for FieldDefinition {
             &["description", "name", "arguments", "type", "directives"],
         )?;
         Ok(FieldDefinition {
-            description: node.optional::<NodeStr>("description")?,
-            name: node.member::<Name>("name")?,
-            arguments: node.list::<Node<InputValueDefinition>>("arguments")?,
-            ty: node.member::<Type>("type")?,
-            directives: node.directives()?,
+            description: optional::<NodeStr>(node, "description")?,
+            name: member::<Name>(node, "name")?,
+            arguments: list::<Node<InputValueDefinition>>(node, "arguments")?,
+            ty: member::<Type>(node, "type")?,
+            directives: directives(node)?,
         })
     }
 

@@ -5,10 +5,11 @@ ghost use Rattle.graphql_ast_json.specs.kinds.ExecutableJson.{IsFragmentDefiniti
 ghost use Rattle.graphql_ast_json.specs.lemmas.ExecutableNodes.{fragment_definition_laws};
 
 use crate::ast_json::AstNode;
-use crate::error::AstJsonError;
 use crate::form::{NamedTypeForm, SelectionSetForm};
-use crate::read::{JsonNode, NodeReader};
+use crate::members::{directives, member, optional};
 use crate::write::NodeWriter;
+use ast_json_nodes::error::AstJsonError;
+use ast_json_nodes::{JsonNode, NodeReader};
 use graphql_ast::ast::FragmentDefinition;
 use graphql_ast::name::Name;
 use graphql_base::node::NodeStr;
@@ -40,11 +41,11 @@ impl AstNode for FragmentDefinition {
             ],
         )?;
         Ok(FragmentDefinition {
-            description: node.optional::<NodeStr>("description")?,
-            name: node.member::<Name>("name")?,
-            type_condition: node.member::<NamedTypeForm>("typeCondition")?,
-            directives: node.directives()?,
-            selection_set: node.member::<SelectionSetForm>("selectionSet")?,
+            description: optional::<NodeStr>(node, "description")?,
+            name: member::<Name>(node, "name")?,
+            type_condition: member::<NamedTypeForm>(node, "typeCondition")?,
+            directives: directives(node)?,
+            selection_set: member::<SelectionSetForm>(node, "selectionSet")?,
         })
     }
 

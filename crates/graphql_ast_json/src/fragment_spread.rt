@@ -5,9 +5,10 @@ ghost use Rattle.graphql_ast_json.specs.kinds.ExecutableJson.{IsFragmentSpread};
 ghost use Rattle.graphql_ast_json.specs.lemmas.ExecutableNodes.{fragment_spread_laws};
 
 use crate::ast_json::AstNode;
-use crate::error::AstJsonError;
-use crate::read::{JsonNode, NodeReader};
+use crate::members::{directives, member};
 use crate::write::NodeWriter;
+use ast_json_nodes::error::AstJsonError;
+use ast_json_nodes::{JsonNode, NodeReader};
 use graphql_ast::ast::FragmentSpread;
 use graphql_ast::name::Name;
 use serde_json::Value as Json;
@@ -29,8 +30,8 @@ impl AstNode for FragmentSpread {
     fn read_json_node(node: JsonNode<'_, '_>) -> Result<FragmentSpread, AstJsonError> {
         node.check("FragmentSpread", &["name", "directives"])?;
         Ok(FragmentSpread {
-            fragment_name: node.member::<Name>("name")?,
-            directives: node.directives()?,
+            fragment_name: member::<Name>(node, "name")?,
+            directives: directives(node)?,
         })
     }
 

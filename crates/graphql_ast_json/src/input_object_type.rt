@@ -5,9 +5,10 @@ ghost use Rattle.graphql_ast_json.specs.kinds.TypeSystemJson.{IsInputObjectTypeD
 ghost use Rattle.graphql_ast_json.specs.lemmas.TypeSystemNodes.{input_object_type_definition_laws, input_object_type_extension_laws};
 
 use crate::ast_json::AstNode;
-use crate::error::AstJsonError;
-use crate::read::{JsonNode, NodeReader};
+use crate::members::{directives, list, member, optional};
 use crate::write::NodeWriter;
+use ast_json_nodes::error::AstJsonError;
+use ast_json_nodes::{JsonNode, NodeReader};
 use graphql_ast::ast::{InputObjectTypeDefinition, InputObjectTypeExtension, InputValueDefinition};
 use graphql_ast::name::Name;
 use graphql_base::node::{Node, NodeStr};
@@ -33,10 +34,10 @@ impl AstNode for InputObjectTypeDefinition {
             &["description", "name", "directives", "fields"],
         )?;
         Ok(InputObjectTypeDefinition {
-            description: node.optional::<NodeStr>("description")?,
-            name: node.member::<Name>("name")?,
-            directives: node.directives()?,
-            fields: node.list::<Node<InputValueDefinition>>("fields")?,
+            description: optional::<NodeStr>(node, "description")?,
+            name: member::<Name>(node, "name")?,
+            directives: directives(node)?,
+            fields: list::<Node<InputValueDefinition>>(node, "fields")?,
         })
     }
 
@@ -69,9 +70,9 @@ impl AstNode for InputObjectTypeExtension {
             &["name", "directives", "fields"],
         )?;
         Ok(InputObjectTypeExtension {
-            name: node.member::<Name>("name")?,
-            directives: node.directives()?,
-            fields: node.list::<Node<InputValueDefinition>>("fields")?,
+            name: member::<Name>(node, "name")?,
+            directives: directives(node)?,
+            fields: list::<Node<InputValueDefinition>>(node, "fields")?,
         })
     }
 

@@ -5,9 +5,10 @@ ghost use Rattle.graphql_ast_json.specs.kinds.DefinitionJson.{IsInputValueDefini
 ghost use Rattle.graphql_ast_json.specs.lemmas.DefinitionNodes.{input_value_definition_laws};
 
 use crate::ast_json::AstNode;
-use crate::error::AstJsonError;
-use crate::read::{JsonNode, NodeReader};
+use crate::members::{directives, member, optional};
 use crate::write::NodeWriter;
+use ast_json_nodes::error::AstJsonError;
+use ast_json_nodes::{JsonNode, NodeReader};
 use graphql_ast::ast::{InputValueDefinition, Type, Value};
 use graphql_ast::name::Name;
 use graphql_base::node::{Node, NodeStr};
@@ -33,11 +34,11 @@ impl AstNode for InputValueDefinition {
             &["description", "name", "type", "defaultValue", "directives"],
         )?;
         Ok(InputValueDefinition {
-            description: node.optional::<NodeStr>("description")?,
-            name: node.member::<Name>("name")?,
-            ty: node.member::<Node<Type>>("type")?,
-            default_value: node.optional::<Node<Value>>("defaultValue")?,
-            directives: node.directives()?,
+            description: optional::<NodeStr>(node, "description")?,
+            name: member::<Name>(node, "name")?,
+            ty: member::<Node<Type>>(node, "type")?,
+            default_value: optional::<Node<Value>>(node, "defaultValue")?,
+            directives: directives(node)?,
         })
     }
 

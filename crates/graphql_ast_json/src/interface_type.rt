@@ -5,10 +5,11 @@ ghost use Rattle.graphql_ast_json.specs.kinds.TypeSystemJson.{IsInterfaceTypeDef
 ghost use Rattle.graphql_ast_json.specs.lemmas.TypeSystemNodes.{interface_type_definition_laws, interface_type_extension_laws};
 
 use crate::ast_json::AstNode;
-use crate::error::AstJsonError;
 use crate::form::NamedTypeForm;
-use crate::read::{JsonNode, NodeReader};
+use crate::members::{directives, list, member, optional};
 use crate::write::NodeWriter;
+use ast_json_nodes::error::AstJsonError;
+use ast_json_nodes::{JsonNode, NodeReader};
 use graphql_ast::ast::{FieldDefinition, InterfaceTypeDefinition, InterfaceTypeExtension};
 use graphql_ast::name::Name;
 use graphql_base::node::{Node, NodeStr};
@@ -34,11 +35,11 @@ impl AstNode for InterfaceTypeDefinition {
             &["description", "name", "interfaces", "directives", "fields"],
         )?;
         Ok(InterfaceTypeDefinition {
-            description: node.optional::<NodeStr>("description")?,
-            name: node.member::<Name>("name")?,
-            implements_interfaces: node.list::<NamedTypeForm>("interfaces")?,
-            directives: node.directives()?,
-            fields: node.list::<Node<FieldDefinition>>("fields")?,
+            description: optional::<NodeStr>(node, "description")?,
+            name: member::<Name>(node, "name")?,
+            implements_interfaces: list::<NamedTypeForm>(node, "interfaces")?,
+            directives: directives(node)?,
+            fields: list::<Node<FieldDefinition>>(node, "fields")?,
         })
     }
 
@@ -72,10 +73,10 @@ impl AstNode for InterfaceTypeExtension {
             &["name", "interfaces", "directives", "fields"],
         )?;
         Ok(InterfaceTypeExtension {
-            name: node.member::<Name>("name")?,
-            implements_interfaces: node.list::<NamedTypeForm>("interfaces")?,
-            directives: node.directives()?,
-            fields: node.list::<Node<FieldDefinition>>("fields")?,
+            name: member::<Name>(node, "name")?,
+            implements_interfaces: list::<NamedTypeForm>(node, "interfaces")?,
+            directives: directives(node)?,
+            fields: list::<Node<FieldDefinition>>(node, "fields")?,
         })
     }
 

@@ -1,6 +1,6 @@
 //! Laws of AST JSON. Each function does nothing: its contract is the law.
-ghost use Rattle.graphql_ast_json.specs.declared.read.Unknown.{Unknown};
-ghost use Rattle.graphql_ast_json.specs.nodes.OneTree.{IsNeverNull, IsOfOneTree};
+ghost use Rattle.ast_json_nodes.specs.declared.read.Unknown.{Unknown};
+ghost use Rattle.ast_json_nodes.specs.nodes.OneTree.{IsNeverNull, IsOfOneTree};
 
 use crate::ast_json::AstJson;
 

@@ -20,7 +20,6 @@ mod directive_location;
 mod document;
 mod enum_type;
 mod enum_value_definition;
-pub mod error;
 mod field_definition;
 mod form;
 mod fragment_definition;
@@ -29,13 +28,11 @@ mod input_object_type;
 mod input_value_definition;
 mod interface_type;
 pub mod laws;
+mod members;
 mod name;
-mod nesting;
 mod object_type;
-mod offsets;
 mod operation_definition;
 mod operation_type;
-mod read;
 mod root_operation;
 mod scalar_type;
 mod schema;
@@ -49,11 +46,9 @@ mod well_formed;
 mod write;
 
 pub use crate::ast_json::{AstJson, AstNode, from_ast_json_str};
-pub use crate::error::AstJsonError;
-pub use crate::offsets::Offsets;
-pub use crate::read::{JsonNode, NodeReader, Unknown};
 pub use crate::well_formed::{
     BrokenCondition, WellFormedError, from_well_formed_ast_json_str, read_well_formed_ast_json,
     read_well_formed_json,
 };
+pub use ast_json_nodes::{AstJsonError, JsonNode, NodeReader, Offsets, Unknown, error};
 pub use parsed_json::{AnyItems, AnyJson, is_too_deep, parse_json};

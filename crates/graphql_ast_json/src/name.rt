@@ -3,17 +3,17 @@ ghost use Rattle.std.specs.Prelude.{◌≡◌, IfOk, IfErr, IfSome, None, Some, 
 ghost use Rattle.graphql_base.specs.Name.{name_location, name_text};
 ghost use Rattle.graphql_text.specs.trees.Leaves.{name_tree};
 ghost use Rattle.graphql_text.specs.lexical.Literals.{NameText};
-ghost use Rattle.graphql_ast_json.specs.code.Errors.{IsMemory};
-ghost use Rattle.graphql_ast_json.specs.code.JsonNodes.{node_data};
-ghost use Rattle.graphql_ast_json.specs.code.NodeReading.{IsTextNode, NameStandsAt, stretch_of};
-ghost use Rattle.graphql_ast_json.specs.code.ToldErrors.{IsToldOfText};
+ghost use Rattle.ast_json_nodes.specs.code.Errors.{IsMemory};
+ghost use Rattle.ast_json_nodes.specs.code.JsonNodes.{node_data};
+ghost use Rattle.ast_json_nodes.specs.code.NodeReading.{IsTextNode, NameStandsAt, stretch_of};
+ghost use Rattle.ast_json_nodes.specs.code.ToldErrors.{IsToldOfText};
 ghost use Rattle.graphql_ast_json.specs.lemmas.Leaves.{json_laws, name_laws};
-ghost use Rattle.graphql_ast_json.specs.nodes.Nodes.{IsLocated, IsName, as_long_as};
+ghost use Rattle.ast_json_nodes.specs.nodes.Nodes.{IsLocated, IsName, as_long_as};
 
 use crate::ast_json::AstJson;
-use crate::error::AstJsonError;
-use crate::read::{JsonNode, NodeReader};
 use crate::write::NodeWriter;
+use ast_json_nodes::error::AstJsonError;
+use ast_json_nodes::{JsonNode, NodeReader};
 use graphql_ast::name::Name;
 use graphql_base::span::SourceSpan;
 use serde_json::Value as Json;

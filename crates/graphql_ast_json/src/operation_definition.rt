@@ -5,10 +5,12 @@ ghost use Rattle.graphql_ast_json.specs.kinds.ExecutableJson.{IsOperationDefinit
 ghost use Rattle.graphql_ast_json.specs.lemmas.ExecutableNodes.{operation_definition_laws};
 
 use crate::ast_json::AstNode;
-use crate::error::AstJsonError;
 use crate::form::SelectionSetForm;
-use crate::read::{JsonNode, NodeReader};
+use crate::members::{directives, list, member, optional};
+use crate::operation_type::operation_type;
 use crate::write::NodeWriter;
+use ast_json_nodes::error::AstJsonError;
+use ast_json_nodes::{JsonNode, NodeReader};
 use graphql_ast::ast::{OperationDefinition, VariableDefinition};
 use graphql_ast::name::Name;
 use graphql_base::node::{Node, NodeStr};
@@ -48,12 +50,12 @@ impl AstNode for OperationDefinition {
             ],
         )?;
         Ok(OperationDefinition {
-            description: node.optional::<NodeStr>("description")?,
-            operation_type: node.operation_type()?,
-            name: node.optional::<Name>("name")?,
-            variables: node.list::<Node<VariableDefinition>>("variableDefinitions")?,
-            directives: node.directives()?,
-            selection_set: node.member::<SelectionSetForm>("selectionSet")?,
+            description: optional::<NodeStr>(node, "description")?,
+            operation_type: operation_type(node)?,
+            name: optional::<Name>(node, "name")?,
+            variables: list::<Node<VariableDefinition>>(node, "variableDefinitions")?,
+            directives: directives(node)?,
+            selection_set: member::<SelectionSetForm>(node, "selectionSet")?,
         })
     }
 

@@ -5,10 +5,12 @@ ghost use Rattle.graphql_ast_json.specs.kinds.TypeSystemJson.{IsRootOperation};
 ghost use Rattle.graphql_ast_json.specs.lemmas.TypeSystemNodes.{root_operation_laws};
 
 use crate::ast_json::AstNode;
-use crate::error::AstJsonError;
 use crate::form::NamedTypeForm;
-use crate::read::{JsonNode, NodeReader};
+use crate::members::member;
+use crate::operation_type::operation_type;
 use crate::write::NodeWriter;
+use ast_json_nodes::error::AstJsonError;
+use ast_json_nodes::{JsonNode, NodeReader};
 use graphql_ast::ast::{NamedType, OperationType};
 use serde_json::Value as Json;
 use std::alloc::AllocError;
@@ -28,8 +30,8 @@ impl AstNode for (OperationType, NamedType) {
 
     fn read_json_node(node: JsonNode<'_, '_>) -> Result<(OperationType, NamedType), AstJsonError> {
         node.check("OperationTypeDefinition", &["operation", "type"])?;
-        let operation_type = node.operation_type()?;
-        let ty = node.member::<NamedTypeForm>("type")?;
+        let operation_type = operation_type(node)?;
+        let ty = member::<NamedTypeForm>(node, "type")?;
         Ok((operation_type, ty))
     }
 

@@ -5,9 +5,10 @@ ghost use Rattle.graphql_ast_json.specs.kinds.TypeSystemJson.{IsScalarTypeDefini
 ghost use Rattle.graphql_ast_json.specs.lemmas.TypeSystemNodes.{scalar_type_definition_laws, scalar_type_extension_laws};
 
 use crate::ast_json::AstNode;
-use crate::error::AstJsonError;
-use crate::read::{JsonNode, NodeReader};
+use crate::members::{directives, member, optional};
 use crate::write::NodeWriter;
+use ast_json_nodes::error::AstJsonError;
+use ast_json_nodes::{JsonNode, NodeReader};
 use graphql_ast::ast::{ScalarTypeDefinition, ScalarTypeExtension};
 use graphql_ast::name::Name;
 use graphql_base::node::NodeStr;
@@ -33,9 +34,9 @@ impl AstNode for ScalarTypeDefinition {
             &["description", "name", "directives"],
         )?;
         Ok(ScalarTypeDefinition {
-            description: node.optional::<NodeStr>("description")?,
-            name: node.member::<Name>("name")?,
-            directives: node.directives()?,
+            description: optional::<NodeStr>(node, "description")?,
+            name: member::<Name>(node, "name")?,
+            directives: directives(node)?,
         })
     }
 
@@ -64,8 +65,8 @@ impl AstNode for ScalarTypeExtension {
     fn read_json_node(node: JsonNode<'_, '_>) -> Result<ScalarTypeExtension, AstJsonError> {
         node.check("ScalarTypeExtension", &["name", "directives"])?;
         Ok(ScalarTypeExtension {
-            name: node.member::<Name>("name")?,
-            directives: node.directives()?,
+            name: member::<Name>(node, "name")?,
+            directives: directives(node)?,
         })
     }
 

@@ -5,9 +5,10 @@ ghost use Rattle.graphql_ast_json.specs.kinds.TypeSystemJson.{IsSchemaDefinition
 ghost use Rattle.graphql_ast_json.specs.lemmas.TypeSystemNodes.{schema_definition_laws, schema_extension_laws};
 
 use crate::ast_json::AstNode;
-use crate::error::AstJsonError;
-use crate::read::{JsonNode, NodeReader};
+use crate::members::{directives, list, optional};
 use crate::write::NodeWriter;
+use ast_json_nodes::error::AstJsonError;
+use ast_json_nodes::{JsonNode, NodeReader};
 use graphql_ast::ast::{NamedType, OperationType, SchemaDefinition, SchemaExtension};
 use graphql_base::node::{Node, NodeStr};
 use serde_json::Value as Json;
@@ -32,9 +33,9 @@ impl AstNode for SchemaDefinition {
             &["description", "directives", "operationTypes"],
         )?;
         Ok(SchemaDefinition {
-            description: node.optional::<NodeStr>("description")?,
-            directives: node.directives()?,
-            root_operations: node.list::<Node<(OperationType, NamedType)>>("operationTypes")?,
+            description: optional::<NodeStr>(node, "description")?,
+            directives: directives(node)?,
+            root_operations: list::<Node<(OperationType, NamedType)>>(node, "operationTypes")?,
         })
     }
 
@@ -63,8 +64,8 @@ impl AstNode for SchemaExtension {
     fn read_json_node(node: JsonNode<'_, '_>) -> Result<SchemaExtension, AstJsonError> {
         node.check("SchemaExtension", &["directives", "operationTypes"])?;
         Ok(SchemaExtension {
-            directives: node.directives()?,
-            root_operations: node.list::<Node<(OperationType, NamedType)>>("operationTypes")?,
+            directives: directives(node)?,
+            root_operations: list::<Node<(OperationType, NamedType)>>(node, "operationTypes")?,
         })
     }
 

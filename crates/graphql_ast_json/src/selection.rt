@@ -4,7 +4,7 @@ ghost use Rattle.graphql_executable.specs.trees.ExecutableTrees.{field_tree, inl
 ghost use Rattle.graphql_executable.specs.kinds.Fields.{FieldTree};
 ghost use Rattle.graphql_executable.specs.kinds.InlineFragments.{InlineFragmentTree};
 ghost use Rattle.graphql_executable.specs.kinds.Selections.{SelectionTree};
-ghost use Rattle.graphql_ast_json.specs.code.NodeReading.{StandsAt};
+ghost use Rattle.ast_json_nodes.specs.code.NodeReading.{StandsAt};
 ghost use Rattle.graphql_ast_json.specs.kinds.ExecutableJson.{IsField, IsInlineFragment, IsSelection};
 ghost use Rattle.graphql_ast_json.specs.lemmas.ExecutableNodes.{field_laws, inline_fragment_laws, selection_laws};
 ghost use Rattle.graphql_ast_json.specs.lemmas.Leaves.{json_laws};
@@ -13,9 +13,9 @@ pub(crate) mod read;
 pub(crate) mod write;
 
 use crate::ast_json::{AstJson, AstNode};
-use crate::error::AstJsonError;
-use crate::read::{JsonNode, NodeReader};
 use crate::write::NodeWriter;
+use ast_json_nodes::error::AstJsonError;
+use ast_json_nodes::{JsonNode, NodeReader};
 use graphql_ast::ast::{Field, InlineFragment, Selection};
 use read::{read_field, read_inline_fragment, read_selection};
 use serde_json::Value as Json;

@@ -6,41 +6,23 @@ ghost use Rattle.graphql_base.specs.Node.{IsNodeStrAt, node_str_location};
 ghost use Rattle.graphql_text.specs.trees.Leaves.{description_tree};
 ghost use Rattle.graphql_text.specs.lexical.Literals.{StringText};
 ghost use Rattle.graphql_ast_json.specs.code.Drafts.{location_of};
-ghost use Rattle.graphql_ast_json.specs.code.Errors.{IsMemory};
-ghost use Rattle.graphql_ast_json.specs.code.JsonNodes.{node_data, IsReadFrom};
-ghost use Rattle.graphql_ast_json.specs.code.NodeReading.{IsStringOf, StandsAt};
-ghost use Rattle.graphql_ast_json.specs.code.ToldErrors.{IsToldOfOptional, IsToldOfString};
-ghost use Rattle.graphql_ast_json.specs.declared.error.JsonType.TheVariants.{Boolean};
-ghost use Rattle.graphql_ast_json.specs.declared.read.Unknown.{Unknown};
+ghost use Rattle.ast_json_nodes.specs.code.Errors.{IsMemory};
+ghost use Rattle.ast_json_nodes.specs.code.JsonNodes.{node_data, IsReadFrom};
+ghost use Rattle.ast_json_nodes.specs.code.NodeReading.{IsStringOf, StandsAt};
+ghost use Rattle.ast_json_nodes.specs.code.ToldErrors.{IsToldOfString};
+ghost use Rattle.ast_json_nodes.specs.declared.read.Unknown.{Unknown};
 ghost use Rattle.graphql_ast_json.specs.lemmas.Leaves.{json_laws, string_laws};
-ghost use Rattle.graphql_ast_json.specs.nodes.Nodes.{IsBoolean, IsLocated, IsStringValue, OptionalMember, member_of};
+ghost use Rattle.ast_json_nodes.specs.nodes.Nodes.{IsLocated, IsStringValue, member_of};
 
 use crate::ast_json::AstJson;
-use crate::error::{AstJsonError, JsonType};
-use crate::read::{JsonNode, NodeReader, member};
 use crate::write::NodeWriter;
+use ast_json_nodes::error::AstJsonError;
+use ast_json_nodes::{JsonNode, NodeReader};
 use graphql_base::node::NodeStr;
 use graphql_base::span::SourceSpan;
 use graphql_text::writers::can_be_block;
 use serde_json::Value as Json;
 use std::alloc::{AllocError, Global};
-
-/// That the member of this name is a boolean, if it is there.
-fn check_optional_boolean(node: JsonNode<'_, '_>, name: &str) -> Result<(), AstJsonError>
-    ensures ok { IfOk result (λ _. OptionalMember name.now (node_data node.entry) IsBoolean) }
-    ensures err { IfErr result (λ error. ¬ IsMemory error
-        → ¬ OptionalMember name.now (node_data node.entry) IsBoolean) }
-    ensures told { IfErr result (λ error. ¬ IsMemory error
-        → IsToldOfOptional node.entry name.now Boolean error) }
-{
-    match member(node.json, name) {
-        None => Ok(()),
-        Some(member) => match member.as_bool() {
-            Some(_) => Ok(()),
-            None => Err(node.within(name, node.wrong_type(member, JsonType::Boolean))),
-        },
-    }
-}
 
 /// The text of the string that a node is.
 pub(crate) fn string_text<'j>(node: JsonNode<'j, '_>) -> Result<&'j str, AstJsonError>
@@ -52,7 +34,7 @@ pub(crate) fn string_text<'j>(node: JsonNode<'j, '_>) -> Result<&'j str, AstJson
 {
     node.check("StringValue", &["value", "block"])?;
     let text = node.text("value")?;
-    check_optional_boolean(node, "block")?;
+    node.check_optional_boolean("block")?;
     Ok(text)
 }
 

@@ -5,10 +5,11 @@ ghost use Rattle.graphql_ast_json.specs.kinds.TypeSystemJson.{IsUnionTypeDefinit
 ghost use Rattle.graphql_ast_json.specs.lemmas.TypeSystemNodes.{union_type_definition_laws, union_type_extension_laws};
 
 use crate::ast_json::AstNode;
-use crate::error::AstJsonError;
 use crate::form::NamedTypeForm;
-use crate::read::{JsonNode, NodeReader};
+use crate::members::{directives, list, member, optional};
 use crate::write::NodeWriter;
+use ast_json_nodes::error::AstJsonError;
+use ast_json_nodes::{JsonNode, NodeReader};
 use graphql_ast::ast::{UnionTypeDefinition, UnionTypeExtension};
 use graphql_ast::name::Name;
 use graphql_base::node::NodeStr;
@@ -34,10 +35,10 @@ impl AstNode for UnionTypeDefinition {
             &["description", "name", "directives", "types"],
         )?;
         Ok(UnionTypeDefinition {
-            description: node.optional::<NodeStr>("description")?,
-            name: node.member::<Name>("name")?,
-            directives: node.directives()?,
-            members: node.list::<NamedTypeForm>("types")?,
+            description: optional::<NodeStr>(node, "description")?,
+            name: member::<Name>(node, "name")?,
+            directives: directives(node)?,
+            members: list::<NamedTypeForm>(node, "types")?,
         })
     }
 
@@ -67,9 +68,9 @@ impl AstNode for UnionTypeExtension {
     fn read_json_node(node: JsonNode<'_, '_>) -> Result<UnionTypeExtension, AstJsonError> {
         node.check("UnionTypeExtension", &["name", "directives", "types"])?;
         Ok(UnionTypeExtension {
-            name: node.member::<Name>("name")?,
-            directives: node.directives()?,
-            members: node.list::<NamedTypeForm>("types")?,
+            name: member::<Name>(node, "name")?,
+            directives: directives(node)?,
+            members: list::<NamedTypeForm>(node, "types")?,
         })
     }
 

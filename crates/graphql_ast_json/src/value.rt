@@ -8,9 +8,9 @@ pub(crate) mod read;
 pub(crate) mod write;
 
 use crate::ast_json::AstNode;
-use crate::error::AstJsonError;
-use crate::read::{JsonNode, NodeReader};
 use crate::write::NodeWriter;
+use ast_json_nodes::error::AstJsonError;
+use ast_json_nodes::{JsonNode, NodeReader};
 use graphql_ast::ast::Value;
 use read::read_value;
 use serde_json::Value as Json;

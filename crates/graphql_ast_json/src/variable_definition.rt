@@ -5,10 +5,11 @@ ghost use Rattle.graphql_ast_json.specs.kinds.ExecutableJson.{IsVariableDefiniti
 ghost use Rattle.graphql_ast_json.specs.lemmas.ExecutableNodes.{variable_definition_laws};
 
 use crate::ast_json::AstNode;
-use crate::error::AstJsonError;
 use crate::form::VariableForm;
-use crate::read::{JsonNode, NodeReader};
+use crate::members::{directives, member, optional};
 use crate::write::NodeWriter;
+use ast_json_nodes::error::AstJsonError;
+use ast_json_nodes::{JsonNode, NodeReader};
 use graphql_ast::ast::{Type, Value, VariableDefinition};
 use graphql_base::node::{Node, NodeStr};
 use serde_json::Value as Json;
@@ -39,11 +40,11 @@ impl AstNode for VariableDefinition {
             ],
         )?;
         Ok(VariableDefinition {
-            description: node.optional::<NodeStr>("description")?,
-            name: node.member::<VariableForm>("variable")?,
-            ty: node.member::<Node<Type>>("type")?,
-            default_value: node.optional::<Node<Value>>("defaultValue")?,
-            directives: node.directives()?,
+            description: optional::<NodeStr>(node, "description")?,
+            name: member::<VariableForm>(node, "variable")?,
+            ty: member::<Node<Type>>(node, "type")?,
+            default_value: optional::<Node<Value>>(node, "defaultValue")?,
+            directives: directives(node)?,
         })
     }
 

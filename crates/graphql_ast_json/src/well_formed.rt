@@ -3,18 +3,17 @@ ghost use Rattle.std.specs.Prelude.{◌≡◌, ◌↔◌, IfOk, IfErr, IfSome, I
 ghost use Rattle.serde_json.specs.Data.{Data};
 ghost use Rattle.serde_json.specs.Read.{read};
 ghost use Rattle.graphql_text.specs.kinds.Flaws.{first_flaw};
-ghost use Rattle.graphql_ast_json.specs.code.Errors.{DepthIsTold, IsMemory};
-ghost use Rattle.graphql_ast_json.specs.code.JsonNodes.{IsFromNone, IsReadFrom, node_data};
-ghost use Rattle.graphql_ast_json.specs.code.NodeReading.{IsInFile, IsOfNone, IsReadAs, node_json};
+ghost use Rattle.ast_json_nodes.specs.code.Errors.{DepthIsTold, IsMemory};
+ghost use Rattle.ast_json_nodes.specs.code.JsonNodes.{IsFromNone, IsReadFrom, node_data};
+ghost use Rattle.ast_json_nodes.specs.code.NodeReading.{IsInFile, IsOfNone, IsReadAs, node_json};
 ghost use Rattle.graphql_ast_json.specs.code.WellFormed.{IfIllFormed, IfNotRead};
-ghost use Rattle.graphql_ast_json.specs.declared.read.Unknown.TheVariants.{Refuse};
+ghost use Rattle.ast_json_nodes.specs.declared.read.Unknown.TheVariants.{Refuse};
 
 mod search;
 
 use crate::ast_json::AstJson;
-use crate::error::{AstJsonError, JsonPath, NodeLocation};
-use crate::read::text::read_json;
-use crate::read::{JsonNode, NodeReader, Unknown};
+use ast_json_nodes::error::{AstJsonError, JsonPath, NodeLocation};
+use ast_json_nodes::{JsonNode, NodeReader, Unknown, read_json};
 use graphql_ast::name::Name;
 use graphql_base::span::FileId;
 use graphql_text::engine::SyntaxTree;
@@ -114,7 +113,7 @@ impl WellFormedError {
 }
 
 impl From<AllocError> for WellFormedError {
-    ghost use Rattle.graphql_ast_json.specs.declared.error.AstJsonError.TheVariants.{Memory};
+    ghost use Rattle.ast_json_nodes.specs.declared.error.AstJsonError.TheVariants.{Memory};
     ghost use Rattle.graphql_ast_json.specs.declared.well_formed.WellFormedError.TheVariants.{NotRead};
 
     ghost from_gives = { λ _ error. error ≡ NotRead Memory };

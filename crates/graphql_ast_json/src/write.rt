@@ -8,11 +8,11 @@ ghost use Rattle.graphql_text.specs.grammar.Forms.{is_one_of};
 ghost use Rattle.graphql_values.specs.trees.DirectiveTrees.{directive_trees};
 ghost use Rattle.graphql_values.specs.trees.ValueTrees.{value_tree};
 ghost use Rattle.graphql_ast_json.specs.code.Drafts.{IsArrayOf, IsBegun, IsGiven, IsLocationJson, beginning, location_of, members_so_far, put_optional, written};
-ghost use Rattle.graphql_ast_json.specs.code.NodeReading.{IsTextNode, StandsAt};
-ghost use Rattle.graphql_ast_json.specs.declared.read.Unknown.{Unknown};
+ghost use Rattle.ast_json_nodes.specs.code.NodeReading.{IsTextNode, StandsAt};
+ghost use Rattle.ast_json_nodes.specs.declared.read.Unknown.{Unknown};
 ghost use Rattle.graphql_ast_json.specs.kinds.DirectiveJson.{IsDirective};
 ghost use Rattle.graphql_ast_json.specs.kinds.ValueJson.{IsValue};
-ghost use Rattle.graphql_ast_json.specs.nodes.Nodes.{Each, IsNode, IsOptional};
+ghost use Rattle.ast_json_nodes.specs.nodes.Nodes.{Each, IsNode, IsOptional};
 
 use crate::ast_json::AstNode;
 use crate::form::{Form, OnOneLine};

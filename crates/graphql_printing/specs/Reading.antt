@@ -1,7 +1,7 @@
 -- The document that a run reads.
 use Rattle.std.specs.Prelude.{◌≡◌, ℕ, List, Option, IfSome, IsTrue, ◌||◌}
 use Rattle.graphql_ast.specs.Documents.{document_kind}
-use Rattle.graphql_ast_json.specs.declared.read.Unknown.{Unknown}
+use Rattle.ast_json_nodes.specs.declared.read.Unknown.{Unknown}
 use Rattle.graphql_ast_json.specs.kinds.DocumentJson.{IsDocument}
 use Rattle.graphql_ast_calls.specs.Answers.{IsJsonOf}
 use Rattle.graphql_printing.specs.declared.options.Options.{Options}

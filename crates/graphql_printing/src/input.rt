@@ -2,7 +2,7 @@
 ghost use Rattle.std.specs.Prelude.{◌≡◌, ℕ, List, IfErr, IfOk, None, Some};
 ghost use Rattle.serde_json.specs.Read.{read};
 ghost use Rattle.graphql_ast.specs.AstTrees.{document_tree};
-ghost use Rattle.graphql_ast_json.specs.code.JsonNodes.{node_data};
+ghost use Rattle.ast_json_nodes.specs.code.JsonNodes.{node_data};
 ghost use Rattle.graphql_ast_calls.specs.Answers.{IsJsonOf};
 ghost use Rattle.graphql_printing.specs.Reading.{IsAllOf, IsDocumentOf, Passes, Reads};
 ghost use Rattle.graphql_printing.specs.Refusals.{IsDataRefusal, IsNotReadOrMemory, IsReadRefusal, IsRefusal, IsTreeRefusal};

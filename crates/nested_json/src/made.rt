@@ -161,8 +161,10 @@ fn act<T: Syntax + AstJson + Clone + PartialEq + Hash + Drop>(
             true
         }
         Action::ReadBack => {
-            forget(read_back(alloc, &tree)?);
-            true
+            let read = read_back(alloc, &tree)?;
+            let is_same = read == tree;
+            forget(read);
+            is_same
         }
     };
     forget(tree);

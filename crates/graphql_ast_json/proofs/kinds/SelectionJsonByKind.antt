@@ -12,7 +12,7 @@ use Rattle.serde_json.specs.View.{items_of, items_view, view}
 use Rattle.serde_json.specs.declared.value.Value as json
 use Rattle.graphql_ast_json.specs.kinds.ExecutableJson.{AreSelections, IsField, IsInlineFragment, IsSelection}
 use Rattle.graphql_ast_json.specs.lemmas.Leaves.{IsOfKind, different}
-use Rattle.graphql_ast_json.specs.declared.read.Unknown.{Unknown}
+use Rattle.ast_json_nodes.specs.declared.read.Unknown.{Unknown}
 
 pub only_field : (unknown : Unknown) (json : Data) → IsOfKind (codes "Field") json → ((field : FieldTree) → IsField unknown field json → ⊥) →
     (tree : SelectionTree) →

@@ -11,15 +11,15 @@ use Rattle.graphql_values.specs.trees.ValueTrees.{value_tree, value_trees, objec
 use Rattle.serde_json.specs.Data.{Data, string}
 use Rattle.serde_json.specs.Find.{as_str}
 use Rattle.serde_json.specs.View.{items_of}
-use Rattle.graphql_ast_json.specs.code.JsonNodes.{node_data}
-use Rattle.graphql_ast_json.specs.code.ToldErrors.{IsToldOfLeaf, IsToldOfMember}
+use Rattle.ast_json_nodes.specs.code.JsonNodes.{node_data}
+use Rattle.ast_json_nodes.specs.code.ToldErrors.{IsToldOfLeaf, IsToldOfMember}
 use Rattle.graphql_ast_json.specs.code.ToldValues.{IsField, IsToldOfKind, IsToldOfValueIn}
-use Rattle.graphql_ast_json.specs.declared.error.AstJsonError.{AstJsonError}
-use Rattle.graphql_ast_json.specs.declared.error.JsonType.TheVariants.{Text}
-use Rattle.graphql_ast_json.specs.declared.read.JsonNode.{JsonNode}
-use Rattle.graphql_ast_json.specs.declared.read.Unknown.{Unknown}
+use Rattle.ast_json_nodes.specs.declared.error.AstJsonError.{AstJsonError}
+use Rattle.ast_json_nodes.specs.declared.error.JsonType.TheVariants.{Text}
+use Rattle.ast_json_nodes.specs.declared.read.JsonNode.{JsonNode}
+use Rattle.ast_json_nodes.specs.declared.read.Unknown.{Unknown}
 use Rattle.graphql_ast_json.specs.kinds.ValueJson.{AreObjectFields, AreValues, IsValue}
-use Rattle.graphql_ast_json.specs.nodes.Nodes.{Each, member_of}
+use Rattle.ast_json_nodes.specs.nodes.Nodes.{Each, member_of}
 use Rattle.graphql_ast_json.proofs.kinds.ValueKinds.{no_other, not_none}
 
 -- of a list and of an object nothing is told as of a value with no others in it

@@ -3,14 +3,14 @@ use Rattle.std.proofs.Common.{◌≡◌, ℕ, List, ◌∷◌, Option, Some, Non
 use Rattle.graphql_text.specs.lexical.Literals.{NameText}
 use Rattle.graphql_values.specs.kinds.TypeReferences.{TypeTree, named_type, non_null_named_type, list_type, non_null_list_type}
 use Rattle.serde_json.specs.Data.{Data, string}
-use Rattle.graphql_ast_json.specs.nodes.Nodes.{member_of}
+use Rattle.ast_json_nodes.specs.nodes.Nodes.{member_of}
 use Rattle.graphql_ast_json.specs.code.Nesting.{TellsKind}
 use Rattle.graphql_ast_json.specs.code.TypeReading.{IsWithoutNull}
 use Rattle.graphql_ast_json.specs.kinds.TypeJson.{IsNamedType, IsTypeAround, IsTypeReference}
 use Rattle.graphql_ast_json.proofs.nodes.KindTexts.{initial, text_of}
 use Rattle.graphql_ast_json.specs.lemmas.Leaves.{IsOfKind}
 use Rattle.graphql_ast_json.specs.lemmas.TypeNodes.{type_kind, type_node}
-use Rattle.graphql_ast_json.specs.declared.read.Unknown.{Unknown}
+use Rattle.ast_json_nodes.specs.declared.read.Unknown.{Unknown}
 
 clash : (unknown : Unknown) (tree : TypeTree) (json : Data) (kind : List ℕ) → IsOfKind kind json → IsTypeReference unknown tree json → type_kind tree ≡ kind
 clash unknown tree json kind e is = ap text_of (sym (type_node unknown tree json is).is.0 ∙ e)

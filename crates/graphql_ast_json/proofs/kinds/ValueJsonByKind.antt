@@ -14,12 +14,12 @@ use Rattle.graphql_values.specs.trees.Literals.{string_tree}
 use Rattle.std.proofs.lemmas.Str.{IsUtf8-string_bytes, encodes-chars}
 use Rattle.serde_json.specs.Data.{Data}
 use Rattle.serde_json.specs.View.{items_of}
-use Rattle.graphql_ast_json.specs.code.NodeReading.{IsStringOf}
+use Rattle.ast_json_nodes.specs.code.NodeReading.{IsStringOf}
 use Rattle.graphql_ast_json.proofs.nodes.KindTexts.{initial, initial_of}
 use Rattle.graphql_ast_json.specs.lemmas.Leaves.{IsOfKind}
 use Rattle.graphql_ast_json.specs.lemmas.ValueNodes.{value_kind, value_node}
 use Rattle.graphql_ast_json.specs.kinds.ValueJson.{IsValue, AreValues, AreObjectFields, IsNamedValue}
-use Rattle.graphql_ast_json.specs.declared.read.Unknown.{Unknown}
+use Rattle.ast_json_nodes.specs.declared.read.Unknown.{Unknown}
 
 -- where a value of one kind is none, and the JSON is of that kind, it is of no value
 pub only_enum : (unknown : Unknown) (json : Data) → IsOfKind (codes "EnumValue") json → ((name : NameText) → IsValue unknown (enum_value name) json → ⊥) →

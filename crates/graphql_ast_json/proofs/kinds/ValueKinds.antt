@@ -6,12 +6,12 @@ use Rattle.std.specs.Cmp.Lexicographic.{pointwise}
 use Rattle.graphql_text.specs.grammar.Forms.{is_one_of}
 use Rattle.serde_json.specs.Data.{Data, string}
 use Rattle.serde_json.specs.Find.{as_str}
-use Rattle.graphql_ast_json.specs.code.JsonNodes.{node_data}
-use Rattle.graphql_ast_json.specs.code.ToldErrors.{IsToldOfLeaf, IsToldOfMember, IsToldOfValue, value_kinds}
-use Rattle.graphql_ast_json.specs.declared.error.AstJsonError.{AstJsonError}
-use Rattle.graphql_ast_json.specs.declared.error.JsonType.TheVariants.{Text}
-use Rattle.graphql_ast_json.specs.declared.read.JsonNode.{JsonNode}
-use Rattle.graphql_ast_json.specs.nodes.Nodes.{member_of}
+use Rattle.ast_json_nodes.specs.code.JsonNodes.{node_data}
+use Rattle.ast_json_nodes.specs.code.ToldErrors.{IsToldOfLeaf, IsToldOfMember, IsToldOfValue, value_kinds}
+use Rattle.ast_json_nodes.specs.declared.error.AstJsonError.{AstJsonError}
+use Rattle.ast_json_nodes.specs.declared.error.JsonType.TheVariants.{Text}
+use Rattle.ast_json_nodes.specs.declared.read.JsonNode.{JsonNode}
+use Rattle.ast_json_nodes.specs.nodes.Nodes.{member_of}
 
 pub no_other : {P : Type 0} (found kind other : List ℕ) → found ≡ kind → pointwise nat_eq kind other ≡ false → found ≡ other → P
 no_other found kind other is apart same = absurd (true≢false (sym ((bytes_eq-Decides kind other).1 (sym is ∙ same)) ∙ apart))

@@ -8,7 +8,7 @@ use Rattle.graphql_values.specs.declared.value.Value.{Value}
 use Rattle.serde_json.specs.View.{view, items_view}
 use Rattle.serde_json.specs.declared.value.Value.{Value as Json}
 use Rattle.graphql_ast_json.specs.kinds.ValueJson.{IsValue, IsNamedValue, AreValues, AreObjectFields}
-use Rattle.graphql_ast_json.specs.declared.read.Unknown.{Unknown}
+use Rattle.ast_json_nodes.specs.declared.read.Unknown.{Unknown}
 
 pub values_more : (unknown : Unknown) (nodes : List (Node Value)) (node : Node Value) (jsons : List Json) (json : Json) →
     AreValues unknown (value_trees nodes) (items_view jsons) → IsValue unknown (value_tree node.value) (view json) →

@@ -15,10 +15,10 @@ use Rattle.serde_json.proofs.Views.{get_member-put, get_member-put_other}
 use Rattle.serde_json.specs.Data.{Data, number, string, object, unsigned, Members, no_members, member, put}
 use Rattle.serde_json.specs.Find.{get, get_member}
 use Rattle.graphql_ast_json.specs.code.Drafts.{location_json, IsBegun, IsGiven, put_optional, beginning}
-use Rattle.graphql_ast_json.specs.code.NodeReading.{StandsAt, stretch_of}
-use Rattle.graphql_ast_json.specs.declared.read.Unknown.{Unknown}
-use Rattle.graphql_ast_json.specs.declared.read.Unknown.TheVariants.{Refuse, PassOver}
-use Rattle.graphql_ast_json.specs.nodes.Nodes.{present, member_of, names_among, HasOnly, IsLocation, IsNode, stretch_in}
+use Rattle.ast_json_nodes.specs.code.NodeReading.{StandsAt, stretch_of}
+use Rattle.ast_json_nodes.specs.declared.read.Unknown.{Unknown}
+use Rattle.ast_json_nodes.specs.declared.read.Unknown.TheVariants.{Refuse, PassOver}
+use Rattle.ast_json_nodes.specs.nodes.Nodes.{present, member_of, names_among, HasOnly, IsLocation, IsNode, stretch_in}
 
 abbrev pub Entry : Type 0
 Entry = List ℕ × Option Data

@@ -2,7 +2,7 @@
 use Rattle.std.proofs.Common.{◌≡◌, ℕ, List, Some, option_and_then, IsSomeAnd, refl, sym, subst}
 use Rattle.serde_json.specs.Data.{Data, null, boolean, number, string, array, object, Items}
 use Rattle.serde_json.specs.Find.{get, as_array}
-use Rattle.graphql_ast_json.specs.nodes.Nodes.{present, Member, ListMember}
+use Rattle.ast_json_nodes.specs.nodes.Nodes.{present, Member, ListMember}
 
 -- what is found under a name is such
 pub member_is : (name : List ℕ) (json inner : Data) (Is : Data → Type 0) → get name json ≡ Some inner → present inner ≡ Some inner →

@@ -3,8 +3,8 @@ use Rattle.std.proofs.Common.{◌≡◌, ◌≢◌, ℕ, Bool, true, false, Opti
 use Rattle.std.proofs.lemmas.Bool.{eq-eqb, eqb-true}
 use Rattle.graphql_base.specs.Span.{span_len}
 use Rattle.graphql_base.specs.declared.span.SourceSpan.{SourceSpan}
-use Rattle.graphql_ast_json.specs.code.NodeReading.{stretch_of}
-use Rattle.graphql_ast_json.specs.nodes.Nodes.{Stretch, as_long_as}
+use Rattle.ast_json_nodes.specs.code.NodeReading.{stretch_of}
+use Rattle.ast_json_nodes.specs.nodes.Nodes.{Stretch, as_long_as}
 
 pub fits : (n : ℕ) (span : SourceSpan) → span_len span ≡ n → Some (stretch_of span) ≡ as_long_as n (Some (stretch_of span))
 fits n span long = ap (λ b. if b then Some (stretch_of span) else None) (sym (eq-eqb (span_len span) n long))

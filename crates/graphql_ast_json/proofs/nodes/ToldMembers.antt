@@ -4,10 +4,10 @@ use Rattle.std.proofs.Common.{sym, ap, ◌∙◌, subst, arith, drop-cons}
 use Rattle.std.proofs.lemmas.List.{length-take-le, take-append-drop}
 use Rattle.serde_json.specs.Data.{Data, null}
 use Rattle.serde_json.specs.View.{items_of}
-use Rattle.graphql_ast_json.specs.code.Paths.{item_name}
-use Rattle.graphql_ast_json.specs.code.ToldErrors.{IsToldFrom, IsToldOfItemBy}
-use Rattle.graphql_ast_json.specs.declared.error.AstJsonError.{AstJsonError}
-use Rattle.graphql_ast_json.specs.nodes.Nodes.{Each}
+use Rattle.ast_json_nodes.specs.code.Paths.{item_name}
+use Rattle.ast_json_nodes.specs.code.ToldErrors.{IsToldFrom, IsToldOfItemBy}
+use Rattle.ast_json_nodes.specs.declared.error.AstJsonError.{AstJsonError}
+use Rattle.ast_json_nodes.specs.nodes.Nodes.{Each}
 
 pub where_none : {A : Type 0} (found : Option A) (P : Type 0) (Q : A → Type 0) → found ≡ None → P → MatchOption found P Q
 where_none found P Q is p = subst (λ o. MatchOption o P Q) (sym is) p

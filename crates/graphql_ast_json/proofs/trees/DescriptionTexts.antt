@@ -5,9 +5,9 @@ use Rattle.graphql_base.specs.declared.node_str.NodeStr.{NodeStr}
 use Rattle.graphql_base.specs.Node.{node_str_text}
 use Rattle.graphql_text.specs.trees.Leaves.{description_tree}
 use Rattle.serde_json.specs.Data.{Data}
-use Rattle.graphql_ast_json.specs.nodes.Nodes.{IsStringValue}
-use Rattle.graphql_ast_json.specs.code.NodeReading.{IsStringOf}
-use Rattle.graphql_ast_json.specs.declared.read.Unknown.{Unknown}
+use Rattle.ast_json_nodes.specs.nodes.Nodes.{IsStringValue}
+use Rattle.ast_json_nodes.specs.code.NodeReading.{IsStringOf}
+use Rattle.ast_json_nodes.specs.declared.read.Unknown.{Unknown}
 
 pub description_is : (unknown : Unknown) (node : NodeStr) (bytes : List ℕ) (json : Data) → node_str_text node ≡ bytes → IsStringOf unknown bytes json →
     IsStringValue unknown (description_tree node) json

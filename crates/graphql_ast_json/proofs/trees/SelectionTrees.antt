@@ -8,11 +8,11 @@ use Rattle.graphql_executable.specs.declared.inline_fragment.InlineFragment.{Inl
 use Rattle.serde_json.specs.Data.{Data, Members, no_items, put}
 use Rattle.graphql_ast_json.specs.code.Drafts.{IsGiven, put_optional}
 use Rattle.graphql_ast_json.specs.kinds.ExecutableJson.{AreSelections, IsField, IsInlineFragment, IsSelectionSet}
-use Rattle.graphql_ast_json.specs.nodes.Nodes.{present}
+use Rattle.ast_json_nodes.specs.nodes.Nodes.{present}
 use Rattle.graphql_ast_json.specs.lemmas.ExecutableNodes.{selection_set_laws}
 use Rattle.graphql_ast_json.specs.lemmas.Leaves.{never_null_of, there}
-use Rattle.graphql_ast_json.specs.declared.read.Unknown.{Unknown}
-use Rattle.graphql_ast_json.specs.declared.read.Unknown.TheVariants.{Refuse}
+use Rattle.ast_json_nodes.specs.declared.read.Unknown.{Unknown}
+use Rattle.ast_json_nodes.specs.declared.read.Unknown.TheVariants.{Refuse}
 
 pub field_of_parts : (unknown : Unknown) (field : Field) (json : Data) →
     IsField unknown (record { head = field_head field; selections = selection_trees field.selection_set.items }) json →

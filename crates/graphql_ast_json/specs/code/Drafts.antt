@@ -6,7 +6,7 @@ use Rattle.graphql_base.specs.declared.span.SourceSpan.{SourceSpan}
 use Rattle.serde_json.specs.Data.{Data, number, string, object, unsigned, Items, Members, no_members, member, put}
 use Rattle.serde_json.specs.Find.{as_array}
 use Rattle.serde_json.specs.View.{members_view}
-use Rattle.graphql_ast_json.specs.nodes.Nodes.{items_or_none, present}
+use Rattle.ast_json_nodes.specs.nodes.Nodes.{items_or_none, present}
 use Rattle.graphql_ast_json.specs.declared.write.NodeWriter.{NodeWriter}
 
 abbrev pub location_json : SourceSpan → Data

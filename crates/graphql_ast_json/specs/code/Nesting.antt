@@ -1,18 +1,10 @@
 -- What is read of nodes in one another before the nodes that stand in them.
-use Rattle.std.specs.Prelude.{◌≡◌, ℕ, List, Some, codes}
 use Rattle.std.specs.Option.{option_map}
 use Rattle.graphql_text.specs.trees.Leaves.{name_tree}
 use Rattle.graphql_values.specs.trees.DirectiveTrees.{argument_trees, directive_trees}
 use Rattle.graphql_executable.specs.kinds.SelectionHeads.{FieldHeadTree, InlineFragmentHeadTree}
-use Rattle.serde_json.specs.Data.{Data, string}
-use Rattle.graphql_ast_json.specs.declared.read.Unknown.{Unknown}
 use Rattle.graphql_ast_json.specs.declared.selection.read.FieldHead.{FieldHead}
 use Rattle.graphql_ast_json.specs.declared.selection.read.InlineFragmentHead.{InlineFragmentHead}
-use Rattle.graphql_ast_json.specs.nodes.Nodes.{IsLocated, member_of}
-
--- it tells a kind, and where it stands, if it tells that, is a location
-abbrev pub TellsKind : Unknown → Data → Type 0
-TellsKind unknown json = IsLocated unknown json × ((kind : List ℕ) × (member_of (codes "kind") json ≡ Some (string kind)))
 
 -- what stands before the set of a field
 abbrev pub field_head_tree : FieldHead → FieldHeadTree

@@ -3,15 +3,15 @@ use Rattle.std.specs.Prelude.{◌≡◌, ◌⊎◌, ℕ, zero, suc, List, [], �
 use Rattle.serde_json.specs.Data.{Data}
 use Rattle.graphql_text.specs.lexical.Literals.{NameText}
 use Rattle.graphql_values.specs.kinds.Values.{ValueTree}
-use Rattle.graphql_ast_json.specs.code.JsonNodes.{node_data}
-use Rattle.graphql_ast_json.specs.code.ToldErrors.{IsOfNoTree, IsToldOfItemBy, IsToldOfLeaf, IsToldOfListBy, IsToldOfMember, IsToldOfMemberBy, IsToldOfNodeOr}
-use Rattle.graphql_ast_json.specs.code.ToldErrors.{text_in}
-use Rattle.graphql_ast_json.specs.declared.error.AstJsonError.{AstJsonError}
-use Rattle.graphql_ast_json.specs.declared.error.JsonType.TheVariants.{Text}
-use Rattle.graphql_ast_json.specs.declared.read.JsonNode.{JsonNode}
-use Rattle.graphql_ast_json.specs.declared.read.Unknown.{Unknown}
+use Rattle.ast_json_nodes.specs.code.JsonNodes.{node_data}
+use Rattle.ast_json_nodes.specs.code.ToldErrors.{IsOfNoTree, IsToldOfItemBy, IsToldOfLeaf, IsToldOfListBy, IsToldOfMember, IsToldOfMemberBy, IsToldOfNodeOr}
+use Rattle.ast_json_nodes.specs.code.ToldErrors.{text_in}
+use Rattle.ast_json_nodes.specs.declared.error.AstJsonError.{AstJsonError}
+use Rattle.ast_json_nodes.specs.declared.error.JsonType.TheVariants.{Text}
+use Rattle.ast_json_nodes.specs.declared.read.JsonNode.{JsonNode}
+use Rattle.ast_json_nodes.specs.declared.read.Unknown.{Unknown}
 use Rattle.graphql_ast_json.specs.kinds.ValueJson.{IsNamedValue, IsValue}
-use Rattle.graphql_ast_json.specs.nodes.Nodes.{HasName, IsLocated, IsName}
+use Rattle.ast_json_nodes.specs.nodes.Nodes.{HasName, IsLocated, IsName}
 
 -- the other node has this JSON, and is read by the same rules
 abbrev pub IsReadAlike : JsonNode → Data → JsonNode → Type 0

@@ -2,7 +2,7 @@
 use Rattle.std.specs.Prelude.{codes}
 use Rattle.serde_json.specs.Data.{Data}
 use Rattle.graphql_values.specs.kinds.TypeReferences.{TypeTree, named_type, non_null_named_type, list_type, non_null_list_type}
-use Rattle.graphql_ast_json.specs.declared.read.Unknown.{Unknown}
+use Rattle.ast_json_nodes.specs.declared.read.Unknown.{Unknown}
 use Rattle.graphql_ast_json.specs.kinds.TypeJson.{IsNamedType, IsTypeAround, IsTypeReference}
 
 -- the JSON is of the type that this non-null type is around

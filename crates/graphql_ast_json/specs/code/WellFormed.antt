@@ -3,8 +3,8 @@ use Rattle.std.specs.Prelude.{⊤}
 use Rattle.std.specs.Option.{option_map}
 use Rattle.graphql_text.specs.kinds.Flaws.{Flaw}
 use Rattle.graphql_text.specs.trees.Leaves.{name_tree}
-use Rattle.graphql_ast_json.specs.code.Errors.{IsMemory}
-use Rattle.graphql_ast_json.specs.declared.error.AstJsonError.{AstJsonError}
+use Rattle.ast_json_nodes.specs.code.Errors.{IsMemory}
+use Rattle.ast_json_nodes.specs.declared.error.AstJsonError.{AstJsonError}
 use Rattle.graphql_ast_json.specs.declared.well_formed.BrokenCondition.{BrokenCondition}
 use Rattle.graphql_ast_json.specs.declared.well_formed.WellFormedError.{WellFormedError}
 use Rattle.graphql_ast_json.specs.declared.well_formed.WellFormedError.TheVariants.{NotRead, IllFormed}

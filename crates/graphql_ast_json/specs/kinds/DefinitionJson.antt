@@ -5,8 +5,8 @@ use Rattle.graphql_values.specs.kinds.DirectiveDefinitions.{directive_definition
 use Rattle.graphql_values.specs.kinds.DirectiveLocations.{DirectiveLocationTree, location_name}
 use Rattle.graphql_values.specs.kinds.InputValueDefinitions.{input_value_definition_kind}
 use Rattle.graphql_ast_json.specs.kinds.DirectiveJson.{IsDirective}
-use Rattle.graphql_ast_json.specs.declared.read.Unknown.{Unknown}
-use Rattle.graphql_ast_json.specs.nodes.Nodes.{IsFlag, IsNode, IsName, IsStringValue, IsOptional, Member, ListMember, OptionalListMember, Each, member_of}
+use Rattle.ast_json_nodes.specs.declared.read.Unknown.{Unknown}
+use Rattle.ast_json_nodes.specs.nodes.Nodes.{IsFlag, IsNode, IsName, IsStringValue, IsOptional, Member, ListMember, OptionalListMember, Each, member_of}
 use Rattle.graphql_ast_json.specs.kinds.TypeJson.{IsTypeReference}
 use Rattle.graphql_ast_json.specs.kinds.ValueJson.{IsValue}
 

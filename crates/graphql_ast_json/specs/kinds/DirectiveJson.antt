@@ -4,8 +4,8 @@ use Rattle.serde_json.specs.Data.{Data}
 use Rattle.serde_json.specs.Find.{as_array}
 use Rattle.graphql_values.specs.kinds.Arguments.{ArgumentTree}
 use Rattle.graphql_values.specs.kinds.Directives.{DirectiveTree}
-use Rattle.graphql_ast_json.specs.declared.read.Unknown.{Unknown}
-use Rattle.graphql_ast_json.specs.nodes.Nodes.{IsNode, IsName, Member, OptionalListMember, Each}
+use Rattle.ast_json_nodes.specs.declared.read.Unknown.{Unknown}
+use Rattle.ast_json_nodes.specs.nodes.Nodes.{IsNode, IsName, Member, OptionalListMember, Each}
 use Rattle.graphql_ast_json.specs.kinds.ValueJson.{IsValue, IsNamedValue}
 
 abbrev pub IsArgument : Unknown → ArgumentTree → Data → Type 0

@@ -8,8 +8,8 @@ use Rattle.graphql_ast.specs.Definitions.{SchemaExtension, ScalarTypeExtension, 
 use Rattle.graphql_ast.specs.Definitions.{UnionTypeExtension, EnumTypeExtension, InputObjectTypeExtension}
 use Rattle.graphql_ast_json.specs.kinds.DefinitionJson.{IsDirectiveDefinition}
 use Rattle.graphql_ast_json.specs.kinds.ExecutableJson.{IsFragmentDefinition, IsOperationDefinition}
-use Rattle.graphql_ast_json.specs.declared.read.Unknown.{Unknown}
-use Rattle.graphql_ast_json.specs.nodes.Nodes.{Each, IsNode, ListMember}
+use Rattle.ast_json_nodes.specs.declared.read.Unknown.{Unknown}
+use Rattle.ast_json_nodes.specs.nodes.Nodes.{Each, IsNode, ListMember}
 use Rattle.graphql_ast_json.specs.kinds.TypeSystemJson.{IsEnumTypeDefinition, IsEnumTypeExtension, IsInputObjectTypeDefinition}
 use Rattle.graphql_ast_json.specs.kinds.TypeSystemJson.{IsInputObjectTypeExtension, IsInterfaceTypeDefinition, IsInterfaceTypeExtension}
 use Rattle.graphql_ast_json.specs.kinds.TypeSystemJson.{IsObjectTypeDefinition, IsObjectTypeExtension, IsScalarTypeDefinition}

@@ -14,8 +14,8 @@ use Rattle.graphql_executable.specs.kinds.Selections.{SelectionTree, field_selec
 use Rattle.graphql_executable.specs.kinds.Selections.{no_selections, more_selections}
 use Rattle.graphql_executable.specs.kinds.VariableDefinitions.{VariableDefinitionTree, variable_definition_kind}
 use Rattle.graphql_ast_json.specs.kinds.DirectiveJson.{HasDirectives, IsArgument}
-use Rattle.graphql_ast_json.specs.declared.read.Unknown.{Unknown}
-use Rattle.graphql_ast_json.specs.nodes.Nodes.{Each, HasName, IsName, IsNode, IsOptional, ListMember, Member, OptionalListMember, member_of}
+use Rattle.ast_json_nodes.specs.declared.read.Unknown.{Unknown}
+use Rattle.ast_json_nodes.specs.nodes.Nodes.{Each, HasName, IsName, IsNode, IsOptional, ListMember, Member, OptionalListMember, member_of}
 use Rattle.graphql_ast_json.specs.kinds.TypeJson.{IsNamedType, IsTypeReference}
 use Rattle.graphql_ast_json.specs.kinds.TypeSystemJson.{IsDefinition}
 use Rattle.graphql_ast_json.specs.kinds.ValueJson.{IsValue}

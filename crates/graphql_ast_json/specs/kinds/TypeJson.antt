@@ -3,8 +3,8 @@ use Rattle.std.specs.Prelude.{ℕ, List, [], ◌∷◌, codes}
 use Rattle.serde_json.specs.Data.{Data}
 use Rattle.graphql_text.specs.lexical.Literals.{NameText}
 use Rattle.graphql_values.specs.kinds.TypeReferences.{TypeTree, named_type, non_null_named_type, list_type, non_null_list_type}
-use Rattle.graphql_ast_json.specs.declared.read.Unknown.{Unknown}
-use Rattle.graphql_ast_json.specs.nodes.Nodes.{IsNode, IsName, Member}
+use Rattle.ast_json_nodes.specs.declared.read.Unknown.{Unknown}
+use Rattle.ast_json_nodes.specs.nodes.Nodes.{IsNode, IsName, Member}
 
 abbrev pub IsNamedType : Unknown → NameText → Data → Type 0
 IsNamedType unknown name json = IsNode unknown (codes "NamedType") (codes "name" ∷ []) json × Member (codes "name") json (IsName unknown name)

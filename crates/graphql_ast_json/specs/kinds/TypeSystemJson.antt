@@ -14,8 +14,8 @@ use Rattle.graphql_type_system.specs.kinds.UnionTypes.{UnionTypeTree}
 use Rattle.graphql_values.specs.kinds.InputValueDefinitions.{input_value_definition_kind}
 use Rattle.graphql_ast_json.specs.kinds.DefinitionJson.{IsInputValueDefinition}
 use Rattle.graphql_ast_json.specs.kinds.DirectiveJson.{HasDirectives}
-use Rattle.graphql_ast_json.specs.declared.read.Unknown.{Unknown}
-use Rattle.graphql_ast_json.specs.nodes.Nodes.{Each, HasName, IsNode, IsOptional, IsStringValue, Member, OptionalListMember, member_of}
+use Rattle.ast_json_nodes.specs.declared.read.Unknown.{Unknown}
+use Rattle.ast_json_nodes.specs.nodes.Nodes.{Each, HasName, IsNode, IsOptional, IsStringValue, Member, OptionalListMember, member_of}
 use Rattle.graphql_ast_json.specs.kinds.TypeJson.{IsNamedType, IsTypeReference}
 
 -- A definition: a node of this kind with a description, perhaps, and the members of its body, which have these names.

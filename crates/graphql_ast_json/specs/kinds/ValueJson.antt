@@ -5,8 +5,8 @@ use Rattle.graphql_text.specs.lexical.Literals.{NameText}
 use Rattle.graphql_values.specs.kinds.Values.{ValueTree, null_value, enum_value, variable, string_value, float_value, int_value}
 use Rattle.graphql_values.specs.kinds.Values.{boolean_value, list_value, object_value, ValueTrees, no_values, more_values, ObjectFieldTrees}
 use Rattle.graphql_values.specs.kinds.Values.{no_fields, more_fields}
-use Rattle.graphql_ast_json.specs.declared.read.Unknown.{Unknown}
-use Rattle.graphql_ast_json.specs.nodes.Nodes.{IsNode, IsName, IsStringValue, Member, ListMember, member_of}
+use Rattle.ast_json_nodes.specs.declared.read.Unknown.{Unknown}
+use Rattle.ast_json_nodes.specs.nodes.Nodes.{IsNode, IsName, IsStringValue, Member, ListMember, member_of}
 
 -- a node of this kind with a name, and with a value that is such: a field of an object, an argument
 abbrev pub IsNamedValue : Unknown → List ℕ → NameText → (Data → Type 0) → Data → Type 0

@@ -14,15 +14,15 @@ use Rattle.serde_json.specs.Data.{Data}
 use Rattle.serde_json.specs.Find.{as_array}
 use Rattle.graphql_ast_json.specs.kinds.DefinitionJson.{IsInputValueDefinition, IsDirectiveLocation, IsDirectiveDefinition}
 use Rattle.graphql_ast_json.specs.kinds.DirectiveJson.{IsDirective}
-use Rattle.graphql_ast_json.specs.nodes.Nodes.{Each, IsName, IsStringValue, items_or_none, member_of}
-use Rattle.graphql_ast_json.specs.nodes.OneTree.{NodeLaws}
+use Rattle.ast_json_nodes.specs.nodes.Nodes.{Each, IsName, IsStringValue, items_or_none, member_of}
+use Rattle.ast_json_nodes.specs.nodes.OneTree.{NodeLaws}
 use Rattle.graphql_ast_json.specs.kinds.TypeJson.{IsTypeReference}
 use Rattle.graphql_ast_json.specs.kinds.ValueJson.{IsValue}
 use Rattle.graphql_ast_json.specs.lemmas.DirectiveNodes.{same_directive}
 use Rattle.graphql_ast_json.specs.lemmas.Leaves.{both_some, same_each, same_flag, same_name, same_optional, same_string, same_string_value}
 use Rattle.graphql_ast_json.specs.lemmas.TypeNodes.{same_type}
 use Rattle.graphql_ast_json.specs.lemmas.ValueNodes.{same_value}
-use Rattle.graphql_ast_json.specs.declared.read.Unknown.{Unknown}
+use Rattle.ast_json_nodes.specs.declared.read.Unknown.{Unknown}
 
 pub same_input_value_definition : (unknown : Unknown) (a b : input_value_definition_kind.Tree) (json : Data) → IsInputValueDefinition unknown a json →
     IsInputValueDefinition unknown b json → a ≡ b

@@ -5,12 +5,12 @@ use Rattle.graphql_values.specs.kinds.Directives.{DirectiveTree}
 use Rattle.serde_json.specs.Data.{Data}
 use Rattle.serde_json.specs.Find.{as_array}
 use Rattle.graphql_ast_json.specs.kinds.DirectiveJson.{IsArgument, IsDirective, AreDirectives}
-use Rattle.graphql_ast_json.specs.nodes.Nodes.{Each, IsName, items_or_none, member_of}
-use Rattle.graphql_ast_json.specs.nodes.OneTree.{JsonLaws, NodeLaws}
+use Rattle.ast_json_nodes.specs.nodes.Nodes.{Each, IsName, items_or_none, member_of}
+use Rattle.ast_json_nodes.specs.nodes.OneTree.{JsonLaws, NodeLaws}
 use Rattle.graphql_ast_json.specs.kinds.ValueJson.{IsValue}
 use Rattle.graphql_ast_json.specs.lemmas.Leaves.{both_some, same_each, same_name}
 use Rattle.graphql_ast_json.specs.lemmas.ValueNodes.{same_value}
-use Rattle.graphql_ast_json.specs.declared.read.Unknown.{Unknown}
+use Rattle.ast_json_nodes.specs.declared.read.Unknown.{Unknown}
 
 pub same_argument : (unknown : Unknown) (a b : ArgumentTree) (json : Data) → IsArgument unknown a json → IsArgument unknown b json → a ≡ b
 same_argument unknown a b json p q =

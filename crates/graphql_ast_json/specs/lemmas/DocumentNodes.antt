@@ -9,8 +9,8 @@ use Rattle.graphql_ast.specs.Definitions.{InterfaceTypeDefinition, UnionTypeDefi
 use Rattle.graphql_ast.specs.Definitions.{SchemaExtension, ScalarTypeExtension, ObjectTypeExtension, InterfaceTypeExtension}
 use Rattle.graphql_ast.specs.Definitions.{UnionTypeExtension, EnumTypeExtension, InputObjectTypeExtension}
 use Rattle.graphql_ast_json.specs.kinds.DocumentJson.{IsNamed, IsAnyDefinition, IsDocument}
-use Rattle.graphql_ast_json.specs.nodes.Nodes.{Each, member_of}
-use Rattle.graphql_ast_json.specs.nodes.OneTree.{IsOfOneTree, JsonLaws, NodeLaws}
+use Rattle.ast_json_nodes.specs.nodes.Nodes.{Each, member_of}
+use Rattle.ast_json_nodes.specs.nodes.OneTree.{IsOfOneTree, JsonLaws, NodeLaws}
 use Rattle.graphql_ast_json.specs.lemmas.DefinitionNodes.{directive_definition_laws}
 use Rattle.graphql_ast_json.specs.lemmas.ExecutableNodes.{fragment_definition_laws, operation_definition_laws}
 use Rattle.graphql_ast_json.specs.lemmas.TypeSystemNodes.{schema_definition_laws, scalar_type_definition_laws, object_type_definition_laws}
@@ -19,7 +19,7 @@ use Rattle.graphql_ast_json.specs.lemmas.TypeSystemNodes.{input_object_type_defi
 use Rattle.graphql_ast_json.specs.lemmas.TypeSystemNodes.{object_type_extension_laws, interface_type_extension_laws, union_type_extension_laws}
 use Rattle.graphql_ast_json.specs.lemmas.TypeSystemNodes.{enum_type_extension_laws, input_object_type_extension_laws}
 use Rattle.graphql_ast_json.specs.lemmas.Leaves.{IsOfKind, both_some, no_null, same_each, same_string}
-use Rattle.graphql_ast_json.specs.declared.read.Unknown.{Unknown}
+use Rattle.ast_json_nodes.specs.declared.read.Unknown.{Unknown}
 
 -- WHICH DEFINITION A NODE IS
 

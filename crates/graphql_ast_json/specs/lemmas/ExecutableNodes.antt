@@ -18,8 +18,8 @@ use Rattle.graphql_ast_json.specs.kinds.ExecutableJson.{IsFragmentSpread, inline
 use Rattle.graphql_ast_json.specs.kinds.ExecutableJson.{AreSelections, IsSelectionSet, IsField, IsInlineFragment, HasOperationDefinition}
 use Rattle.graphql_ast_json.specs.kinds.ExecutableJson.{HasFragmentDefinition, IsOperationDefinition, IsFragmentDefinition}
 use Rattle.graphql_ast_json.specs.kinds.ExecutableJson.{operation_definition_members, fragment_definition_members}
-use Rattle.graphql_ast_json.specs.nodes.Nodes.{IsName, member_of}
-use Rattle.graphql_ast_json.specs.nodes.OneTree.{IsNodeOf, IsOfOneTree, NodeLaws}
+use Rattle.ast_json_nodes.specs.nodes.Nodes.{IsName, member_of}
+use Rattle.ast_json_nodes.specs.nodes.OneTree.{IsNodeOf, IsOfOneTree, NodeLaws}
 use Rattle.graphql_ast_json.specs.kinds.TypeJson.{IsNamedType, IsTypeReference}
 use Rattle.graphql_ast_json.specs.kinds.ValueJson.{IsValue}
 use Rattle.graphql_ast_json.specs.lemmas.DirectiveNodes.{same_argument}
@@ -27,7 +27,7 @@ use Rattle.graphql_ast_json.specs.lemmas.Leaves.{both_some, different, same_name
 use Rattle.graphql_ast_json.specs.lemmas.TypeNodes.{same_named_type, same_type}
 use Rattle.graphql_ast_json.specs.lemmas.TypeSystemNodes.{definition_laws, has_directives, has_list, has_name, same_definition, same_operation_type}
 use Rattle.graphql_ast_json.specs.lemmas.ValueNodes.{same_value}
-use Rattle.graphql_ast_json.specs.declared.read.Unknown.{Unknown}
+use Rattle.ast_json_nodes.specs.declared.read.Unknown.{Unknown}
 
 -- VARIABLES
 

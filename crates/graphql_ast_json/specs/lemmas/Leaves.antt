@@ -5,9 +5,9 @@ use Rattle.std.proofs.lemmas.Str.{encodes_same}
 use Rattle.std.specs.Cmp.Lexicographic.{pointwise}
 use Rattle.graphql_text.proofs.lexical.CheckedTexts.{same_text}
 use Rattle.serde_json.specs.Data.{Data, null, boolean, number, string, array, object, Items, no_items, item}
-use Rattle.graphql_ast_json.specs.nodes.Nodes.{Each, IsFlag, IsName, IsOptional, IsStringValue, member_of, present}
-use Rattle.graphql_ast_json.specs.nodes.OneTree.{IsNeverNull, IsOfOneTree, JsonLaws, NodeLaws}
-use Rattle.graphql_ast_json.specs.declared.read.Unknown.{Unknown}
+use Rattle.ast_json_nodes.specs.nodes.Nodes.{Each, IsFlag, IsName, IsOptional, IsStringValue, member_of, present}
+use Rattle.ast_json_nodes.specs.nodes.OneTree.{IsNeverNull, IsOfOneTree, JsonLaws, NodeLaws}
+use Rattle.ast_json_nodes.specs.declared.read.Unknown.{Unknown}
 
 -- JSON
 

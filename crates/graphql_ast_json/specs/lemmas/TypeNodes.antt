@@ -4,11 +4,11 @@ use Rattle.std.specs.Cmp.Lexicographic.{pointwise}
 use Rattle.graphql_text.specs.lexical.Literals.{NameText}
 use Rattle.graphql_values.specs.kinds.TypeReferences.{TypeTree, named_type, non_null_named_type, list_type, non_null_list_type}
 use Rattle.serde_json.specs.Data.{Data}
-use Rattle.graphql_ast_json.specs.nodes.Nodes.{IsName, member_of}
-use Rattle.graphql_ast_json.specs.nodes.OneTree.{IsNodeOf, NodeLaws}
+use Rattle.ast_json_nodes.specs.nodes.Nodes.{IsName, member_of}
+use Rattle.ast_json_nodes.specs.nodes.OneTree.{IsNodeOf, NodeLaws}
 use Rattle.graphql_ast_json.specs.kinds.TypeJson.{IsNamedType, IsTypeAround, IsTypeReference}
 use Rattle.graphql_ast_json.specs.lemmas.Leaves.{both_some, different, same_name}
-use Rattle.graphql_ast_json.specs.declared.read.Unknown.{Unknown}
+use Rattle.ast_json_nodes.specs.declared.read.Unknown.{Unknown}
 
 abbrev pub type_kind : TypeTree → List ℕ
 type_kind (named_type _) = codes "NamedType"

@@ -6,8 +6,8 @@ use Rattle.graphql_values.specs.kinds.OperationTypes.{OperationTypeTree, operati
 use Rattle.graphql_values.specs.kinds.OperationTypes as operation
 use Rattle.graphql_ast_json.specs.kinds.DefinitionJson.{IsInputValueDefinition}
 use Rattle.graphql_ast_json.specs.kinds.DirectiveJson.{HasDirectives, IsDirective}
-use Rattle.graphql_ast_json.specs.nodes.Nodes.{Each, HasName, IsName, IsStringValue, OptionalListMember, items_or_none, member_of}
-use Rattle.graphql_ast_json.specs.nodes.OneTree.{IsOfOneTree, NodeLaws}
+use Rattle.ast_json_nodes.specs.nodes.Nodes.{Each, HasName, IsName, IsStringValue, OptionalListMember, items_or_none, member_of}
+use Rattle.ast_json_nodes.specs.nodes.OneTree.{IsOfOneTree, NodeLaws}
 use Rattle.graphql_ast_json.specs.kinds.TypeJson.{IsNamedType, IsTypeReference}
 use Rattle.graphql_ast_json.specs.kinds.TypeSystemJson.{IsDefinition, IsExtension, enum_value_members, field_members, HasField}
 use Rattle.graphql_ast_json.specs.kinds.TypeSystemJson.{IsFieldDefinition, HasEnumValue, IsEnumValueDefinition, IsRootOperation, HasSchema}
@@ -22,7 +22,7 @@ use Rattle.graphql_ast_json.specs.lemmas.DefinitionNodes.{same_input_value_defin
 use Rattle.graphql_ast_json.specs.lemmas.DirectiveNodes.{same_directive}
 use Rattle.graphql_ast_json.specs.lemmas.Leaves.{both_some, same_each, same_name, same_optional, same_string, same_string_value}
 use Rattle.graphql_ast_json.specs.lemmas.TypeNodes.{same_named_type, same_type}
-use Rattle.graphql_ast_json.specs.declared.read.Unknown.{Unknown}
+use Rattle.ast_json_nodes.specs.declared.read.Unknown.{Unknown}
 
 -- ANY DEFINITION AND EXTENSION
 

@@ -7,11 +7,11 @@ use Rattle.graphql_values.specs.kinds.Values.{boolean_value, list_value, object_
 use Rattle.graphql_values.specs.kinds.Values.{no_fields, more_fields}
 use Rattle.serde_json.specs.Data.{Data, Items, no_items, item}
 use Rattle.serde_json.specs.Find.{as_array}
-use Rattle.graphql_ast_json.specs.nodes.Nodes.{IsName, member_of}
-use Rattle.graphql_ast_json.specs.nodes.OneTree.{IsNodeOf, NodeLaws}
+use Rattle.ast_json_nodes.specs.nodes.Nodes.{IsName, member_of}
+use Rattle.ast_json_nodes.specs.nodes.OneTree.{IsNodeOf, NodeLaws}
 use Rattle.graphql_ast_json.specs.kinds.ValueJson.{IsValue, AreValues, AreObjectFields}
 use Rattle.graphql_ast_json.specs.lemmas.Leaves.{both_some, different, same_boolean, same_name, same_string, same_string_value}
-use Rattle.graphql_ast_json.specs.declared.read.Unknown.{Unknown}
+use Rattle.ast_json_nodes.specs.declared.read.Unknown.{Unknown}
 
 abbrev pub value_kind : ValueTree → List ℕ
 value_kind null_value = codes "NullValue"

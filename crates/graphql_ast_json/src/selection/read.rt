@@ -8,19 +8,20 @@ ghost use Rattle.graphql_executable.specs.kinds.Fields.{FieldTree};
 ghost use Rattle.graphql_executable.specs.kinds.InlineFragments.{InlineFragmentTree};
 ghost use Rattle.graphql_executable.specs.kinds.Selections.{SelectionTree, SelectionTrees, field_selection, inline_selection};
 ghost use Rattle.parsed_json.specs.AnyJson.{items_data};
-ghost use Rattle.graphql_ast_json.specs.code.Errors.{IsMemory};
-ghost use Rattle.graphql_ast_json.specs.code.JsonNodes.{node_data, IsFromNone, IsReadFrom};
+ghost use Rattle.ast_json_nodes.specs.code.Errors.{IsMemory};
+ghost use Rattle.ast_json_nodes.specs.code.JsonNodes.{node_data, IsFromNone, IsReadFrom};
 ghost use Rattle.graphql_ast_json.specs.code.Nesting.{field_head_tree, inline_fragment_head_tree};
-ghost use Rattle.graphql_ast_json.specs.code.NodeReading.{IsInFile, StandsAt};
+ghost use Rattle.ast_json_nodes.specs.code.NodeReading.{IsInFile, StandsAt};
 ghost use Rattle.graphql_ast_json.specs.kinds.ExecutableJson.{AreSelections, HasFieldHead, HasInlineFragmentHead, HasOptionalSetOf, HasSetOf};
 ghost use Rattle.graphql_ast_json.specs.kinds.ExecutableJson.{IsField, IsInlineFragment, IsSelection, IsSelectionSet};
 ghost use Rattle.graphql_ast_json.specs.kinds.ExecutableJson.{field_members, inline_fragment_members};
-ghost use Rattle.graphql_ast_json.specs.nodes.Nodes.{IsLocated, IsNode, member_of};
+ghost use Rattle.ast_json_nodes.specs.nodes.Nodes.{IsLocated, IsNode, member_of};
 
 use crate::ast_json::{AstNode, node_at};
-use crate::error::AstJsonError;
 use crate::form::NamedTypeForm;
-use crate::read::{JsonNode, member};
+use crate::members::{directives, list, member, optional};
+use ast_json_nodes::error::AstJsonError;
+use ast_json_nodes::{JsonNode, find_member};
 use graphql_ast::ast::{Argument, DirectiveList, Field, FragmentSpread, InlineFragment, Selection};
 use graphql_ast::name::{Name, NamedType};
 use graphql_base::node::Node;
@@ -61,10 +62,10 @@ fn field_head(node: JsonNode<'_, '_>) -> Result<FieldHead, AstJsonError>
         &["alias", "name", "arguments", "directives", "selectionSet"],
     )?;
     Ok(FieldHead {
-        alias: node.optional::<Name>("alias")?,
-        name: node.member::<Name>("name")?,
-        arguments: node.list::<Node<Argument>>("arguments")?,
-        directives: node.directives()?,
+        alias: optional::<Name>(node, "alias")?,
+        name: member::<Name>(node, "name")?,
+        arguments: list::<Node<Argument>>(node, "arguments")?,
+        directives: directives(node)?,
     })
 }
 
@@ -84,8 +85,8 @@ fn inline_fragment_head(node: JsonNode<'_, '_>) -> Result<InlineFragmentHead, As
         &["typeCondition", "directives", "selectionSet"],
     )?;
     Ok(InlineFragmentHead {
-        type_condition: node.optional::<NamedTypeForm>("typeCondition")?,
-        directives: node.directives()?,
+        type_condition: optional::<NamedTypeForm>(node, "typeCondition")?,
+        directives: directives(node)?,
     })
 }
 
@@ -271,7 +272,7 @@ fn optional_set(node: JsonNode<'_, '_>) -> Result<Vec<Selection>, AstJsonError>
         → ¬ HasOptionalSetOf node.entry.unknown (AreSelections node.entry.unknown set)
         (node_data node.entry)) }
 {
-    match member(node.json, "selectionSet") {
+    match find_member(node.json, "selectionSet") {
         None => Ok(Vec::new(node.alloc)),
         Some(json) => {
             node.told_within(

@@ -6,8 +6,8 @@ ghost use Rattle.serde_json.specs.View.{view};
 ghost use Rattle.graphql_executable.specs.code.SelectionQueries.{selection_location};
 ghost use Rattle.graphql_executable.specs.trees.ExecutableTrees.{field_tree, inline_fragment_tree, selection_tree, selection_trees};
 ghost use Rattle.graphql_ast_json.specs.code.Drafts.{location_of};
-ghost use Rattle.graphql_ast_json.specs.code.NodeReading.{StandsAt};
-ghost use Rattle.graphql_ast_json.specs.declared.read.Unknown.{Unknown};
+ghost use Rattle.ast_json_nodes.specs.code.NodeReading.{StandsAt};
+ghost use Rattle.ast_json_nodes.specs.declared.read.Unknown.{Unknown};
 ghost use Rattle.graphql_ast_json.specs.kinds.ExecutableJson.{AreSelections, IsField, IsInlineFragment, IsSelection, IsSelectionSet};
 
 use crate::ast_json::AstNode;

@@ -6,15 +6,16 @@ ghost use Rattle.graphql_text.specs.lexical.Literals.{NameText};
 ghost use Rattle.graphql_values.specs.kinds.TypeReferences.{TypeTree, list_type, non_null_list_type};
 ghost use Rattle.graphql_values.specs.trees.TypeTrees.{type_tree};
 ghost use Rattle.parsed_json.specs.AnyJson.{any_data};
-ghost use Rattle.graphql_ast_json.specs.code.Errors.{IsMemory};
-ghost use Rattle.graphql_ast_json.specs.code.JsonNodes.{node_data, IsFromNone, IsReadFrom};
+ghost use Rattle.ast_json_nodes.specs.code.Errors.{IsMemory};
+ghost use Rattle.ast_json_nodes.specs.code.JsonNodes.{node_data, IsFromNone, IsReadFrom};
 ghost use Rattle.graphql_ast_json.specs.code.Nesting.{TellsKind};
 ghost use Rattle.graphql_ast_json.specs.code.TypeReading.{IsWithoutNull};
 ghost use Rattle.graphql_ast_json.specs.kinds.TypeJson.{IsNamedType, IsTypeAround, IsTypeReference};
-ghost use Rattle.graphql_ast_json.specs.nodes.Nodes.{IsLocated, IsNode, member_of};
+ghost use Rattle.ast_json_nodes.specs.nodes.Nodes.{IsLocated, IsNode, member_of};
 
-use crate::error::AstJsonError;
-use crate::read::JsonNode;
+use crate::members::member;
+use ast_json_nodes::JsonNode;
+use ast_json_nodes::error::AstJsonError;
 use graphql_ast::ast::Type;
 use graphql_ast::name::Name;
 use parsed_json::AnyJson;
@@ -29,7 +30,7 @@ pub(crate) fn read_named_type(node: JsonNode<'_, '_>) -> Result<Name, AstJsonErr
     ensures err { IfErr result (λ error. ¬ IsMemory error → IsFromNone IsNamedType node.entry) }
 {
     node.check("NamedType", &["name"])?;
-    node.member::<Name>("name")
+    member::<Name>(node, "name")
 }
 
 /// The type of this kind that is in no list type and no non-null type, if it is one.

@@ -4,8 +4,8 @@ ghost use Rattle.serde_json.specs.View.{view};
 ghost use Rattle.graphql_text.specs.trees.Leaves.{name_tree};
 ghost use Rattle.graphql_values.specs.trees.TypeTrees.{type_tree};
 ghost use Rattle.graphql_ast_json.specs.code.Drafts.{location_of};
-ghost use Rattle.graphql_ast_json.specs.code.NodeReading.{StandsAt};
-ghost use Rattle.graphql_ast_json.specs.declared.read.Unknown.{Unknown};
+ghost use Rattle.ast_json_nodes.specs.code.NodeReading.{StandsAt};
+ghost use Rattle.ast_json_nodes.specs.declared.read.Unknown.{Unknown};
 ghost use Rattle.graphql_ast_json.specs.kinds.TypeJson.{IsNamedType, IsTypeReference};
 
 use crate::ast_json::AstJson;

@@ -8,19 +8,20 @@ ghost use Rattle.graphql_values.specs.trees.Literals.{float_tree, int_tree};
 ghost use Rattle.graphql_values.specs.kinds.Values.{ValueTree, ValueTrees, ObjectFieldTrees, variable, int_value, float_value, boolean_value, list_value, object_value};
 ghost use Rattle.graphql_values.specs.trees.ValueTrees.{value_tree, value_trees, object_field_trees};
 ghost use Rattle.parsed_json.specs.AnyJson.{items_data};
-ghost use Rattle.graphql_ast_json.specs.code.Errors.{IsMemory};
-ghost use Rattle.graphql_ast_json.specs.code.JsonNodes.{node_data, IsFromNone, IsReadFrom};
-ghost use Rattle.graphql_ast_json.specs.code.NodeReading.{IsInFile, StandsAt};
-ghost use Rattle.graphql_ast_json.specs.code.ToldErrors.{IsToldOfBoolean, IsToldOfItemBy, IsToldOfLeaf, IsToldOfText, IsToldOfValue, IsToldOfVariable};
+ghost use Rattle.ast_json_nodes.specs.code.Errors.{IsMemory};
+ghost use Rattle.ast_json_nodes.specs.code.JsonNodes.{node_data, IsFromNone, IsReadFrom};
+ghost use Rattle.ast_json_nodes.specs.code.NodeReading.{IsInFile, StandsAt};
+ghost use Rattle.ast_json_nodes.specs.code.ToldErrors.{IsToldOfBoolean, IsToldOfItemBy, IsToldOfLeaf, IsToldOfText, IsToldOfValue, IsToldOfVariable};
 ghost use Rattle.graphql_ast_json.specs.code.ToldValues.{IsField, IsToldInside, IsToldOfListValue, IsToldOfLocated, IsToldOfNamed, IsToldOfObjectValue, OfValues};
 ghost use Rattle.graphql_ast_json.specs.kinds.ValueJson.{IsValue, AreValues, AreObjectFields, IsNamedValue};
-ghost use Rattle.graphql_ast_json.specs.nodes.Nodes.{IsLocated, member_of};
+ghost use Rattle.ast_json_nodes.specs.nodes.Nodes.{IsLocated, member_of};
 
 use crate::ast_json::node_at;
-use crate::error::{AstJsonError, JsonType};
+use crate::members::member;
 use crate::name::name_of_kind;
-use crate::read::JsonNode;
 use crate::string::string_text;
+use ast_json_nodes::JsonNode;
+use ast_json_nodes::error::AstJsonError;
 use graphql_ast::ast::{FloatValue, IntValue, Value};
 use graphql_ast::name::Name;
 use graphql_base::node::Node;
@@ -35,7 +36,7 @@ pub(crate) fn variable_name(node: JsonNode<'_, '_>) -> Result<Name, AstJsonError
     ensures told { IfErr result (λ error. ¬ IsMemory error → IsToldOfVariable node.entry error) }
 {
     node.check("Variable", &["name"])?;
-    node.member::<Name>("name")
+    member::<Name>(node, "name")
 }
 
 /// An integer.
@@ -83,11 +84,7 @@ fn boolean(node: JsonNode<'_, '_>) -> Result<bool, AstJsonError>
         → IsToldOfBoolean node.entry error) }
 {
     node.check("BooleanValue", &["value"])?;
-    let value = node.required("value")?;
-    match value.as_bool() {
-        Some(is_true) => Ok(is_true),
-        None => Err(node.within("value", node.wrong_type(value, JsonType::Boolean))),
-    }
+    node.boolean("value")
 }
 
 /// The value that a node of this kind is of, if it is one that has no other values in it.
@@ -278,7 +275,7 @@ pub(crate) fn named_value(
         → OfValues (λ Told. IsToldOfNamed kind.now Told node.entry error)) }
 {
     node.check(kind, &["name", "value"])?;
-    let name = node.member::<Name>("name")?;
+    let name = member::<Name>(node, "name")?;
     let json = node.required("value")?;
     match read_value_node(JsonNode { json, ..node }) {
         Ok(value) => Ok((name, value)),

@@ -6,10 +6,10 @@ ghost use Rattle.graphql_text.specs.trees.Leaves.{name_tree};
 ghost use Rattle.graphql_values.specs.kinds.Values.{variable};
 ghost use Rattle.graphql_values.specs.trees.ValueTrees.{object_field_trees, value_tree, value_trees};
 ghost use Rattle.graphql_ast_json.specs.code.Drafts.{location_of};
-ghost use Rattle.graphql_ast_json.specs.code.NodeReading.{StandsAt};
-ghost use Rattle.graphql_ast_json.specs.declared.read.Unknown.{Unknown};
+ghost use Rattle.ast_json_nodes.specs.code.NodeReading.{StandsAt};
+ghost use Rattle.ast_json_nodes.specs.declared.read.Unknown.{Unknown};
 ghost use Rattle.graphql_ast_json.specs.kinds.ValueJson.{AreObjectFields, AreValues, IsValue};
-ghost use Rattle.graphql_ast_json.specs.nodes.Nodes.{IsName, IsNode, Member};
+ghost use Rattle.ast_json_nodes.specs.nodes.Nodes.{IsName, IsNode, Member};
 
 use crate::ast_json::AstJson;
 use crate::string::{is_block_value, write_string};

@@ -1,11 +1,11 @@
 //! Where in the JSON of a tree the first flaw is: one walk in the order of print.
 ghost use Rattle.std.specs.Prelude.{◌≡◌};
 ghost use Rattle.parsed_json.specs.AnyJson.{any_data};
-ghost use Rattle.graphql_ast_json.specs.code.JsonNodes.{has_text_of, lacks};
-ghost use Rattle.graphql_ast_json.specs.code.NodeReading.{texts_of};
+ghost use Rattle.ast_json_nodes.specs.code.JsonNodes.{has_text_of, lacks};
+ghost use Rattle.ast_json_nodes.specs.code.NodeReading.{texts_of};
 
-use crate::error::JsonPath;
-use crate::read::{JsonNode, index_of, member};
+use ast_json_nodes::error::JsonPath;
+use ast_json_nodes::{JsonNode, find_member, index_of};
 use graphql_base::span::SourceSpan;
 use graphql_text::ill_formed::SideCondition::{
     self, AddsSomething, HasDefinition, HasLocation, HasRootOperation, HasSelection, IsConstant,
@@ -85,7 +85,7 @@ fn parts_of(kind: &str) -> &'static [&'static str] {
 fn lacks(json: AnyJson<'_, '_>, name: &str) -> bool
     ensures { result ≡ lacks name.now (any_data json.entry) }
 {
-    match member(json, name) {
+    match find_member(json, name) {
         Some(found) => match found.as_items() {
             Some(items) => items.is_empty(),
             None => true,
@@ -98,7 +98,7 @@ fn lacks(json: AnyJson<'_, '_>, name: &str) -> bool
 fn is_any_of(texts: &[&str], json: AnyJson<'_, '_>) -> bool
     ensures { result ≡ has_text_of (texts_of texts.now) (any_data json.entry) }
 {
-    match member(json, "value") {
+    match find_member(json, "value") {
         Some(found) => match found.as_str() {
             Some(text) => index_of(texts, text).is_some(),
             None => false,
@@ -141,15 +141,15 @@ impl<'j, 't> Search<'j, 't> {
         let (is_broken, part) = match (self.condition, kind) {
             (HasDefinition, "Document") => (lacks(json, "definitions"), ("", json)),
             (HasSelection, "OperationDefinition" | "FragmentDefinition" | "InlineFragment") => {
-                let set = member(json, "selectionSet")?;
+                let set = find_member(json, "selectionSet")?;
                 (lacks(set, "selections"), ("selectionSet", set))
             }
             (IsNotOn, "FragmentDefinition" | "FragmentSpread") => {
-                let name = member(json, "name")?;
+                let name = find_member(json, "name")?;
                 (is_any_of(&["on"], name), ("name.value", name))
             }
             (IsNotReserved, "EnumValueDefinition") => {
-                let name = member(json, "name")?;
+                let name = find_member(json, "name")?;
                 (is_any_of(&RESERVED, name), ("name.value", name))
             }
             (IsNotReserved, "EnumValue") => (is_any_of(&RESERVED, json), ("value", json)),
@@ -209,7 +209,7 @@ impl<'j, 't> Search<'j, 't> {
         }
         let is_constant = is_constant_in(kind, is_constant);
         for name in parts_of(kind) {
-            if let Some(part) = member(json, name) {
+            if let Some(part) = find_member(json, name) {
                 if let Some(position) = self.find(part, is_constant)? {
                     return self.in_member(position, json, name);
                 }

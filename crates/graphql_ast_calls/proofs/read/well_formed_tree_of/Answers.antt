@@ -1,5 +1,5 @@
 use Rattle.std.proofs.Common.{◌≡◌, false, ◌∙◌}
-use Rattle.graphql_ast_json.specs.code.JsonNodes.{node_data}
+use Rattle.ast_json_nodes.specs.code.JsonNodes.{node_data}
 use Rattle.graphql_ast_calls.specs.Answers.{IsJsonOf}
 use Rattle.graphql_ast_calls.proofs.FlawedTrees.{has_first, told}
 use Rattle.graphql_ast_calls.proofs.read.well_formed_tree_of.Goals as goal

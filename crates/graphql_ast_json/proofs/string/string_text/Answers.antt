@@ -1,8 +1,8 @@
 use Rattle.std.proofs.Common.{codes, [], ◌∷◌}
-use Rattle.graphql_ast_json.proofs.general.PassedErrors.{passed}
+use Rattle.ast_json_nodes.proofs.general.PassedErrors.{passed}
 use Rattle.graphql_ast_json.proofs.nodes.ToldTexts.{no_text}
-use Rattle.graphql_ast_json.specs.code.Errors.{IsMemory}
-use Rattle.graphql_ast_json.specs.code.ToldErrors.{IsToldOfString}
+use Rattle.ast_json_nodes.specs.code.Errors.{IsMemory}
+use Rattle.ast_json_nodes.specs.code.ToldErrors.{IsToldOfString}
 use Rattle.graphql_ast_json.proofs.string.string_text.Goals as goal
 
 pub returns-in_err-check-clause-told : goal.returns-in_err-check-clause-told

@@ -2,7 +2,7 @@ use Rattle.std.proofs.Common.{[], ◌∷◌, Bool, true, false, ap, codes, refl,
 use Rattle.std.proofs.Common.{if◌then◌else◌}
 use Rattle.std.specs.Prelude.{⊤}
 use Rattle.serde_json.specs.Data.{Data, boolean, string}
-use Rattle.graphql_ast_json.specs.nodes.Nodes.{IsBoolean}
+use Rattle.ast_json_nodes.specs.nodes.Nodes.{IsBoolean}
 use Rattle.graphql_ast_json.proofs.nodes.DraftsAreNodes.{begun, ended, gained, given_member, is_node, stands}
 use Rattle.graphql_ast_json.proofs.string.write_string.Goals as goal
 

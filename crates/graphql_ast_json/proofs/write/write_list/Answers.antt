@@ -2,8 +2,8 @@ use Rattle.std.proofs.Common.{IsSomeAnd, map, subst, subst₂, sym, take, take_a
 use Rattle.serde_json.proofs.Views.{view-Array}
 use Rattle.serde_json.specs.Find.{as_array}
 use Rattle.serde_json.specs.View.{items_view}
-use Rattle.graphql_ast_json.specs.nodes.Nodes.{Each}
-use Rattle.graphql_ast_json.proofs.nodes.NodeLists.{one_more_written, take_next}
+use Rattle.ast_json_nodes.specs.nodes.Nodes.{Each}
+use Rattle.ast_json_nodes.proofs.nodes.NodeLists.{one_more_written, take_next}
 use Rattle.graphql_ast_json.proofs.write.write_list.Goals as goal
 
 pub loop-value-preserved : goal.loop-value-preserved

@@ -1,7 +1,7 @@
 use Rattle.std.proofs.Common.{◌<◌, IfSome, Option, sym, subst}
 use Rattle.serde_json.specs.Data.{Data, depth}
 use Rattle.serde_json.specs.View.{view}
-use Rattle.graphql_ast_json.proofs.nodes.JsonDepths.{get-depth}
+use Rattle.ast_json_nodes.proofs.nodes.JsonDepths.{get-depth}
 use Rattle.graphql_ast_json_tests.proofs.start_search.member.Goals as goal
 
 pub returns-else-is_null : goal.returns-else-is_null

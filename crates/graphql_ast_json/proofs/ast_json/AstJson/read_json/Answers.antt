@@ -1,8 +1,8 @@
 use Rattle.std.proofs.Common.{◌≡◌, sym, ap, subst₂, ◌∙◌}
 use Rattle.serde_json.specs.View.{view}
 use Rattle.parsed_json.specs.AnyJson.{any_data}
-use Rattle.graphql_ast_json.specs.code.JsonNodes.{node_data}
-use Rattle.graphql_ast_json.proofs.general.PassedErrors.{turned}
+use Rattle.ast_json_nodes.specs.code.JsonNodes.{node_data}
+use Rattle.ast_json_nodes.proofs.general.PassedErrors.{turned}
 use Rattle.graphql_ast_json.proofs.ast_json.AstJson.read_json.Goals as goal
 
 pub returns-in_ok-json-in-Parsed-clause-err : goal.returns-in_ok-json-in-Parsed-clause-err

@@ -2,12 +2,12 @@ use Rattle.std.proofs.Common.{◌≡◌, ℕ, List, Some, codes, ap, ◌∙◌}
 use Rattle.serde_json.specs.Data.{string}
 use Rattle.graphql_ast.specs.Definitions as name
 use Rattle.graphql_ast.specs.Definitions.{DefinitionName, DefinitionTree}
-use Rattle.graphql_ast_json.specs.code.Errors.{IsMemory}
-use Rattle.graphql_ast_json.specs.code.JsonNodes.{node_data}
+use Rattle.ast_json_nodes.specs.code.Errors.{IsMemory}
+use Rattle.ast_json_nodes.specs.code.JsonNodes.{node_data}
 use Rattle.graphql_ast_json.specs.kinds.DocumentJson.{IsAnyDefinition}
 use Rattle.graphql_ast_json.specs.lemmas.DocumentNodes.{named_node, node_kind, only_named}
 use Rattle.graphql_ast_json.specs.lemmas.Leaves.{IsOfKind, same_string}
-use Rattle.graphql_ast_json.proofs.general.PassedErrors.{passed}
+use Rattle.ast_json_nodes.proofs.general.PassedErrors.{passed}
 use Rattle.graphql_ast_json.proofs.definition.DefinitionAstJson.read_json.Goals as goal
 
 pub returns-in_err-read_json-in-OperationDefinition-clause-err : goal.returns-in_err-read_json-in-OperationDefinition-clause-err

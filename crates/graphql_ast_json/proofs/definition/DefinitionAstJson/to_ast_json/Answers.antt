@@ -3,9 +3,9 @@ use Rattle.serde_json.specs.View.{view}
 use Rattle.serde_json.specs.declared.value.Value as json
 use Rattle.graphql_ast.specs.AstTrees.{definition_tree}
 use Rattle.graphql_ast.specs.DefinitionQueries.{definition_location}
-use Rattle.graphql_ast_json.specs.code.NodeReading.{StandsAt}
+use Rattle.ast_json_nodes.specs.code.NodeReading.{StandsAt}
 use Rattle.graphql_ast.specs.declared.definition.Definition.{Definition}
-use Rattle.graphql_ast_json.specs.declared.read.Unknown.{Unknown}
+use Rattle.ast_json_nodes.specs.declared.read.Unknown.{Unknown}
 use Rattle.graphql_ast_json.specs.kinds.DocumentJson.{IsAnyDefinition}
 use Rattle.graphql_ast_json.proofs.definition.DefinitionAstJson.to_ast_json.Goals as goal
 

@@ -1,5 +1,5 @@
 use Rattle.std.proofs.Common.{codes, ◌∷◌, [], refl, sym, subst}
-use Rattle.graphql_ast_json.specs.nodes.Nodes.{IsFlag}
+use Rattle.ast_json_nodes.specs.nodes.Nodes.{IsFlag}
 use Rattle.graphql_ast_json.proofs.nodes.DraftsAreNodes.{begun, ended, gained, given_member, is_node, stands}
 use Rattle.graphql_ast_json.proofs.directive_definition.DirectiveDefinitionAstNode.write_node.Goals as goal
 

@@ -1,6 +1,6 @@
 use Rattle.std.proofs.Common.{codes, subst}
 use Rattle.serde_json.specs.View.{view}
-use Rattle.graphql_ast_json.specs.code.NodeReading.{IsTextNode}
+use Rattle.ast_json_nodes.specs.code.NodeReading.{IsTextNode}
 use Rattle.graphql_ast_json.proofs.general.OkValues.{one_then}
 use Rattle.graphql_ast_json.proofs.directive_location.DirectiveLocationAstNode.write_node.Goals as goal
 

@@ -2,7 +2,7 @@ use Rattle.std.proofs.Common.{sym, subst₂}
 use Rattle.graphql_type_system.specs.trees.TypeSystemTrees.{enum_type_definition_tree}
 use Rattle.graphql_ast_json.specs.kinds.TypeSystemJson.{IsEnumTypeDefinition}
 use Rattle.graphql_ast_json.proofs.general.OkValues.{one_then}
-use Rattle.graphql_ast_json.proofs.general.PassedErrors.{turned}
+use Rattle.ast_json_nodes.proofs.general.PassedErrors.{turned}
 use Rattle.graphql_ast_json.proofs.enum_type.EnumTypeDefinitionAstNode.read_node.Goals as goal
 
 pub returns-clause-ok : goal.returns-clause-ok

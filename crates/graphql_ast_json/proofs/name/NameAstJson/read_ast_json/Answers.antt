@@ -1,6 +1,6 @@
 use Rattle.std.proofs.Common.{sym, subst₂}
-use Rattle.graphql_ast_json.specs.nodes.Nodes.{IsName}
-use Rattle.graphql_ast_json.proofs.general.PassedErrors.{turned}
+use Rattle.ast_json_nodes.specs.nodes.Nodes.{IsName}
+use Rattle.ast_json_nodes.proofs.general.PassedErrors.{turned}
 use Rattle.graphql_ast_json.proofs.name.NameAstJson.read_ast_json.Goals as goal
 
 pub returns-clause-err : goal.returns-clause-err

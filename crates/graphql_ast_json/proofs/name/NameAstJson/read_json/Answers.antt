@@ -1,8 +1,8 @@
 use Rattle.graphql_text.specs.lexical.Literals.{NameText}
-use Rattle.graphql_ast_json.specs.code.Errors.{IsMemory}
-use Rattle.graphql_ast_json.specs.code.JsonNodes.{node_data}
-use Rattle.graphql_ast_json.specs.nodes.Nodes.{IsName}
-use Rattle.graphql_ast_json.proofs.general.PassedErrors.{passed}
+use Rattle.ast_json_nodes.specs.code.Errors.{IsMemory}
+use Rattle.ast_json_nodes.specs.code.JsonNodes.{node_data}
+use Rattle.ast_json_nodes.specs.nodes.Nodes.{IsName}
+use Rattle.ast_json_nodes.proofs.general.PassedErrors.{passed}
 use Rattle.graphql_ast_json.proofs.name.NameAstJson.read_json.Goals as goal
 
 pub returns-in_err-name-clause-err : goal.returns-in_err-name-clause-err

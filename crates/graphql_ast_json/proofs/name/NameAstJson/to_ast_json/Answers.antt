@@ -1,8 +1,8 @@
 use Rattle.std.proofs.Common.{ap, codes, length, sym, ◌∙◌, subst, option_map}
 use Rattle.serde_json.specs.View.{view}
 use Rattle.graphql_base.specs.Name.{name_text}
-use Rattle.graphql_ast_json.specs.code.NodeReading.{IsTextNode, stretch_of}
-use Rattle.graphql_ast_json.specs.nodes.Nodes.{told_stretch}
+use Rattle.ast_json_nodes.specs.code.NodeReading.{IsTextNode, stretch_of}
+use Rattle.ast_json_nodes.specs.nodes.Nodes.{told_stretch}
 use Rattle.graphql_ast_json.proofs.general.OkValues.{one_then}
 use Rattle.graphql_ast_json.proofs.nodes.NameLocations.{had}
 use Rattle.graphql_ast_json.proofs.name.NameAstJson.to_ast_json.Goals as goal

@@ -1,8 +1,8 @@
 use Rattle.graphql_type_system.specs.kinds.ScalarTypes.{scalar_type_definition_kind}
-use Rattle.graphql_ast_json.specs.code.Errors.{IsMemory}
-use Rattle.graphql_ast_json.specs.code.JsonNodes.{node_data}
+use Rattle.ast_json_nodes.specs.code.Errors.{IsMemory}
+use Rattle.ast_json_nodes.specs.code.JsonNodes.{node_data}
 use Rattle.graphql_ast_json.specs.kinds.TypeSystemJson.{IsScalarTypeDefinition}
-use Rattle.graphql_ast_json.proofs.general.PassedErrors.{passed}
+use Rattle.ast_json_nodes.proofs.general.PassedErrors.{passed}
 use Rattle.graphql_ast_json.proofs.scalar_type.ScalarTypeDefinitionAstNode.read_json_node.Goals as goal
 
 pub returns-in_err-check-clause-err : goal.returns-in_err-check-clause-err

@@ -6,13 +6,13 @@ use Rattle.serde_json.specs.View.{items_of}
 use Rattle.parsed_json.specs.AnyJson.{any_data, item_datas}
 use Rattle.graphql_executable.specs.trees.ExecutableTrees.{selection_trees}
 use Rattle.graphql_executable.specs.kinds.InlineFragments.{InlineFragmentTree}
-use Rattle.graphql_ast_json.specs.code.JsonNodes.{node_data}
-use Rattle.graphql_ast_json.specs.code.Errors.{IsMemory}
+use Rattle.ast_json_nodes.specs.code.JsonNodes.{node_data}
+use Rattle.ast_json_nodes.specs.code.Errors.{IsMemory}
 use Rattle.graphql_ast_json.specs.kinds.ExecutableJson.{AreSelections, IsInlineFragment, IsSelection, IsSelectionSet}
 use Rattle.graphql_ast_json.specs.lemmas.Leaves.{IsOfKind}
-use Rattle.graphql_ast_json.proofs.nodes.JsonDepths.{item-depth}
-use Rattle.graphql_ast_json.proofs.nodes.NodeLists.{take_item}
-use Rattle.graphql_ast_json.proofs.general.PassedErrors.{passed, told, turned}
+use Rattle.ast_json_nodes.proofs.nodes.JsonDepths.{item-depth}
+use Rattle.ast_json_nodes.proofs.nodes.NodeLists.{take_item}
+use Rattle.ast_json_nodes.proofs.general.PassedErrors.{passed, told, turned}
 use Rattle.graphql_ast_json.proofs.kinds.SelectionJsonByKind.{none_at, only_field, only_inline_fragment, selections_more}
 use Rattle.graphql_ast_json.proofs.selection.read.+selection.Goals as goal
 

@@ -1,8 +1,8 @@
 use Rattle.graphql_executable.specs.kinds.InlineFragments.{InlineFragmentTree}
-use Rattle.graphql_ast_json.specs.code.Errors.{IsMemory}
-use Rattle.graphql_ast_json.specs.code.JsonNodes.{node_data}
+use Rattle.ast_json_nodes.specs.code.Errors.{IsMemory}
+use Rattle.ast_json_nodes.specs.code.JsonNodes.{node_data}
 use Rattle.graphql_ast_json.specs.kinds.ExecutableJson.{IsInlineFragment}
-use Rattle.graphql_ast_json.proofs.general.PassedErrors.{passed}
+use Rattle.ast_json_nodes.proofs.general.PassedErrors.{passed}
 use Rattle.graphql_ast_json.proofs.selection.read.read_inline_fragment.Goals as goal
 
 pub returns-in_err-selection_set-clause-err : goal.returns-in_err-selection_set-clause-err

@@ -7,7 +7,7 @@ use Rattle.graphql_ast_json.specs.kinds.ExecutableJson.{AreSelections, field_mem
 use Rattle.graphql_ast_json.proofs.general.OkValues.{both_then}
 use Rattle.graphql_ast_json.proofs.nodes.DraftsAreNodes.{begun, ended, gained, given_member, is_node, stands}
 use Rattle.graphql_ast_json.proofs.nodes.GivenMembers.{list_is}
-use Rattle.graphql_ast_json.proofs.nodes.NodeLists.{take_next}
+use Rattle.ast_json_nodes.proofs.nodes.NodeLists.{take_next}
 use Rattle.graphql_ast_json.proofs.kinds.SelectionJsonByKind.{selections_more_written}
 use Rattle.graphql_ast_json.proofs.trees.SelectionTrees.{field_of_parts, given_optional_set, given_set, inline_fragment_of_parts}
 use Rattle.graphql_ast_json.proofs.selection.write.+selection.Goals as goal

@@ -1,7 +1,7 @@
 use Rattle.std.proofs.Common.{take}
 use Rattle.serde_json.specs.View.{items_view}
 use Rattle.graphql_executable.specs.trees.ExecutableTrees.{selection_trees}
-use Rattle.graphql_ast_json.specs.declared.read.Unknown.{Unknown}
+use Rattle.ast_json_nodes.specs.declared.read.Unknown.{Unknown}
 use Rattle.graphql_ast_json.specs.kinds.ExecutableJson.{AreSelections}
 use Rattle.graphql_ast_json.proofs.selection.write.+selection.Given as goal
 

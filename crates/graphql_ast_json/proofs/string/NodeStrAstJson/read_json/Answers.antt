@@ -1,9 +1,9 @@
 use Rattle.std.specs.Prelude.{encode_utf8_all}
 use Rattle.graphql_text.specs.lexical.Literals.{StringText}
-use Rattle.graphql_ast_json.specs.code.Errors.{IsMemory}
-use Rattle.graphql_ast_json.specs.code.JsonNodes.{node_data}
-use Rattle.graphql_ast_json.specs.nodes.Nodes.{IsStringValue}
-use Rattle.graphql_ast_json.proofs.general.PassedErrors.{passed}
+use Rattle.ast_json_nodes.specs.code.Errors.{IsMemory}
+use Rattle.ast_json_nodes.specs.code.JsonNodes.{node_data}
+use Rattle.ast_json_nodes.specs.nodes.Nodes.{IsStringValue}
+use Rattle.ast_json_nodes.proofs.general.PassedErrors.{passed}
 use Rattle.graphql_ast_json.proofs.trees.DescriptionTexts.{description_is}
 use Rattle.graphql_ast_json.proofs.string.NodeStrAstJson.read_json.Goals as goal
 

@@ -2,7 +2,7 @@ use Rattle.std.proofs.Common.{ap, option_map, sym, ◌∙◌}
 use Rattle.std.proofs.lemmas.Str.{IsUtf8-had, encodes-chars}
 use Rattle.graphql_base.specs.Node.{node_str_text}
 use Rattle.graphql_text.specs.trees.Leaves.{description_tree}
-use Rattle.graphql_ast_json.specs.code.NodeReading.{stretch_of}
+use Rattle.ast_json_nodes.specs.code.NodeReading.{stretch_of}
 use Rattle.graphql_ast_json.proofs.general.OkValues.{one_then}
 use Rattle.graphql_ast_json.proofs.string.NodeStrAstJson.to_ast_json.Goals as goal
 

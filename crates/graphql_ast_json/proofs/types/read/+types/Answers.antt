@@ -1,13 +1,13 @@
 use Rattle.std.proofs.Common.{List, ℕ, Some, codes, ap, ◌∙◌}
 use Rattle.graphql_values.specs.kinds.TypeReferences.{TypeTree}
 use Rattle.serde_json.specs.Data.{string}
-use Rattle.graphql_ast_json.specs.code.JsonNodes.{node_data}
-use Rattle.graphql_ast_json.specs.code.Errors.{IsMemory}
+use Rattle.ast_json_nodes.specs.code.JsonNodes.{node_data}
+use Rattle.ast_json_nodes.specs.code.Errors.{IsMemory}
 use Rattle.graphql_ast_json.specs.code.Nesting.{TellsKind}
 use Rattle.graphql_ast_json.specs.code.TypeReading.{IsWithoutNull}
 use Rattle.graphql_ast_json.specs.kinds.TypeJson.{IsTypeAround, IsTypeReference}
 use Rattle.graphql_ast_json.specs.lemmas.Leaves.{IsOfKind}
-use Rattle.graphql_ast_json.proofs.general.PassedErrors.{passed, turned}
+use Rattle.ast_json_nodes.proofs.general.PassedErrors.{passed, turned}
 use Rattle.graphql_ast_json.proofs.kinds.TypeJsonByKind.{around_also, only_list_type, only_non_null, type_tells, without_null_tells}
 use Rattle.graphql_ast_json.proofs.types.read.+types.Goals as goal
 

@@ -1,11 +1,11 @@
 use Rattle.std.proofs.Common.{List, ℕ, Some, codes, ap, ◌∙◌}
 use Rattle.graphql_values.specs.kinds.TypeReferences.{TypeTree}
 use Rattle.serde_json.specs.Data.{string}
-use Rattle.graphql_ast_json.specs.code.JsonNodes.{node_data}
-use Rattle.graphql_ast_json.specs.code.Errors.{IsMemory}
+use Rattle.ast_json_nodes.specs.code.JsonNodes.{node_data}
+use Rattle.ast_json_nodes.specs.code.Errors.{IsMemory}
 use Rattle.graphql_ast_json.specs.kinds.TypeJson.{IsTypeReference}
 use Rattle.graphql_ast_json.specs.lemmas.Leaves.{IsOfKind}
-use Rattle.graphql_ast_json.proofs.general.PassedErrors.{passed}
+use Rattle.ast_json_nodes.proofs.general.PassedErrors.{passed}
 use Rattle.graphql_ast_json.proofs.kinds.TypeJsonByKind.{only_named, other_kind}
 use Rattle.graphql_ast_json.proofs.types.read.leaf.Goals as goal
 

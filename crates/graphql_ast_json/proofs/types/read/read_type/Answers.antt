@@ -1,8 +1,8 @@
 use Rattle.graphql_values.specs.kinds.TypeReferences.{TypeTree}
-use Rattle.graphql_ast_json.specs.code.JsonNodes.{node_data}
-use Rattle.graphql_ast_json.specs.code.Errors.{IsMemory}
+use Rattle.ast_json_nodes.specs.code.JsonNodes.{node_data}
+use Rattle.ast_json_nodes.specs.code.Errors.{IsMemory}
 use Rattle.graphql_ast_json.specs.kinds.TypeJson.{IsTypeReference}
-use Rattle.graphql_ast_json.proofs.general.PassedErrors.{passed}
+use Rattle.ast_json_nodes.proofs.general.PassedErrors.{passed}
 use Rattle.graphql_ast_json.proofs.kinds.TypeJsonByKind.{no_kind}
 use Rattle.graphql_ast_json.proofs.types.read.read_type.Goals as goal
 

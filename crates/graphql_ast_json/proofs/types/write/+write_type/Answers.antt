@@ -3,7 +3,7 @@ use Rattle.serde_json.specs.View.{view}
 use Rattle.graphql_text.specs.trees.Leaves.{name_tree}
 use Rattle.graphql_values.specs.kinds.TypeReferences.{named_type, list_type}
 use Rattle.graphql_values.specs.trees.TypeTrees.{type_tree}
-use Rattle.graphql_ast_json.specs.declared.read.Unknown.{Unknown}
+use Rattle.ast_json_nodes.specs.declared.read.Unknown.{Unknown}
 use Rattle.graphql_ast_json.specs.kinds.TypeJson.{IsNamedType, IsTypeAround, IsTypeReference}
 use Rattle.graphql_ast_json.specs.lemmas.Leaves.{never_null_of, there}
 use Rattle.graphql_ast_json.specs.lemmas.TypeNodes.{type_laws}

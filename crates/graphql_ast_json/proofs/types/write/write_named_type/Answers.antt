@@ -1,7 +1,7 @@
 use Rattle.std.proofs.Common.{codes}
 use Rattle.serde_json.specs.View.{view}
 use Rattle.graphql_text.specs.trees.Leaves.{name_tree}
-use Rattle.graphql_ast_json.specs.nodes.Nodes.{IsName}
+use Rattle.ast_json_nodes.specs.nodes.Nodes.{IsName}
 use Rattle.graphql_ast_json.specs.lemmas.Leaves.{name_laws, never_null_of, there}
 use Rattle.graphql_ast_json.proofs.general.OkValues.{both_then}
 use Rattle.graphql_ast_json.proofs.nodes.GivenMembers.{member_is}

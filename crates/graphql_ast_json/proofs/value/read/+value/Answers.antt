@@ -11,20 +11,20 @@ use Rattle.graphql_values.specs.kinds.Values.{ValueTree}
 use Rattle.serde_json.specs.Data.{Data, depth, items_depth, null, string}
 use Rattle.serde_json.specs.View.{items_of}
 use Rattle.parsed_json.specs.AnyJson.{any_data, item_datas}
-use Rattle.graphql_ast_json.specs.code.JsonNodes.{node_data}
-use Rattle.graphql_ast_json.specs.code.Errors.{IsMemory}
-use Rattle.graphql_ast_json.specs.nodes.Nodes.{member_of}
+use Rattle.ast_json_nodes.specs.code.JsonNodes.{node_data}
+use Rattle.ast_json_nodes.specs.code.Errors.{IsMemory}
+use Rattle.ast_json_nodes.specs.nodes.Nodes.{member_of}
 use Rattle.graphql_ast_json.specs.kinds.ValueJson.{IsValue, AreValues, AreObjectFields, IsNamedValue}
-use Rattle.graphql_ast_json.proofs.nodes.JsonDepths.{item-depth}
-use Rattle.graphql_ast_json.proofs.nodes.NodeLists.{take_item}
-use Rattle.graphql_ast_json.proofs.general.PassedErrors.{passed, turned}
+use Rattle.ast_json_nodes.proofs.nodes.JsonDepths.{item-depth}
+use Rattle.ast_json_nodes.proofs.nodes.NodeLists.{take_item}
+use Rattle.ast_json_nodes.proofs.general.PassedErrors.{passed, turned}
 use Rattle.graphql_ast_json.proofs.kinds.ValueJsonByKind.{only_list}
 use Rattle.graphql_ast_json.proofs.kinds.ValueJsonByKind.{only_object, more_are_values, more_are_fields, none_at, no_field_at}
 use Rattle.graphql_ast_json.proofs.kinds.ToldValueKinds.{each_field, each_value, field_tree, nested_at, no_leaf_of_list, no_leaf_of_object}
 use Rattle.graphql_ast_json.proofs.kinds.ValueKinds.{no_other, told_at}
 use Rattle.graphql_ast_json.proofs.nodes.ToldMembers.{first_told, where_none, where_some}
 use Rattle.graphql_ast_json.proofs.nodes.ToldTexts.{no_text}
-use Rattle.graphql_ast_json.specs.code.ToldErrors.{IsToldOfLeaf, IsToldOfValue}
+use Rattle.ast_json_nodes.specs.code.ToldErrors.{IsToldOfLeaf, IsToldOfValue}
 use Rattle.graphql_ast_json.specs.code.ToldValues.{IsField, IsToldInside, IsToldOfListValue, IsToldOfLocated, IsToldOfNamed, IsToldOfObjectValue}
 use Rattle.graphql_ast_json.specs.code.ToldValues.{IsToldOfValueIn, OfValues}
 use Rattle.graphql_ast_json.proofs.value.read.+value.Goals as goal

@@ -2,7 +2,7 @@ use Rattle.std.proofs.Common.{◌+◌, ◌*◌, take}
 use Rattle.serde_json.specs.Data.{depth, items_depth}
 use Rattle.serde_json.specs.View.{items_of}
 use Rattle.parsed_json.specs.AnyJson.{item_datas, items_data}
-use Rattle.graphql_ast_json.specs.code.JsonNodes.{node_data}
+use Rattle.ast_json_nodes.specs.code.JsonNodes.{node_data}
 use Rattle.graphql_values.specs.trees.ValueTrees.{value_trees, object_field_trees}
 use Rattle.graphql_ast_json.specs.kinds.ValueJson.{AreValues, AreObjectFields}
 use Rattle.graphql_ast_json.proofs.value.read.+value.Given as goal

@@ -1,6 +1,6 @@
-use Rattle.graphql_ast_json.proofs.general.PassedErrors.{passed}
-use Rattle.graphql_ast_json.specs.code.Errors.{IsMemory}
-use Rattle.graphql_ast_json.specs.code.ToldErrors.{IsToldOfBoolean}
+use Rattle.ast_json_nodes.proofs.general.PassedErrors.{passed}
+use Rattle.ast_json_nodes.specs.code.Errors.{IsMemory}
+use Rattle.ast_json_nodes.specs.code.ToldErrors.{IsToldOfBoolean}
 use Rattle.graphql_ast_json.proofs.value.read.boolean.Goals as goal
 
 pub returns-in_err-check-clause-told : goal.returns-in_err-check-clause-told

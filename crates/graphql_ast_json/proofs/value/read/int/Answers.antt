@@ -2,10 +2,10 @@ use Rattle.std.proofs.Common.{codes}
 use Rattle.graphql_values.specs.kinds.Values.{int_value}
 use Rattle.graphql_text.specs.lexical.Literals.{IntText}
 use Rattle.graphql_ast_json.specs.kinds.ValueJson.{IsValue}
-use Rattle.graphql_ast_json.specs.code.Errors.{IsMemory}
-use Rattle.graphql_ast_json.specs.code.JsonNodes.{node_data}
-use Rattle.graphql_ast_json.proofs.general.PassedErrors.{passed}
-use Rattle.graphql_ast_json.specs.code.ToldErrors.{IsToldOfText}
+use Rattle.ast_json_nodes.specs.code.Errors.{IsMemory}
+use Rattle.ast_json_nodes.specs.code.JsonNodes.{node_data}
+use Rattle.ast_json_nodes.proofs.general.PassedErrors.{passed}
+use Rattle.ast_json_nodes.specs.code.ToldErrors.{IsToldOfText}
 use Rattle.graphql_ast_json.proofs.nodes.ToldTexts.{no_text}
 use Rattle.graphql_ast_json.proofs.value.read.int.Goals as goal
 

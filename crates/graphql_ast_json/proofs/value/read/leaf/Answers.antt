@@ -1,15 +1,15 @@
 use Rattle.std.proofs.Common.{◌≡◌, ℕ, List, Some, codes, string_bytes, refl, ap, ◌∙◌, arith}
 use Rattle.graphql_values.specs.kinds.Values.{ValueTree}
 use Rattle.serde_json.specs.Data.{string}
-use Rattle.graphql_ast_json.specs.code.JsonNodes.{node_data}
-use Rattle.graphql_ast_json.specs.code.Errors.{IsMemory}
-use Rattle.graphql_ast_json.specs.nodes.Nodes.{member_of}
+use Rattle.ast_json_nodes.specs.code.JsonNodes.{node_data}
+use Rattle.ast_json_nodes.specs.code.Errors.{IsMemory}
+use Rattle.ast_json_nodes.specs.nodes.Nodes.{member_of}
 use Rattle.graphql_ast_json.specs.kinds.ValueJson.{IsValue}
-use Rattle.graphql_ast_json.proofs.general.PassedErrors.{passed}
+use Rattle.ast_json_nodes.proofs.general.PassedErrors.{passed}
 use Rattle.graphql_ast_json.proofs.kinds.ValueJsonByKind.{only_enum, only_string, only_float, only_int, only_boolean}
 use Rattle.graphql_ast_json.proofs.kinds.ValueJsonByKind.{string_is}
 use Rattle.graphql_ast_json.proofs.kinds.ValueKinds.{no_other, not_none}
-use Rattle.graphql_ast_json.specs.code.ToldErrors.{IsToldOfLeaf}
+use Rattle.ast_json_nodes.specs.code.ToldErrors.{IsToldOfLeaf}
 use Rattle.graphql_ast_json.proofs.value.read.leaf.Goals as goal
 
 pub returns-in_err-name_of_kind-in-EnumValue-clause-err : goal.returns-in_err-name_of_kind-in-EnumValue-clause-err

@@ -1,8 +1,8 @@
 use Rattle.std.proofs.Common.{codes}
-use Rattle.graphql_ast_json.specs.code.Errors.{IsMemory}
-use Rattle.graphql_ast_json.specs.code.ToldErrors.{IsOfNoTree, IsToldOfMemberBy, IsToldOfVariable}
-use Rattle.graphql_ast_json.specs.nodes.Nodes.{IsName}
-use Rattle.graphql_ast_json.proofs.general.PassedErrors.{passed, turned}
+use Rattle.ast_json_nodes.specs.code.Errors.{IsMemory}
+use Rattle.ast_json_nodes.specs.code.ToldErrors.{IsOfNoTree, IsToldOfMemberBy, IsToldOfVariable}
+use Rattle.ast_json_nodes.specs.nodes.Nodes.{IsName}
+use Rattle.ast_json_nodes.proofs.general.PassedErrors.{passed, turned}
 use Rattle.graphql_ast_json.proofs.value.read.variable_name.Goals as goal
 
 pub returns-in_err-check-clause-told : goal.returns-in_err-check-clause-told

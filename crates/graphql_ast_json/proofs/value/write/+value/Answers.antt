@@ -7,16 +7,16 @@ use Rattle.graphql_text.specs.trees.Leaves.{name_tree}
 use Rattle.graphql_values.specs.trees.Literals.{string_tree}
 use Rattle.graphql_values.specs.trees.ValueTrees.{value_tree, value_trees, object_field_trees}
 use Rattle.graphql_ast_json.specs.kinds.ValueJson.{IsValue, IsNamedValue, AreValues, AreObjectFields}
-use Rattle.graphql_ast_json.specs.code.NodeReading.{IsTextNode}
-use Rattle.graphql_ast_json.specs.nodes.Nodes.{present}
-use Rattle.graphql_ast_json.specs.declared.read.Unknown.{Unknown}
+use Rattle.ast_json_nodes.specs.code.NodeReading.{IsTextNode}
+use Rattle.ast_json_nodes.specs.nodes.Nodes.{present}
+use Rattle.ast_json_nodes.specs.declared.read.Unknown.{Unknown}
 use Rattle.graphql_ast_json.proofs.general.OkValues.{both_then, one_then}
 use Rattle.graphql_ast_json.specs.lemmas.Leaves.{never_null_of, there}
 use Rattle.graphql_ast_json.specs.lemmas.ValueNodes.{value_laws}
 use Rattle.graphql_ast_json.proofs.nodes.GivenMembers.{list_is, member_is}
 use Rattle.graphql_ast_json.proofs.trees.ValueAndTypeTrees.{boolean_tree, boolean_view, enum_tree, float_value_tree, int_value_tree, list_tree, null_tree}
 use Rattle.graphql_ast_json.proofs.trees.ValueAndTypeTrees.{object_tree, string_value_tree, variable_tree}
-use Rattle.graphql_ast_json.proofs.nodes.NodeLists.{take_next}
+use Rattle.ast_json_nodes.proofs.nodes.NodeLists.{take_next}
 use Rattle.graphql_ast_json.proofs.kinds.ValueListsWritten.{fields_more, values_more}
 use Rattle.graphql_ast_json.proofs.value.write.+value.Goals as goal
 

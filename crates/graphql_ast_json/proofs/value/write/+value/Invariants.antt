@@ -1,7 +1,7 @@
 use Rattle.std.proofs.Common.{take}
 use Rattle.graphql_values.specs.trees.ValueTrees.{value_trees, object_field_trees}
 use Rattle.serde_json.specs.View.{items_view}
-use Rattle.graphql_ast_json.specs.declared.read.Unknown.{Unknown}
+use Rattle.ast_json_nodes.specs.declared.read.Unknown.{Unknown}
 use Rattle.graphql_ast_json.specs.kinds.ValueJson.{AreValues, AreObjectFields}
 use Rattle.graphql_ast_json.proofs.value.write.+value.Given as goal
 

@@ -4,7 +4,7 @@ use Rattle.serde_json.specs.Data.{Data}
 use Rattle.serde_json.specs.Find.{as_array}
 use Rattle.serde_json.specs.View.{items_of}
 use Rattle.parsed_json.specs.AnyJson.{item_datas}
-use Rattle.graphql_ast_json.specs.code.JsonNodes.{has_none}
+use Rattle.ast_json_nodes.specs.code.JsonNodes.{has_none}
 use Rattle.graphql_ast_json.proofs.well_formed.search.lacks.Goals as goal
 
 no_items_left : (items : List Data) → (length items == 0) ≡ has_none (Some (items_of items))

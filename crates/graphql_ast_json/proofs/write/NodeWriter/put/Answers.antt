@@ -1,5 +1,5 @@
 use Rattle.std.proofs.Common.{Some}
-use Rattle.graphql_ast_json.specs.declared.read.Unknown.TheVariants.{Refuse}
+use Rattle.ast_json_nodes.specs.declared.read.Unknown.TheVariants.{Refuse}
 use Rattle.serde_json.specs.View.{view}
 use Rattle.graphql_ast_json.specs.lemmas.Leaves.{there}
 use Rattle.graphql_ast_json.proofs.general.OkValues.{one_then}

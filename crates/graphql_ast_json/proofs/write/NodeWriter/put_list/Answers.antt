@@ -1,7 +1,7 @@
 use Rattle.std.proofs.Common.{Some, map}
-use Rattle.graphql_ast_json.specs.declared.read.Unknown.TheVariants.{Refuse}
+use Rattle.ast_json_nodes.specs.declared.read.Unknown.TheVariants.{Refuse}
 use Rattle.serde_json.specs.View.{view}
-use Rattle.graphql_ast_json.specs.nodes.Nodes.{Each}
+use Rattle.ast_json_nodes.specs.nodes.Nodes.{Each}
 use Rattle.graphql_ast_json.proofs.general.OkValues.{one_then}
 use Rattle.graphql_ast_json.proofs.nodes.GivenMembers.{array_there}
 use Rattle.graphql_ast_json.proofs.write.NodeWriter.put_list.Goals as goal

@@ -1,6 +1,6 @@
 use Rattle.std.proofs.Common.{Option, Some, None, IsSomeAnd, option_map, sym, subst}
 use Rattle.serde_json.specs.Data.{Data}
-use Rattle.graphql_ast_json.specs.nodes.Nodes.{IsOptional}
+use Rattle.ast_json_nodes.specs.nodes.Nodes.{IsOptional}
 use Rattle.graphql_ast_json.proofs.general.OkValues.{one_then}
 use Rattle.graphql_ast_json.proofs.write.NodeWriter.put_optional.Goals as goal
 

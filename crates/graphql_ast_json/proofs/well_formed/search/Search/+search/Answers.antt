@@ -2,7 +2,7 @@ use Rattle.std.proofs.Common.{◌≡◌, ◌<◌, ◌≤◌, length, suc, sym, s
 use Rattle.serde_json.specs.Data.{Data, depth, items_depth, null}
 use Rattle.serde_json.specs.View.{items_of}
 use Rattle.parsed_json.specs.AnyJson.{any_data, item_datas}
-use Rattle.graphql_ast_json.proofs.nodes.JsonDepths.{array-depth, item-depth}
+use Rattle.ast_json_nodes.proofs.nodes.JsonDepths.{array-depth, item-depth}
 use Rattle.graphql_ast_json.proofs.well_formed.search.Search.+search.Goals as goal
 
 pub find-in_node-requires-in-loop-index : goal.find-in_node-requires-in-loop-index

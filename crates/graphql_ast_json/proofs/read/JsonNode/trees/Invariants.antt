@@ -1,8 +1,0 @@
-use Rattle.std.proofs.Common.{take, map}
-use Rattle.serde_json.specs.View.{items_of}
-use Rattle.parsed_json.specs.AnyJson.{item_datas}
-use Rattle.graphql_ast_json.specs.nodes.Nodes.{Each}
-use Rattle.graphql_ast_json.proofs.read.JsonNode.trees.Given as goal
-
-abbrev pub invariant-loop-index : goal.invariant-loop-index
-invariant-loop-index g l = Each (g.F.Form.is_json_of l.self.unknown) (map g.F.Form.tree l.values.items) (items_of (take l.index (item_datas l.items)))

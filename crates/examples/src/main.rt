@@ -11,11 +11,11 @@ ghost use Rattle.graphql_ast.specs.ValueTrees.{value_tree};
 
 use anyhow::{Context, Result};
 use graphql_ast::ast::{Argument, Directive, SpecifiedArgumentError, Value};
-use graphql_ast::name;
 use graphql_ast::name::{Name, NameError};
 use graphql_ast::node::Node;
 use graphql_ast::serialize::PrintError;
 use graphql_ast::sink::StreamSink;
+use graphql_ast::{name, value};
 use std::alloc::{AllocError, Global};
 use std::io::Write;
 
@@ -26,12 +26,8 @@ fn text_node(alloc: Global, text: &str) -> Result<Node<Value>, AllocError> {
 
 /// `{tags: ["new", "on \"sale\""], note: "two\nlines"}`.
 fn search_filter(alloc: Global) -> Result<Node<Value>, AllocError> {
-    let tags = vec![in alloc; text_node(alloc, "new")?, text_node(alloc, "on \"sale\"")?]?;
-    let fields = vec![in alloc;
-        (name!(tags), Node::new(alloc, Value::List(tags))?),
-        (name!(note), text_node(alloc, "two\nlines")?),
-    ]?;
-    Node::new(alloc, Value::Object(fields))
+    let filter = value!(in alloc; {tags: ["new", "on \"sale\""], note: "two\nlines"})?;
+    Node::new(alloc, filter)
 }
 
 /// `@search(text: "shoes", filter: {..})`.

@@ -1,7 +1,5 @@
 //! Trees that cases tell by a number, since they are deeper than JSON is read.
-use graphql_ast::ast::{
-    DirectiveList, Field, OperationDefinition, OperationType, Selection, Value,
-};
+use graphql_ast::ast::{Field, OperationDefinition, OperationType, Selection, Value};
 use graphql_ast::name;
 use graphql_ast::node::Node;
 use std::alloc::{AllocError, Global};
@@ -25,13 +23,10 @@ fn field_around(
     selection_set: Vec<Selection>,
 ) -> Result<Vec<Selection>, AllocError> {
     let field = Field {
-        alias: None,
-        name: name!(a),
-        arguments: Vec::new(alloc),
-        directives: DirectiveList(Vec::new(alloc)),
         selection_set,
+        ..Field::new(alloc, name!(a))
     };
-    Ok(vec![in alloc; Selection::Field(Node::new(alloc, field)?)]?)
+    Ok(vec![in alloc; Selection::field(alloc, field)?]?)
 }
 
 /// An anonymous query with as many selection sets, each in the field `a` of the one around it.
@@ -41,11 +36,7 @@ pub fn nested_fields(alloc: Global, count: u64) -> Result<OperationDefinition, A
         selection_set = field_around(alloc, selection_set)?;
     }
     Ok(OperationDefinition {
-        description: None,
-        operation_type: OperationType::Query,
-        name: None,
-        variables: Vec::new(alloc),
-        directives: DirectiveList(Vec::new(alloc)),
         selection_set,
+        ..OperationDefinition::new(alloc, OperationType::Query)
     })
 }

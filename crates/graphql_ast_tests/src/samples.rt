@@ -15,8 +15,7 @@ use std::alloc::{AllocError, Global};
 
 /// ` @d`
 pub(crate) fn directives(alloc: Global) -> Result<DirectiveList, AllocError> {
-    let directive = Directive::new(alloc, name!(d));
-    Ok(DirectiveList(vec![in alloc; Node::new(alloc, directive)?]?))
+    DirectiveList::of(alloc, Directive::new(alloc, name!(d)))
 }
 
 /// `{ a }`

@@ -221,6 +221,7 @@ fn of_operations_and_fields(rt: HostRuntime) {
     for (name, number) in [("x", Some(1)), ("y", Some(2)), ("X", None), ("", None)] {
         check_argument(&rt, &field, name, number);
     }
+    check_argument(&rt, &Field::new(alloc, name!(f)), "x", None);
     check_response_names(&rt, alloc);
     check_keys(&rt, alloc);
 }

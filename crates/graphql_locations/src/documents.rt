@@ -86,8 +86,8 @@ impl Located for Document {
 }
 
 /// Makes another document with the same tree, in which no name, text or node has a location, and which has no sources. This
-/// document stays as it is. Each node of the new one is its own: a node that stands at several places of this document is made
-/// for each of them. Texts of names are shared with this document where they are shared already. `AllocError` if an
+/// document stays as it is. Each node of the new one is its own: a node that stands in this document more than once is made
+/// each time. Texts of names are shared with this document where they are shared already. `AllocError` if an
 /// allocation fails.
 ///
 /// ```

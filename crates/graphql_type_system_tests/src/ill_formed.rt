@@ -29,8 +29,6 @@ fn flawed_input(alloc: Global) -> Result<InputValueDefinition, AllocError> {
     Ok(input)
 }
 
-// PARTS OF DEFINITIONS
-
 // DEFINITIONS
 
 fn schema(

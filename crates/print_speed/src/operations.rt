@@ -10,7 +10,6 @@ use graphql_executable::inline_fragment::InlineFragment;
 use graphql_executable::operation_definition::OperationDefinition;
 use graphql_executable::selection::Selection;
 use graphql_executable::variable_definition::VariableDefinition;
-use graphql_values::directive_list::DirectiveList;
 use graphql_values::operation_type::OperationType;
 use graphql_values::types::Type;
 use graphql_values::value::Value;
@@ -27,17 +26,11 @@ impl Builder {
     fn field(&mut self, name: &'static str) -> Result<Field, AllocError>
         requires { IsTrue (is_name name.now) }
     {
-        Ok(Field {
-            alias: None,
-            name: self.name(name)?,
-            arguments: Vec::new(self.alloc),
-            directives: DirectiveList::new(self.alloc),
-            selection_set: Vec::new(self.alloc),
-        })
+        Ok(Field::new(self.alloc, self.name(name)?))
     }
 
     fn select(&self, selections: &mut Vec<Selection>, field: Field) -> Result<(), AllocError> {
-        selections.push(Selection::Field(Node::new(self.alloc, field)?))?;
+        selections.push(Selection::field(self.alloc, field)?)?;
         Ok(())
     }
 
@@ -76,11 +69,8 @@ impl Builder {
 
     /// `...UserParts`
     fn select_spread(&mut self, selections: &mut Vec<Selection>) -> Result<(), AllocError> {
-        let spread = FragmentSpread {
-            fragment_name: self.name("UserParts")?,
-            directives: DirectiveList::new(self.alloc),
-        };
-        selections.push(Selection::FragmentSpread(Node::new(self.alloc, spread)?))?;
+        let spread = FragmentSpread::new(self.alloc, self.name("UserParts")?);
+        selections.push(Selection::fragment_spread(self.alloc, spread)?)?;
         Ok(())
     }
 
@@ -91,12 +81,10 @@ impl Builder {
         self.select(&mut inner, email)?;
         let joined = self.field("joinedAt")?;
         self.select(&mut inner, joined)?;
-        let member = InlineFragment {
-            type_condition: Some(self.name("Member")?),
-            directives: DirectiveList::new(self.alloc),
-            selection_set: inner,
-        };
-        selections.push(Selection::InlineFragment(Node::new(self.alloc, member)?))?;
+        let mut member = InlineFragment::new(self.alloc);
+        member.type_condition = Some(self.name("Member")?);
+        member.selection_set = inner;
+        selections.push(Selection::inline_fragment(self.alloc, member)?)?;
         Ok(())
     }
 
@@ -130,13 +118,9 @@ impl Builder {
     ) -> Result<Node<VariableDefinition>, AllocError>
         requires { IsTrue (is_name name.now) }
     {
-        let definition = VariableDefinition {
-            description: None,
-            name: self.name(name)?,
-            ty: Node::new(self.alloc, ty)?,
-            default_value,
-            directives: DirectiveList::new(self.alloc),
-        };
+        let ty = Node::new(self.alloc, ty)?;
+        let mut definition = VariableDefinition::new(self.alloc, self.name(name)?, ty);
+        definition.default_value = default_value;
         Node::new(self.alloc, definition)
     }
 
@@ -156,14 +140,11 @@ impl Builder {
         let mut selections = self.list(2)?;
         self.select_viewer(&mut selections, number)?;
         self.select_viewer(&mut selections, number.wrapping_mul(7))?;
-        Ok(OperationDefinition {
-            description: None,
-            operation_type: OperationType::Query,
-            name: Some(self.name("ViewerQuery")?),
-            variables: self.variable_definitions()?,
-            directives: DirectiveList::new(self.alloc),
-            selection_set: selections,
-        })
+        let mut query = OperationDefinition::new(self.alloc, OperationType::Query);
+        query.name = Some(self.name("ViewerQuery")?);
+        query.variables = self.variable_definitions()?;
+        query.selection_set = selections;
+        Ok(query)
     }
 
     /// Such queries.

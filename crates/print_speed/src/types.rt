@@ -6,7 +6,6 @@ use crate::trees::Builder;
 use graphql_base::node::{Node, NodeStr};
 use graphql_type_system::field_definition::FieldDefinition;
 use graphql_type_system::object_type::ObjectTypeDefinition;
-use graphql_values::directive_list::DirectiveList;
 use graphql_values::input_value_definition::InputValueDefinition;
 use graphql_values::types::Type;
 use graphql_values::value::Value;
@@ -26,13 +25,9 @@ impl Builder {
     fn first(&mut self, number: usize) -> Result<Vec<Node<InputValueDefinition>>, AllocError> {
         let ty = Type::Named(self.name("Int")?);
         let default_value = Node::new(self.alloc, self.int(number)?)?;
-        let first = InputValueDefinition {
-            description: None,
-            name: self.name("first")?,
-            ty: Node::new(self.alloc, ty)?,
-            default_value: Some(default_value),
-            directives: DirectiveList::new(self.alloc),
-        };
+        let ty = Node::new(self.alloc, ty)?;
+        let mut first = InputValueDefinition::new(self.alloc, self.name("first")?, ty);
+        first.default_value = Some(default_value);
         let mut arguments = self.list(1)?;
         arguments.push(Node::new(self.alloc, first)?)?;
         Ok(arguments)

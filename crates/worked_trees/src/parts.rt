@@ -25,10 +25,7 @@ fn first_byte() -> Option<SourceSpan> {
 
 /// A node at offset 0.
 pub fn node<T: Drop>(alloc: Global, value: T) -> Result<Node<T>, AllocError> {
-    match first_byte() {
-        Some(span) => Node::new_parsed(alloc, value, span),
-        None => Node::new(alloc, value),
-    }
+    Node::new_at(alloc, value, first_byte())
 }
 
 /// The text `D`.

@@ -11,17 +11,6 @@ fn span_in(rt: &impl Abort, file: u64) -> SourceSpan {
     SourceSpan::new(FileId::new(file), 10, 13).expect(rt, "in order")
 }
 
-fn number_at(
-    alloc: Global,
-    value: u8,
-    location: Option<SourceSpan>,
-) -> Result<Node<u8>, AllocError> {
-    match location {
-        Some(span) => Node::new_parsed(alloc, value, span),
-        None => Node::new(alloc, value),
-    }
-}
-
 fn text_at(alloc: Global, text: &str, location: Option<SourceSpan>) -> Result<NodeStr, AllocError> {
     match location {
         Some(span) => NodeStr::new_str_parsed(alloc, text, span),
@@ -43,7 +32,7 @@ fn check_shared(rt: &impl Abort, node: &NodeStr, text: &str, location: Option<So
 
 /// What a node has, a clone has too; a node beside it has its location, of whichever type that one's value is.
 fn check_node(rt: &impl Abort, alloc: Global, value: u8, location: Option<SourceSpan>) {
-    let node = number_at(alloc, value, location).expect(rt, "memory");
+    let node = Node::new_at(alloc, value, location).expect(rt, "memory");
     check_number(rt, &node, value, location);
     let copy = node.clone().expect(rt, "memory");
     check_number(rt, &copy, value, location);
@@ -66,7 +55,7 @@ fn check_text_node(rt: &impl Abort, alloc: Global, location: Option<SourceSpan>)
 }
 
 fn check_built_in(rt: &impl Abort, alloc: Global, location: Option<SourceSpan>, wanted: bool) {
-    let node = number_at(alloc, 1, location).expect(rt, "memory");
+    let node = Node::new_at(alloc, 1u8, location).expect(rt, "memory");
     let text = text_at(alloc, "a", location).expect(rt, "memory");
     check_equal(
         rt,

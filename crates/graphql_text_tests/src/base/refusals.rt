@@ -10,10 +10,7 @@ use std::rc::RcStr;
 
 fn placed(alloc: Global) -> Result<Node<String>, AllocError> {
     let text = String::from_str(alloc, "old")?;
-    match SourceSpan::new(FileId::new(5), 10, 13) {
-        Some(span) => Node::new_parsed(alloc, text, span),
-        None => Node::new(alloc, text),
-    }
+    Node::new_at(alloc, text, SourceSpan::new(FileId::new(5), 10, 13))
 }
 
 fn check_placed(rt: &impl Abort, node: &Node<String>, text: &str) {

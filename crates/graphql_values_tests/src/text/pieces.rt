@@ -109,7 +109,17 @@ fn check_name(rt: &impl Abort, alloc: Global, text: &str) {
     check_at_each_fill_level(rt, alloc, &input, wanted.as_str());
 }
 
-/// Names of each length up to 20: those of at most 18 letters stand in place.
+/// Ints of each length up to 32: those of at most 30 digits stand in place.
+fn check_ints(rt: &impl Abort, alloc: Global) {
+    let mut digits = String::new(alloc);
+    for _ in 0..32 {
+        add(rt, &mut digits, "1");
+        let int = int_value(rt, alloc, digits.as_str());
+        check_at_each_fill_level(rt, alloc, &*int, digits.as_str());
+    }
+}
+
+/// Names of each length up to 20, of which those of at most 18 letters stand in place, and ints.
 #[test]
 fn names_at_each_fill_level_of_the_buffer(rt: HostRuntime) {
     let mut text = String::new(rt.alloc());
@@ -117,6 +127,7 @@ fn names_at_each_fill_level_of_the_buffer(rt: HostRuntime) {
         text.push(letter).expect(&rt, "memory");
         check_name(&rt, rt.alloc(), text.as_str());
     }
+    check_ints(&rt, rt.alloc());
 }
 
 /// A list of two names, in so many lists.
@@ -185,6 +196,16 @@ fn check_breaks(rt: &impl Abort, alloc: Global, prefix: &str, filler: &str) {
     }
 }
 
+/// Breaks of two spaces, which are fronts of a text of 64 bytes, behind names of each length.
+fn check_ready_breaks(rt: &impl Abort, alloc: Global) {
+    for length in 1..1026 {
+        let filler = "x".repeat(alloc, length).expect(rt, "memory");
+        for levels in [0, 1, 14, 28, 29, 30] {
+            check_level(rt, alloc, "  ", filler.as_str(), levels);
+        }
+    }
+}
+
 /// Behind a name that nearly fills the buffer stand breaks at each level up to 40.
 #[test]
 fn breaks_about_the_end_of_the_buffer(rt: HostRuntime) {
@@ -194,4 +215,5 @@ fn breaks_about_the_end_of_the_buffer(rt: HostRuntime) {
             check_breaks(&rt, rt.alloc(), prefix, filler.as_str());
         }
     }
+    check_ready_breaks(&rt, rt.alloc());
 }

@@ -29,10 +29,7 @@ fn name_in(file: u64) -> NamedType {
 fn placed(alloc: Global, file: u64) -> Result<Directive, AllocError> {
     let mut directive = Directive::new(alloc, name!(a));
     let argument = Argument::new(name!(x), number(alloc, 1)?);
-    let node = match SourceSpan::new(FileId::new(file), 3, 7) {
-        Some(span) => Node::new_parsed(alloc, argument, span)?,
-        None => Node::new(alloc, argument)?,
-    };
+    let node = Node::new_at(alloc, argument, SourceSpan::new(FileId::new(file), 3, 7))?;
     directive.arguments.push(node)?;
     Ok(directive)
 }

@@ -98,4 +98,6 @@ fn arguments_by_name(rt: HostRuntime) {
     check_equal(&rt, set_argument(&mut changed, "a", written), true);
     check_arguments(&rt, &other, &changed);
     check_equal(&rt, changed.argument_by_name_mut("z").is_none(), true);
+    let empty = DirectiveDefinition::new(alloc, name!(d));
+    check_equal(&rt, empty.argument_by_name("a").is_none(), true);
 }

@@ -30,10 +30,15 @@ fn number(node: &Node<Directive>) -> Option<i32> {
 }
 
 /// A name, how many directives have it, and the argument of the first.
-const NAMES: [(&str, usize, Option<i32>); 3] = [("a", 2, Some(1)), ("b", 1, None), ("c", 0, None)];
+const NAMES: [(&str, usize, Option<i32>); 4] = [
+    ("a", 2, Some(1)),
+    ("b", 1, None),
+    ("c", 0, None),
+    ("A", 0, None),
+];
 
 /// A name, a position, and the first position from there on at which a directive has the name.
-const POSITIONS: [(&str, usize, Option<usize>); 7] = [
+const POSITIONS: [(&str, usize, Option<usize>); 8] = [
     ("a", 0, Some(0)),
     ("a", 1, Some(2)),
     ("a", 2, Some(2)),
@@ -41,6 +46,7 @@ const POSITIONS: [(&str, usize, Option<usize>); 7] = [
     ("a", 4, None),
     ("a", usize::MAX, None),
     ("c", 0, None),
+    ("A", 0, None),
 ];
 
 fn check_name(rt: &impl Abort, list: &DirectiveList, name: &str, count: usize, first: Option<i32>) {
@@ -84,6 +90,9 @@ fn look_ups(rt: HostRuntime) {
     for (name, from, position) in POSITIONS {
         check_position(&rt, &list, name, from, position);
     }
+    let empty = DirectiveList::new(rt.alloc());
+    check_name(&rt, &empty, "a", 0, None);
+    check_position(&rt, &empty, "a", 0, None);
 }
 
 /// None is handed back where memory is ample.
@@ -154,6 +163,7 @@ fn check_numbers(rt: &impl Abort, numbers: &[Option<i32>]) {
 fn check_gone_over(rt: &impl Abort, alloc: Global) {
     let list = list(alloc).expect(rt, "memory");
     check_numbers(rt, lent(rt, alloc, &list).as_slice());
+    check_equal(rt, list.iter().count(), 3);
     let renamed = renamed(rt, list);
     check_equal(rt, renamed.get_all("c").count(), 3);
     check_numbers(rt, taken(rt, alloc, renamed).as_slice());

@@ -10,10 +10,7 @@ use std::process::Abort;
 /// 1 at a place.
 fn placed(alloc: Global, file: u64) -> Result<Node<Value>, AllocError> {
     let one = Value::from_i32(alloc, 1)?;
-    match SourceSpan::new(FileId::new(file), 3, 4) {
-        Some(span) => Node::new_parsed(alloc, one, span),
-        None => Node::new(alloc, one),
-    }
+    Node::new_at(alloc, one, SourceSpan::new(FileId::new(file), 3, 4))
 }
 
 /// The list of 1 at a place, and of a variable.

@@ -8,8 +8,8 @@ use crate::ast_json::AstNode;
 use crate::form::OnOneLine;
 use crate::value::read::named_value;
 use crate::write::NodeWriter;
+use ast_json_nodes::JsonNode;
 use ast_json_nodes::error::AstJsonError;
-use ast_json_nodes::{JsonNode, NodeReader};
 use graphql_ast::ast::{Argument, Value};
 use graphql_ast::name::Name;
 use serde_json::Value as Json;
@@ -23,10 +23,6 @@ impl AstNode for Argument {
     ghost is_node = { IsArgument };
 
     ghost laws = { argument_laws };
-
-    fn read_node(node: NodeReader<'_>) -> Result<Argument, AstJsonError> {
-        Self::read_json_node(JsonNode::of(node))
-    }
 
     fn read_json_node(node: JsonNode<'_, '_>) -> Result<Argument, AstJsonError> {
         let (name, value) = named_value(node, "Argument")?;

@@ -28,7 +28,8 @@ use std::alloc::{AllocError, Global};
 /// A kind of syntax tree that has a form in AST JSON: each node is an object with its `kind`, its members, and perhaps
 /// a location `loc`.
 ///
-/// A member that is null is the same as none. An optional list may be left out where it is empty. What is missing is
+/// A member that is null is the same as none, and of two members of one name the last counts. An optional list may be left
+/// out where it is empty. What is missing is
 /// refused: nothing is guessed. So is what no node of the kind has, unless the reading passes over it.
 ///
 /// ```
@@ -124,29 +125,12 @@ pub trait AstNode: Sized {
 
     ghost is_node: { Unknown → Tree → Data → Type 0 };
 
-    /// The tree that a node is of, whose location was read.
-    #[doc(hidden)]
-    fn read_node(node: NodeReader<'_>) -> Result<Self, AstJsonError>
-        requires { IsLocated node.unknown (node_json node) }
-        ensures ok { IfOk result (λ value. IsReadAs is_node node.entry (tree value)) }
-        ensures err { IfErr result (λ error. ¬ IsMemory error → IsOfNone is_node node.entry) };
-
-    /// The same of JSON in either form. It makes a value of `serde_json` of JSON in another form, unless the kind reads
-    /// that itself.
+    /// The tree that a node is of, in either form, whose location was read.
     #[doc(hidden)]
     fn read_json_node(node: JsonNode<'_, '_>) -> Result<Self, AstJsonError>
         requires { IsLocated node.unknown (node_data node) }
         ensures ok { IfOk result (λ value. IsReadFrom is_node node.entry (tree value)) }
-        ensures err { IfErr result (λ error. ¬ IsMemory error → IsFromNone is_node node.entry) }
-    {
-        match node.json {
-            AnyJson::Owned(json) => Self::read_node(node.over(json)),
-            AnyJson::Parsed(value) => {
-                let json = owned_json(node.alloc, value)?;
-                Self::read_node(node.over(&json))
-            }
-        }
-    }
+        ensures err { IfErr result (λ error. ¬ IsMemory error → IsFromNone is_node node.entry) };
 
     /// The tree as a node, at the location of the writer.
     #[doc(hidden)]

@@ -7,8 +7,8 @@ ghost use Rattle.graphql_ast_json.specs.lemmas.DirectiveNodes.{directive_laws};
 use crate::ast_json::AstNode;
 use crate::members::{list, member};
 use crate::write::NodeWriter;
+use ast_json_nodes::JsonNode;
 use ast_json_nodes::error::AstJsonError;
-use ast_json_nodes::{JsonNode, NodeReader};
 use graphql_ast::ast::{Argument, Directive};
 use graphql_ast::name::Name;
 use graphql_base::node::Node;
@@ -23,10 +23,6 @@ impl AstNode for Directive {
     ghost is_node = { IsDirective };
 
     ghost laws = { directive_laws };
-
-    fn read_node(node: NodeReader<'_>) -> Result<Directive, AstJsonError> {
-        Self::read_json_node(JsonNode::of(node))
-    }
 
     fn read_json_node(node: JsonNode<'_, '_>) -> Result<Directive, AstJsonError> {
         node.check("Directive", &["name", "arguments"])?;

@@ -7,8 +7,8 @@ ghost use Rattle.graphql_ast_json.specs.lemmas.DefinitionNodes.{directive_defini
 use crate::ast_json::AstNode;
 use crate::members::{list, member, optional, required_list};
 use crate::write::NodeWriter;
+use ast_json_nodes::JsonNode;
 use ast_json_nodes::error::AstJsonError;
-use ast_json_nodes::{JsonNode, NodeReader};
 use graphql_ast::ast::{DirectiveDefinition, DirectiveLocation, InputValueDefinition};
 use graphql_ast::name::Name;
 use graphql_base::node::{Node, NodeStr};
@@ -24,10 +24,6 @@ impl AstNode for DirectiveDefinition {
     ghost is_node = { IsDirectiveDefinition };
 
     ghost laws = { directive_definition_laws };
-
-    fn read_node(node: NodeReader<'_>) -> Result<DirectiveDefinition, AstJsonError> {
-        Self::read_json_node(JsonNode::of(node))
-    }
 
     fn read_json_node(node: JsonNode<'_, '_>) -> Result<DirectiveDefinition, AstJsonError> {
         node.check(

@@ -7,8 +7,8 @@ ghost use Rattle.graphql_ast_json.specs.lemmas.DefinitionNodes.{location_laws};
 
 use crate::ast_json::AstNode;
 use crate::write::NodeWriter;
+use ast_json_nodes::JsonNode;
 use ast_json_nodes::error::AstJsonError;
-use ast_json_nodes::{JsonNode, NodeReader};
 use graphql_ast::ast::DirectiveLocation;
 use serde_json::Value as Json;
 use std::alloc::AllocError;
@@ -52,10 +52,6 @@ impl AstNode for DirectiveLocation {
     ghost is_node = { IsDirectiveLocation };
 
     ghost laws = { location_laws };
-
-    fn read_node(node: NodeReader<'_>) -> Result<DirectiveLocation, AstJsonError> {
-        Self::read_json_node(JsonNode::of(node))
-    }
 
     fn read_json_node(node: JsonNode<'_, '_>) -> Result<DirectiveLocation, AstJsonError> {
         let text = node.text_of_kind("Name")?;

@@ -8,8 +8,8 @@ ghost use Rattle.graphql_ast_json.specs.lemmas.DocumentNodes.{document_laws};
 use crate::ast_json::AstNode;
 use crate::members::required_list;
 use crate::write::NodeWriter;
+use ast_json_nodes::JsonNode;
 use ast_json_nodes::error::AstJsonError;
-use ast_json_nodes::{JsonNode, NodeReader};
 use graphql_ast::ast::{Definition, Document};
 use serde_json::Value as Json;
 use std::alloc::AllocError;
@@ -23,10 +23,6 @@ impl AstNode for Document {
     ghost is_node = { IsDocument };
 
     ghost laws = { document_laws };
-
-    fn read_node(node: NodeReader<'_>) -> Result<Document, AstJsonError> {
-        Self::read_json_node(JsonNode::of(node))
-    }
 
     fn read_json_node(node: JsonNode<'_, '_>) -> Result<Document, AstJsonError> {
         node.check("Document", &["definitions"])?;

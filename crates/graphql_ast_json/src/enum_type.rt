@@ -7,8 +7,8 @@ ghost use Rattle.graphql_ast_json.specs.lemmas.TypeSystemNodes.{enum_type_defini
 use crate::ast_json::AstNode;
 use crate::members::{directives, list, member, optional};
 use crate::write::NodeWriter;
+use ast_json_nodes::JsonNode;
 use ast_json_nodes::error::AstJsonError;
-use ast_json_nodes::{JsonNode, NodeReader};
 use graphql_ast::ast::{EnumTypeDefinition, EnumTypeExtension, EnumValueDefinition};
 use graphql_ast::name::Name;
 use graphql_base::node::{Node, NodeStr};
@@ -23,10 +23,6 @@ impl AstNode for EnumTypeDefinition {
     ghost is_node = { IsEnumTypeDefinition };
 
     ghost laws = { enum_type_definition_laws };
-
-    fn read_node(node: NodeReader<'_>) -> Result<EnumTypeDefinition, AstJsonError> {
-        Self::read_json_node(JsonNode::of(node))
-    }
 
     fn read_json_node(node: JsonNode<'_, '_>) -> Result<EnumTypeDefinition, AstJsonError> {
         node.check(
@@ -59,10 +55,6 @@ impl AstNode for EnumTypeExtension {
     ghost is_node = { IsEnumTypeExtension };
 
     ghost laws = { enum_type_extension_laws };
-
-    fn read_node(node: NodeReader<'_>) -> Result<EnumTypeExtension, AstJsonError> {
-        Self::read_json_node(JsonNode::of(node))
-    }
 
     fn read_json_node(node: JsonNode<'_, '_>) -> Result<EnumTypeExtension, AstJsonError> {
         node.check("EnumTypeExtension", &["name", "directives", "values"])?;

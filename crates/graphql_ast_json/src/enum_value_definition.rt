@@ -7,8 +7,8 @@ ghost use Rattle.graphql_ast_json.specs.lemmas.TypeSystemNodes.{enum_value_defin
 use crate::ast_json::AstNode;
 use crate::members::{directives, member, optional};
 use crate::write::NodeWriter;
+use ast_json_nodes::JsonNode;
 use ast_json_nodes::error::AstJsonError;
-use ast_json_nodes::{JsonNode, NodeReader};
 use graphql_ast::ast::EnumValueDefinition;
 use graphql_ast::name::Name;
 use graphql_base::node::NodeStr;
@@ -23,10 +23,6 @@ impl AstNode for EnumValueDefinition {
     ghost is_node = { IsEnumValueDefinition };
 
     ghost laws = { enum_value_definition_laws };
-
-    fn read_node(node: NodeReader<'_>) -> Result<EnumValueDefinition, AstJsonError> {
-        Self::read_json_node(JsonNode::of(node))
-    }
 
     fn read_json_node(node: JsonNode<'_, '_>) -> Result<EnumValueDefinition, AstJsonError> {
         node.check(

@@ -7,8 +7,8 @@ ghost use Rattle.graphql_ast_json.specs.lemmas.TypeSystemNodes.{field_definition
 use crate::ast_json::AstNode;
 use crate::members::{directives, list, member, optional};
 use crate::write::NodeWriter;
+use ast_json_nodes::JsonNode;
 use ast_json_nodes::error::AstJsonError;
-use ast_json_nodes::{JsonNode, NodeReader};
 use graphql_ast::ast::{FieldDefinition, InputValueDefinition, Type};
 use graphql_ast::name::Name;
 use graphql_base::node::{Node, NodeStr};
@@ -24,10 +24,6 @@ impl AstNode for FieldDefinition {
     ghost is_node = { IsFieldDefinition };
 
     ghost laws = { field_definition_laws };
-
-    fn read_node(node: NodeReader<'_>) -> Result<FieldDefinition, AstJsonError> {
-        Self::read_json_node(JsonNode::of(node))
-    }
 
     fn read_json_node(node: JsonNode<'_, '_>) -> Result<FieldDefinition, AstJsonError> {
         node.check(

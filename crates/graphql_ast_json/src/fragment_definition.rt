@@ -8,8 +8,8 @@ use crate::ast_json::AstNode;
 use crate::form::{NamedTypeForm, SelectionSetForm};
 use crate::members::{directives, member, optional};
 use crate::write::NodeWriter;
+use ast_json_nodes::JsonNode;
 use ast_json_nodes::error::AstJsonError;
-use ast_json_nodes::{JsonNode, NodeReader};
 use graphql_ast::ast::FragmentDefinition;
 use graphql_ast::name::Name;
 use graphql_base::node::NodeStr;
@@ -24,10 +24,6 @@ impl AstNode for FragmentDefinition {
     ghost is_node = { IsFragmentDefinition };
 
     ghost laws = { fragment_definition_laws };
-
-    fn read_node(node: NodeReader<'_>) -> Result<FragmentDefinition, AstJsonError> {
-        Self::read_json_node(JsonNode::of(node))
-    }
 
     fn read_json_node(node: JsonNode<'_, '_>) -> Result<FragmentDefinition, AstJsonError> {
         node.check(

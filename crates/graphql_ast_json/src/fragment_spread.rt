@@ -7,8 +7,8 @@ ghost use Rattle.graphql_ast_json.specs.lemmas.ExecutableNodes.{fragment_spread_
 use crate::ast_json::AstNode;
 use crate::members::{directives, member};
 use crate::write::NodeWriter;
+use ast_json_nodes::JsonNode;
 use ast_json_nodes::error::AstJsonError;
-use ast_json_nodes::{JsonNode, NodeReader};
 use graphql_ast::ast::FragmentSpread;
 use graphql_ast::name::Name;
 use serde_json::Value as Json;
@@ -22,10 +22,6 @@ impl AstNode for FragmentSpread {
     ghost is_node = { IsFragmentSpread };
 
     ghost laws = { fragment_spread_laws };
-
-    fn read_node(node: NodeReader<'_>) -> Result<FragmentSpread, AstJsonError> {
-        Self::read_json_node(JsonNode::of(node))
-    }
 
     fn read_json_node(node: JsonNode<'_, '_>) -> Result<FragmentSpread, AstJsonError> {
         node.check("FragmentSpread", &["name", "directives"])?;

@@ -7,8 +7,8 @@ ghost use Rattle.graphql_ast_json.specs.lemmas.TypeSystemNodes.{input_object_typ
 use crate::ast_json::AstNode;
 use crate::members::{directives, list, member, optional};
 use crate::write::NodeWriter;
+use ast_json_nodes::JsonNode;
 use ast_json_nodes::error::AstJsonError;
-use ast_json_nodes::{JsonNode, NodeReader};
 use graphql_ast::ast::{InputObjectTypeDefinition, InputObjectTypeExtension, InputValueDefinition};
 use graphql_ast::name::Name;
 use graphql_base::node::{Node, NodeStr};
@@ -23,10 +23,6 @@ impl AstNode for InputObjectTypeDefinition {
     ghost is_node = { IsInputObjectTypeDefinition };
 
     ghost laws = { input_object_type_definition_laws };
-
-    fn read_node(node: NodeReader<'_>) -> Result<InputObjectTypeDefinition, AstJsonError> {
-        Self::read_json_node(JsonNode::of(node))
-    }
 
     fn read_json_node(node: JsonNode<'_, '_>) -> Result<InputObjectTypeDefinition, AstJsonError> {
         node.check(
@@ -59,10 +55,6 @@ impl AstNode for InputObjectTypeExtension {
     ghost is_node = { IsInputObjectTypeExtension };
 
     ghost laws = { input_object_type_extension_laws };
-
-    fn read_node(node: NodeReader<'_>) -> Result<InputObjectTypeExtension, AstJsonError> {
-        Self::read_json_node(JsonNode::of(node))
-    }
 
     fn read_json_node(node: JsonNode<'_, '_>) -> Result<InputObjectTypeExtension, AstJsonError> {
         node.check(

@@ -7,8 +7,8 @@ ghost use Rattle.graphql_ast_json.specs.lemmas.DefinitionNodes.{input_value_defi
 use crate::ast_json::AstNode;
 use crate::members::{directives, member, optional};
 use crate::write::NodeWriter;
+use ast_json_nodes::JsonNode;
 use ast_json_nodes::error::AstJsonError;
-use ast_json_nodes::{JsonNode, NodeReader};
 use graphql_ast::ast::{InputValueDefinition, Type, Value};
 use graphql_ast::name::Name;
 use graphql_base::node::{Node, NodeStr};
@@ -23,10 +23,6 @@ impl AstNode for InputValueDefinition {
     ghost is_node = { IsInputValueDefinition };
 
     ghost laws = { input_value_definition_laws };
-
-    fn read_node(node: NodeReader<'_>) -> Result<InputValueDefinition, AstJsonError> {
-        Self::read_json_node(JsonNode::of(node))
-    }
 
     fn read_json_node(node: JsonNode<'_, '_>) -> Result<InputValueDefinition, AstJsonError> {
         node.check(

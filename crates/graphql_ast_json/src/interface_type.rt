@@ -8,8 +8,8 @@ use crate::ast_json::AstNode;
 use crate::form::NamedTypeForm;
 use crate::members::{directives, list, member, optional};
 use crate::write::NodeWriter;
+use ast_json_nodes::JsonNode;
 use ast_json_nodes::error::AstJsonError;
-use ast_json_nodes::{JsonNode, NodeReader};
 use graphql_ast::ast::{FieldDefinition, InterfaceTypeDefinition, InterfaceTypeExtension};
 use graphql_ast::name::Name;
 use graphql_base::node::{Node, NodeStr};
@@ -24,10 +24,6 @@ impl AstNode for InterfaceTypeDefinition {
     ghost is_node = { IsInterfaceTypeDefinition };
 
     ghost laws = { interface_type_definition_laws };
-
-    fn read_node(node: NodeReader<'_>) -> Result<InterfaceTypeDefinition, AstJsonError> {
-        Self::read_json_node(JsonNode::of(node))
-    }
 
     fn read_json_node(node: JsonNode<'_, '_>) -> Result<InterfaceTypeDefinition, AstJsonError> {
         node.check(
@@ -62,10 +58,6 @@ impl AstNode for InterfaceTypeExtension {
     ghost is_node = { IsInterfaceTypeExtension };
 
     ghost laws = { interface_type_extension_laws };
-
-    fn read_node(node: NodeReader<'_>) -> Result<InterfaceTypeExtension, AstJsonError> {
-        Self::read_json_node(JsonNode::of(node))
-    }
 
     fn read_json_node(node: JsonNode<'_, '_>) -> Result<InterfaceTypeExtension, AstJsonError> {
         node.check(

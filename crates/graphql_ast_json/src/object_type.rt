@@ -8,8 +8,8 @@ use crate::ast_json::AstNode;
 use crate::form::NamedTypeForm;
 use crate::members::{directives, list, member, optional};
 use crate::write::NodeWriter;
+use ast_json_nodes::JsonNode;
 use ast_json_nodes::error::AstJsonError;
-use ast_json_nodes::{JsonNode, NodeReader};
 use graphql_ast::ast::{FieldDefinition, ObjectTypeDefinition, ObjectTypeExtension};
 use graphql_ast::name::Name;
 use graphql_base::node::{Node, NodeStr};
@@ -24,10 +24,6 @@ impl AstNode for ObjectTypeDefinition {
     ghost is_node = { IsObjectTypeDefinition };
 
     ghost laws = { object_type_definition_laws };
-
-    fn read_node(node: NodeReader<'_>) -> Result<ObjectTypeDefinition, AstJsonError> {
-        Self::read_json_node(JsonNode::of(node))
-    }
 
     fn read_json_node(node: JsonNode<'_, '_>) -> Result<ObjectTypeDefinition, AstJsonError> {
         node.check(
@@ -62,10 +58,6 @@ impl AstNode for ObjectTypeExtension {
     ghost is_node = { IsObjectTypeExtension };
 
     ghost laws = { object_type_extension_laws };
-
-    fn read_node(node: NodeReader<'_>) -> Result<ObjectTypeExtension, AstJsonError> {
-        Self::read_json_node(JsonNode::of(node))
-    }
 
     fn read_json_node(node: JsonNode<'_, '_>) -> Result<ObjectTypeExtension, AstJsonError> {
         node.check(

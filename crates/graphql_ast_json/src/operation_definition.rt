@@ -9,8 +9,8 @@ use crate::form::SelectionSetForm;
 use crate::members::{directives, list, member, optional};
 use crate::operation_type::operation_type;
 use crate::write::NodeWriter;
+use ast_json_nodes::JsonNode;
 use ast_json_nodes::error::AstJsonError;
-use ast_json_nodes::{JsonNode, NodeReader};
 use graphql_ast::ast::{OperationDefinition, VariableDefinition};
 use graphql_ast::name::Name;
 use graphql_base::node::{Node, NodeStr};
@@ -32,10 +32,6 @@ impl AstNode for OperationDefinition {
     ghost is_node = { IsOperationDefinition };
 
     ghost laws = { operation_definition_laws };
-
-    fn read_node(node: NodeReader<'_>) -> Result<OperationDefinition, AstJsonError> {
-        Self::read_json_node(JsonNode::of(node))
-    }
 
     fn read_json_node(node: JsonNode<'_, '_>) -> Result<OperationDefinition, AstJsonError> {
         node.check(

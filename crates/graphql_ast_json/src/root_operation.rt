@@ -9,8 +9,8 @@ use crate::form::NamedTypeForm;
 use crate::members::member;
 use crate::operation_type::operation_type;
 use crate::write::NodeWriter;
+use ast_json_nodes::JsonNode;
 use ast_json_nodes::error::AstJsonError;
-use ast_json_nodes::{JsonNode, NodeReader};
 use graphql_ast::ast::{NamedType, OperationType};
 use serde_json::Value as Json;
 use std::alloc::AllocError;
@@ -23,10 +23,6 @@ impl AstNode for (OperationType, NamedType) {
     ghost is_node = { IsRootOperation };
 
     ghost laws = { root_operation_laws };
-
-    fn read_node(node: NodeReader<'_>) -> Result<(OperationType, NamedType), AstJsonError> {
-        Self::read_json_node(JsonNode::of(node))
-    }
 
     fn read_json_node(node: JsonNode<'_, '_>) -> Result<(OperationType, NamedType), AstJsonError> {
         node.check("OperationTypeDefinition", &["operation", "type"])?;

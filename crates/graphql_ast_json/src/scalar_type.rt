@@ -7,8 +7,8 @@ ghost use Rattle.graphql_ast_json.specs.lemmas.TypeSystemNodes.{scalar_type_defi
 use crate::ast_json::AstNode;
 use crate::members::{directives, member, optional};
 use crate::write::NodeWriter;
+use ast_json_nodes::JsonNode;
 use ast_json_nodes::error::AstJsonError;
-use ast_json_nodes::{JsonNode, NodeReader};
 use graphql_ast::ast::{ScalarTypeDefinition, ScalarTypeExtension};
 use graphql_ast::name::Name;
 use graphql_base::node::NodeStr;
@@ -23,10 +23,6 @@ impl AstNode for ScalarTypeDefinition {
     ghost is_node = { IsScalarTypeDefinition };
 
     ghost laws = { scalar_type_definition_laws };
-
-    fn read_node(node: NodeReader<'_>) -> Result<ScalarTypeDefinition, AstJsonError> {
-        Self::read_json_node(JsonNode::of(node))
-    }
 
     fn read_json_node(node: JsonNode<'_, '_>) -> Result<ScalarTypeDefinition, AstJsonError> {
         node.check(
@@ -57,10 +53,6 @@ impl AstNode for ScalarTypeExtension {
     ghost is_node = { IsScalarTypeExtension };
 
     ghost laws = { scalar_type_extension_laws };
-
-    fn read_node(node: NodeReader<'_>) -> Result<ScalarTypeExtension, AstJsonError> {
-        Self::read_json_node(JsonNode::of(node))
-    }
 
     fn read_json_node(node: JsonNode<'_, '_>) -> Result<ScalarTypeExtension, AstJsonError> {
         node.check("ScalarTypeExtension", &["name", "directives"])?;

@@ -7,8 +7,8 @@ ghost use Rattle.graphql_ast_json.specs.lemmas.TypeSystemNodes.{schema_definitio
 use crate::ast_json::AstNode;
 use crate::members::{directives, list, optional};
 use crate::write::NodeWriter;
+use ast_json_nodes::JsonNode;
 use ast_json_nodes::error::AstJsonError;
-use ast_json_nodes::{JsonNode, NodeReader};
 use graphql_ast::ast::{NamedType, OperationType, SchemaDefinition, SchemaExtension};
 use graphql_base::node::{Node, NodeStr};
 use serde_json::Value as Json;
@@ -22,10 +22,6 @@ impl AstNode for SchemaDefinition {
     ghost is_node = { IsSchemaDefinition };
 
     ghost laws = { schema_definition_laws };
-
-    fn read_node(node: NodeReader<'_>) -> Result<SchemaDefinition, AstJsonError> {
-        Self::read_json_node(JsonNode::of(node))
-    }
 
     fn read_json_node(node: JsonNode<'_, '_>) -> Result<SchemaDefinition, AstJsonError> {
         node.check(
@@ -56,10 +52,6 @@ impl AstNode for SchemaExtension {
     ghost is_node = { IsSchemaExtension };
 
     ghost laws = { schema_extension_laws };
-
-    fn read_node(node: NodeReader<'_>) -> Result<SchemaExtension, AstJsonError> {
-        Self::read_json_node(JsonNode::of(node))
-    }
 
     fn read_json_node(node: JsonNode<'_, '_>) -> Result<SchemaExtension, AstJsonError> {
         node.check("SchemaExtension", &["directives", "operationTypes"])?;

@@ -61,10 +61,6 @@ impl AstNode for Field {
 
     ghost laws = { field_laws };
 
-    fn read_node(node: NodeReader<'_>) -> Result<Field, AstJsonError> {
-        Self::read_json_node(JsonNode::of(node))
-    }
-
     fn read_json_node(node: JsonNode<'_, '_>) -> Result<Field, AstJsonError> {
         read_field(node)
     }
@@ -82,10 +78,6 @@ impl AstNode for InlineFragment {
     ghost is_node = { IsInlineFragment };
 
     ghost laws = { inline_fragment_laws };
-
-    fn read_node(node: NodeReader<'_>) -> Result<InlineFragment, AstJsonError> {
-        Self::read_json_node(JsonNode::of(node))
-    }
 
     fn read_json_node(node: JsonNode<'_, '_>) -> Result<InlineFragment, AstJsonError> {
         read_inline_fragment(node)

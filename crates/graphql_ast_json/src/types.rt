@@ -9,8 +9,8 @@ pub(crate) mod write;
 
 use crate::ast_json::AstNode;
 use crate::write::NodeWriter;
+use ast_json_nodes::JsonNode;
 use ast_json_nodes::error::AstJsonError;
-use ast_json_nodes::{JsonNode, NodeReader};
 use graphql_ast::ast::Type;
 use read::read_type;
 use serde_json::Value as Json;
@@ -25,10 +25,6 @@ impl AstNode for Type {
     ghost is_node = { IsTypeReference };
 
     ghost laws = { type_laws };
-
-    fn read_node(node: NodeReader<'_>) -> Result<Type, AstJsonError> {
-        Self::read_json_node(JsonNode::of(node))
-    }
 
     fn read_json_node(node: JsonNode<'_, '_>) -> Result<Type, AstJsonError> {
         read_type(node)

@@ -8,8 +8,8 @@ use crate::ast_json::AstNode;
 use crate::form::NamedTypeForm;
 use crate::members::{directives, list, member, optional};
 use crate::write::NodeWriter;
+use ast_json_nodes::JsonNode;
 use ast_json_nodes::error::AstJsonError;
-use ast_json_nodes::{JsonNode, NodeReader};
 use graphql_ast::ast::{UnionTypeDefinition, UnionTypeExtension};
 use graphql_ast::name::Name;
 use graphql_base::node::NodeStr;
@@ -24,10 +24,6 @@ impl AstNode for UnionTypeDefinition {
     ghost is_node = { IsUnionTypeDefinition };
 
     ghost laws = { union_type_definition_laws };
-
-    fn read_node(node: NodeReader<'_>) -> Result<UnionTypeDefinition, AstJsonError> {
-        Self::read_json_node(JsonNode::of(node))
-    }
 
     fn read_json_node(node: JsonNode<'_, '_>) -> Result<UnionTypeDefinition, AstJsonError> {
         node.check(
@@ -60,10 +56,6 @@ impl AstNode for UnionTypeExtension {
     ghost is_node = { IsUnionTypeExtension };
 
     ghost laws = { union_type_extension_laws };
-
-    fn read_node(node: NodeReader<'_>) -> Result<UnionTypeExtension, AstJsonError> {
-        Self::read_json_node(JsonNode::of(node))
-    }
 
     fn read_json_node(node: JsonNode<'_, '_>) -> Result<UnionTypeExtension, AstJsonError> {
         node.check("UnionTypeExtension", &["name", "directives", "types"])?;

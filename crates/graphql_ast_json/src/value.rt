@@ -9,8 +9,8 @@ pub(crate) mod write;
 
 use crate::ast_json::AstNode;
 use crate::write::NodeWriter;
+use ast_json_nodes::JsonNode;
 use ast_json_nodes::error::AstJsonError;
-use ast_json_nodes::{JsonNode, NodeReader};
 use graphql_ast::ast::Value;
 use read::read_value;
 use serde_json::Value as Json;
@@ -25,10 +25,6 @@ impl AstNode for Value {
     ghost is_node = { IsValue };
 
     ghost laws = { value_laws };
-
-    fn read_node(node: NodeReader<'_>) -> Result<Value, AstJsonError> {
-        Self::read_json_node(JsonNode::of(node))
-    }
 
     fn read_json_node(node: JsonNode<'_, '_>) -> Result<Value, AstJsonError> {
         read_value(node)

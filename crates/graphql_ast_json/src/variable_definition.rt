@@ -8,8 +8,8 @@ use crate::ast_json::AstNode;
 use crate::form::VariableForm;
 use crate::members::{directives, member, optional};
 use crate::write::NodeWriter;
+use ast_json_nodes::JsonNode;
 use ast_json_nodes::error::AstJsonError;
-use ast_json_nodes::{JsonNode, NodeReader};
 use graphql_ast::ast::{Type, Value, VariableDefinition};
 use graphql_base::node::{Node, NodeStr};
 use serde_json::Value as Json;
@@ -23,10 +23,6 @@ impl AstNode for VariableDefinition {
     ghost is_node = { IsVariableDefinition };
 
     ghost laws = { variable_definition_laws };
-
-    fn read_node(node: NodeReader<'_>) -> Result<VariableDefinition, AstJsonError> {
-        Self::read_json_node(JsonNode::of(node))
-    }
 
     fn read_json_node(node: JsonNode<'_, '_>) -> Result<VariableDefinition, AstJsonError> {
         node.check(

@@ -200,14 +200,10 @@ impl SyntaxTree for Document {
 
 impl Syntax for Document {
     fn write<O: Target>(&self, out: &mut O, start: &Start<'_>) -> Result<(), AllocError> {
-        let Document {
-            sources: _,
-            definitions,
-        } = self;
-        let alloc = *definitions.allocator();
-        let mut stacks = reserve_stacks(alloc, definitions, start.depths)?;
+        let alloc = *self.definitions.allocator();
+        let mut stacks = reserve_stacks(alloc, &self.definitions, start.depths)?;
         write_first_indent(out, &start.place);
-        write_definitions(out, &start.place, &mut stacks, definitions);
+        write_definitions(out, &start.place, &mut stacks, &self.definitions);
         Ok(())
     }
 }

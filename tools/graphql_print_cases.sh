@@ -135,6 +135,21 @@ check 3 '' "${front}bytes.json: not JSON: not UTF-8 from byte 9 on"$'\n' '' byte
 deep=$(printf '[%.0s' {1..200})
 check 3 '' "${front}standard input: arrays and objects stand in one another more than 127 deep"$'\n' "$deep"
 
+# Inputs of a size: a million brackets, and 100 MB of blanks, of a text in an unknown member, and of one in a description.
+head -c 1000000 /dev/zero | tr '\0' '[' >large.json
+check 3 '' "${front}large.json: arrays and objects stand in one another more than 127 deep"$'\n' '' large.json
+head -c 100000000 /dev/zero | tr '\0' ' ' >large.json
+check 3 '' "${front}large.json: not JSON: EOF while parsing at line 1 column 100000000"$'\n' '' large.json
+{ printf '{"kind":"Document","definitions":[],"a":"'; head -c 100000000 /dev/zero | tr '\0' x; printf '"}'; } >large.json
+check 3 '' "${front}large.json: at the root: found a member \`a\`, which no Document has"$'\n' '' large.json
+{
+    printf '{"kind":"Document","definitions":[{"kind":"ScalarTypeDefinition","name":{"kind":"Name","value":"A"},"description":{"kind":"StringValue","value":"'
+    head -c 100000000 /dev/zero | tr '\0' x
+    printf '"}}]}'
+} >large.json
+check 0 '' '' '' --check large.json
+rm large.json
+
 # Standard output that takes nothing is a fault, and standard error that takes nothing changes no status.
 for word in --tabs --one-line --json --help; do
     : >out

@@ -5,7 +5,8 @@
 //
 // A definition counts as well formed if graphql-js reads it back from its own print. The document of all such definitions has to be printed, and
 // the text read as it; a document with another definition, or without one, has to be refused with status 1, and what is printed of it where that is
-// allowed is read as another tree or not at all. AST JSON that is written is that of the document.
+// allowed is read as another tree or not at all. AST JSON that is written is that of the document, and graphql-js prints it with the block strings that
+// the default layout has.
 //
 // It needs the program, which `rt run` builds in crates/graphql_print, and graphql-js 16: `npm install graphql`, or Debian's package node-graphql
 // with NODE_PATH=/usr/share/nodejs. It says how many texts were read, and how many documents were refused; the exit status is 0 if all is as it should.
@@ -44,6 +45,11 @@ function isReadFrom(document, printed) {
   }
 }
 
+// Whether graphql-js prints the AST JSON as what it reads of the text: a string that is a block string in the one is so in the other.
+function hasBlocksOf(json, printed) {
+  return print(JSON.parse(json)) === print(parse(printed));
+}
+
 function isWellFormed(definition) {
   const document = { kind: "Document", definitions: [definition] };
   return isReadFrom(document, print(document));
@@ -66,6 +72,7 @@ function checkPrinted(document) {
     counts.texts++;
   }
   expect(run(document, "--check").status === 0, "--check", document);
+  expect(hasBlocksOf(run(document, "--json").stdout, run(document, "").stdout), "block strings", document);
 }
 
 function checkRefused(document) {

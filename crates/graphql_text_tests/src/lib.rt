@@ -1,9 +1,19 @@
-//! Worked examples of names, nodes, strings, writers and sinks, through public calls alone.
+//! Worked examples of strings, writers and sinks, through public calls alone.
 #![tactic(auto)]
 
 #[cfg(test)]
-mod base;
-#[cfg(test)]
 mod checks;
 #[cfg(test)]
-mod text;
+mod errors;
+#[cfg(test)]
+mod page;
+#[cfg(test)]
+mod refusals;
+#[cfg(test)]
+mod sinks;
+#[cfg(test)]
+mod stacks;
+#[cfg(test)]
+mod strings;
+#[cfg(test)]
+mod writers;

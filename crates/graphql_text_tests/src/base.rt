@@ -1,5 +1,0 @@
-//! Names, nodes and spans.
-mod names;
-mod nodes;
-mod refusals;
-mod spans;

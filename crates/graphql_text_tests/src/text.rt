@@ -1,8 +1,0 @@
-//! Strings, writers and sinks.
-mod errors;
-mod page;
-mod refusals;
-mod sinks;
-mod stacks;
-mod strings;
-mod writers;

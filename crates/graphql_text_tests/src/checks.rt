@@ -1,4 +1,7 @@
-//! What the examples compare.
+//! What the examples compare, and a sink that they print into.
+ghost use Rattle.std.specs.Prelude.{◌≡◌, None};
+
+use graphql_text::sink::{SinkFault, TextSink};
 use std::fmt::{Debug, Display};
 use std::process::Abort;
 
@@ -25,4 +28,50 @@ pub(crate) fn check_text(rt: &impl Abort, found: &str, wanted: &str) {
 pub(crate) fn check_made<E: Debug>(rt: &impl Abort, made: Result<String, E>, wanted: &str) {
     let text = made.expect(rt, "memory");
     check_text(rt, text.as_str(), wanted);
+}
+
+/// A sink with room for so many bytes, which takes all of a call or none, and then faults. It counts its calls, those with no
+/// byte, and those after a fault.
+#[derive(Drop)]
+pub(crate) struct Counting {
+    pub(crate) room: usize,
+    pub(crate) faults: u64,
+    pub(crate) calls: usize,
+    pub(crate) wrong_calls: usize,
+}
+
+impl Counting {
+    pub(crate) fn with_room(room: usize) -> Counting
+        ensures { result.faults ≡ 0 }
+    {
+        Counting {
+            room,
+            faults: 0,
+            calls: 0,
+            wrong_calls: 0,
+        }
+    }
+}
+
+impl TextSink for Counting {
+    ghost taken = { λ sink. None };
+
+    ghost fault_count = { λ sink. sink.faults };
+
+    fn put(&mut self, bytes: &[u8]) -> Result<usize, SinkFault> {
+        self.calls = self.calls.saturating_add(1);
+        if bytes.is_empty() || self.faults > 0 {
+            self.wrong_calls = self.wrong_calls.saturating_add(1);
+        }
+        if bytes.len() <= self.room {
+            self.room -= bytes.len();
+            return Ok(bytes.len());
+        }
+        self.faults += 1;
+        Err(SinkFault)
+    }
+
+    fn faults(&self) -> u64 {
+        self.faults
+    }
 }

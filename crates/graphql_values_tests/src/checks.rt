@@ -1,8 +1,6 @@
-//! What the examples compare, and the writers and sinks that they print into.
-ghost use Rattle.std.specs.Prelude.{◌≡◌, None};
-
+//! What the examples compare, and the writers that they print into.
 use graphql_text::engine::{PrintError, Serialize, Syntax};
-use graphql_text::sink::{SinkFault, StreamSink, TextSink};
+use graphql_text::sink::{StreamSink, TextSink};
 use std::fmt::{self, Debug, Display, Write};
 use std::io::{self, Cursor};
 use std::process::Abort;
@@ -90,50 +88,4 @@ pub(crate) fn check_displayed_or_refused<T: Display>(rt: &impl Abort, tree: &T, 
     let mut page = Page::new();
     let result = write!(page, "{tree}");
     check_taken(rt, page.bytes, if result.is_ok() { wanted } else { "" });
-}
-
-/// A sink with room for so many bytes, which takes all of a call or none, and then faults. It counts its calls, those with no
-/// byte, and those after a fault.
-#[derive(Drop)]
-pub(crate) struct Counting {
-    pub(crate) room: usize,
-    pub(crate) faults: u64,
-    pub(crate) calls: usize,
-    pub(crate) wrong_calls: usize,
-}
-
-impl Counting {
-    pub(crate) fn with_room(room: usize) -> Counting
-        ensures { result.faults ≡ 0 }
-    {
-        Counting {
-            room,
-            faults: 0,
-            calls: 0,
-            wrong_calls: 0,
-        }
-    }
-}
-
-impl TextSink for Counting {
-    ghost taken = { λ sink. None };
-
-    ghost fault_count = { λ sink. sink.faults };
-
-    fn put(&mut self, bytes: &[u8]) -> Result<usize, SinkFault> {
-        self.calls = self.calls.saturating_add(1);
-        if bytes.is_empty() || self.faults > 0 {
-            self.wrong_calls = self.wrong_calls.saturating_add(1);
-        }
-        if bytes.len() <= self.room {
-            self.room -= bytes.len();
-            return Ok(bytes.len());
-        }
-        self.faults += 1;
-        Err(SinkFault)
-    }
-
-    fn faults(&self) -> u64 {
-        self.faults
-    }
 }

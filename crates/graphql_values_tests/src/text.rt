@@ -1,4 +1,0 @@
-//! Prints into sinks.
-mod buffered;
-mod pieces;
-mod sinks;

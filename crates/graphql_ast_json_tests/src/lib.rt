@@ -10,8 +10,6 @@ mod direct;
 #[cfg(test)]
 mod each_kind;
 #[cfg(test)]
-mod either_form;
-#[cfg(test)]
 mod errors;
 #[cfg(test)]
 mod flawed_trees;

@@ -1,8 +1,7 @@
 //! JSON in either form, as callers ask it, and JSON that was parsed as a value of `serde_json`.
 use crate::checks::{check_case, check_equal};
-use graphql_ast_json::{AnyJson, parse_json};
 use json::{Scratch, Value as Parsed};
-use parsed_json::owned_json;
+use parsed_json::{AnyJson, owned_json, parse_json};
 use serde_json::Value as Json;
 use std::alloc::Global;
 use std::process::Abort;

@@ -4,9 +4,9 @@
 #[cfg(test)]
 mod checks;
 #[cfg(test)]
-mod comparisons;
+mod compared;
 #[cfg(test)]
-mod edges;
+mod hostile;
 #[cfg(test)]
 mod ill_formed;
 #[cfg(test)]

@@ -5,7 +5,7 @@
 
 Of the words in backticks on the page it takes
 
-- test functions, as `graphql_text_tests::text::errors::what_errors_say`, and laws, as `graphql_text::laws::one_token_list`;
+- test functions, as `graphql_text_tests::errors::what_errors_say`, and laws, as `graphql_text::laws::one_token_list`;
 - edits, as `graphql_text/planted/tab_escaped` and `graphql_text/must-fail/level_wraps`;
 - beginnings of names of cases of the program golden, as `string/line-feed`, whose first part is a group.
 

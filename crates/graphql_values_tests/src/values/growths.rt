@@ -6,7 +6,7 @@ ghost use Rattle.std.specs.Prelude.{◌<◌};
 
 use crate::checks::{check_case, check_taken, printed};
 use crate::samples::{directive, input, items};
-use graphql_text::engine::Syntax;
+use graphql_text::engine::{PrintError, Syntax};
 use graphql_values::directive::{Directive, SpecifiedArgumentError};
 use std::alloc::{AllocError, Global};
 use std::process::Abort;
@@ -114,9 +114,24 @@ fn check_loans_of_one(rt: &impl Abort, calls: Calls, alloc: Global) {
     check_loans(rt, calls, one_shared(alloc, 1), loans);
 }
 
+/// A text whose level overflows asks for no memory.
+fn check_overflow(rt: &impl Abort, calls: Calls, alloc: Global) {
+    let Ok(list) = items(alloc) else {
+        check_case(rt, "the list isn't built", calls, Calls::Made);
+        return;
+    };
+    if calls == Calls::Made {
+        let print = list.serialize().initial_indent_level(usize::MAX);
+        let error = print.to_text(alloc).err();
+        let wanted = Some(PrintError::LevelOverflow);
+        check_case(rt, "a text that overflows takes 0", error, wanted);
+    }
+}
+
 /// Of a directive a value is copied once, where it is lent, and not those that were lent before.
 fn check_all(rt: &impl Abort, calls: Calls, alloc: Global) {
     check_prints(rt, calls, alloc);
+    check_overflow(rt, calls, alloc);
     check_loans_of_two(rt, calls, alloc);
     check_loans_of_one(rt, calls, alloc);
 }

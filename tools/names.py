@@ -10,6 +10,7 @@ top, docs/, crates/ or a crate's src/, specs/ or proofs/. A name is looked for w
 - `name` of `crate`, and `crate`: `name`, in that crate; `name` (`file.rt`) in that file;
 - each name in the row of a table whose first cell is a crate, in that crate or in one that it uses, and a path in the first cell of a row in the crate
   that a row above it has in bold;
+- "clause `name` of `function`", in a contract of a function of that name;
 - in docs/PROVED.md, in the files of the row's last cell, which stand in the crates that the row in bold names, or in all files of these if the cell
   ends in `..`. What stands behind a function and a colon is a clause of that function; behind a type, what the type's file declares.
 
@@ -126,6 +127,11 @@ def named_of_files(text):
     return re.findall(r"`(?:\w+::)*(\w+)` \(`([\w/]+\.(?:rt|antt))`\)", text)
 
 
+def named_clauses(text):
+    """Pairs of a clause and the function that it is said to be of."""
+    return re.findall(r"clause `(\w+)` of `(?:\w+::)*(\w+)`", text)
+
+
 def file_declares(file, name):
     return any(f"/{path}".endswith(f"/{file}") and declares(path, name) for path in SOURCES)
 
@@ -204,6 +210,7 @@ def main():
                 missing.append(f"{short}: no {target}")
         text = without_code(text)
         missing += [f"{short}: `{word}`" for word in sorted(set(words_of(text))) if not is_there(word, page)]
+        missing += [f"{short}: {name} is no clause of {owner}" for name, owner in named_clauses(text) if not is_clause(SOURCES, owner, name)]
         if page.name != "DIFFERENCES.md":
             missing += [f"{short}: {name} isn't in {crates[0]}" for crates, name in sorted(set(named_of_crates(text))) if not crates_declare(crates, name)]
             missing += [f"{short}: {name} isn't in {file}" for name, file in named_of_files(text) if not file_declares(file, name)]

@@ -40,7 +40,7 @@ OF_VALUE_MACRO = r"\bvalue!\(in\b"
 def signature_takes_memory(code):
     head, _, returned = code.partition(") -> ")
     takes = re.search(r"\balloc: Global\b", head) is not None
-    return bool(OF_MEMORY.search(returned)) or takes and bool(re.match(r"Result<|Status\b|Outcome\b", returned)) or returned.startswith("Result<(), Node<")
+    return bool(OF_MEMORY.search(returned)) or takes and bool(re.match(r"Result<|Status\b|\(?Outcome\b", returned)) or returned.startswith("Result<(), Node<")
 
 
 def functions_of_calls():

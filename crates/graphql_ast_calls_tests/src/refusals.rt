@@ -12,30 +12,72 @@ fn check_refused(rt: &impl Abort, status: Status, needed: usize) {
     check_equal(rt, needed, 13);
 }
 
-fn check_printed(rt: &impl Abort, alloc: Global, json: &[u8], out: &mut [u8], answer: Status) {
-    let mut needed = 0usize;
-    let status = print_json(alloc, json, true, b"  ", 0, false, out, &mut needed);
-    if status != answer {
+/// That a call has this answer, with this text at the front of its buffer, or told that memory was refused.
+fn check_told(
+    rt: &impl Abort,
+    out: &[u8],
+    (status, needed): (Status, usize),
+    (answer, text): (Status, &str),
+) {
+    if status == answer {
+        check_equal(rt, needed, text.len());
+        assert!(rt; out.starts_with(text.as_bytes()), "{text}");
+    } else {
         check_refused(rt, status, needed);
     }
 }
 
-fn check_written(rt: &impl Abort, alloc: Global, json: &[u8], out: &mut [u8]) {
+fn check_printed(rt: &impl Abort, alloc: Global, json: &[u8], wanted: (Status, &str)) {
+    let mut out = [b'#'; 100];
     let mut needed = 0usize;
-    let status = write_json(alloc, json, false, out, &mut needed);
-    if status != Status::Done {
-        check_equal(rt, status, Status::OutOfMemory);
-    }
+    let status = print_json(alloc, json, true, b"  ", 0, false, &mut out, &mut needed);
+    check_told(rt, &out, (status, needed), wanted);
+}
+
+fn check_checked(rt: &impl Abort, alloc: Global, json: &[u8], wanted: (Status, &str)) {
+    let mut out = [b'#'; 100];
+    let mut needed = 0usize;
+    let status = check_json(alloc, json, false, &mut out, &mut needed);
+    check_told(rt, &out, (status, needed), wanted);
+}
+
+fn check_written(rt: &impl Abort, alloc: Global, json: &[u8], wanted: (Status, &str)) {
+    let mut out = [b'#'; 1000];
+    let mut needed = 0usize;
+    let status = write_json(alloc, json, false, &mut out, &mut needed);
+    check_told(rt, &out, (status, needed), wanted);
+}
+
+/// `QUERY` as it is written.
+const QUERY_WRITTEN: &str =
+    "{\"definitions\":[{\"directives\":[],\"kind\":\"OperationDefinition\",\"operation\":\"query\",\"selectionSet\":{\"kind\":\"SelectionSet\",\"selections\":[{\"arguments\":[],\"directives\":[],\"kind\":\"Field\",\"name\":{\"kind\":\"Name\",\"value\":\"a\"}}]},\"variableDefinitions\":[]}],\"kind\":\"Document\"}";
+
+/// `ILL_FORMED` as it is written.
+const ILL_FORMED_WRITTEN: &str =
+    "{\"definitions\":[{\"directives\":[],\"kind\":\"ScalarTypeDefinition\",\"name\":{\"kind\":\"Name\",\"value\":\"A\"}},{\"directives\":[],\"kind\":\"FragmentDefinition\",\"name\":{\"kind\":\"Name\",\"value\":\"on\"},\"selectionSet\":{\"kind\":\"SelectionSet\",\"selections\":[{\"arguments\":[],\"directives\":[],\"kind\":\"Field\",\"name\":{\"kind\":\"Name\",\"value\":\"a\"}}]},\"typeCondition\":{\"kind\":\"NamedType\",\"name\":{\"kind\":\"Name\",\"value\":\"T\"}}}],\"kind\":\"Document\"}";
+
+/// What is said of `ILL_FORMED`.
+const FLAW: &str = "at `definitions[1].name.value`: a fragment named `on`: `on`";
+
+fn check_query(rt: &impl Abort, alloc: Global) {
+    let json = QUERY.as_bytes();
+    check_printed(rt, alloc, json, (Status::Done, "{\n  a\n}\n"));
+    check_checked(rt, alloc, json, (Status::Done, ""));
+    check_written(rt, alloc, json, (Status::Done, QUERY_WRITTEN));
+}
+
+fn check_ill_formed(rt: &impl Abort, alloc: Global) {
+    let json = ILL_FORMED.as_bytes();
+    check_printed(rt, alloc, json, (Status::IllFormed, FLAW));
+    check_checked(rt, alloc, json, (Status::IllFormed, FLAW));
+    check_written(rt, alloc, json, (Status::Done, ILL_FORMED_WRITTEN));
 }
 
 /// Allocations: 167.
 #[test]
 fn a_call_answers_or_memory_was_refused(rt: HostRuntime) {
-    let mut out = [b'#'; 1000];
-    for (json, answer) in [(QUERY, Status::Done), (ILL_FORMED, Status::IllFormed)] {
-        check_printed(&rt, rt.alloc(), json.as_bytes(), &mut out, answer);
-        check_written(&rt, rt.alloc(), json.as_bytes(), &mut out);
-    }
+    check_query(&rt, rt.alloc());
+    check_ill_formed(&rt, rt.alloc());
 }
 
 /// An enum value, whose name takes memory.
@@ -57,44 +99,16 @@ fn a_value_is_printed_or_memory_was_refused(rt: HostRuntime) {
     }
 }
 
-/// That a call told that the bytes are no JSON, or that memory was refused.
-fn check_no_json(rt: &impl Abort, status: Status, needed: usize) {
-    if status == Status::NotJson {
-        check_equal(
-            rt,
-            needed,
-            "not JSON: invalid JSON at line 1 column 40".len(),
-        );
-    } else {
-        check_refused(rt, status, needed);
-    }
-}
-
-fn check_no_json_printed(rt: &impl Abort, alloc: Global, out: &mut [u8]) {
-    let mut needed = 0usize;
-    let json = NO_JSON.as_bytes();
-    let status = print_json(alloc, json, true, b"  ", 0, false, out, &mut needed);
-    check_no_json(rt, status, needed);
-}
-
-fn check_no_json_checked(rt: &impl Abort, alloc: Global, out: &mut [u8]) {
-    let mut needed = 0usize;
-    let status = check_json(alloc, NO_JSON.as_bytes(), false, out, &mut needed);
-    check_no_json(rt, status, needed);
-}
-
-fn check_no_json_written(rt: &impl Abort, alloc: Global, out: &mut [u8]) {
-    let mut needed = 0usize;
-    let status = write_json(alloc, NO_JSON.as_bytes(), false, out, &mut needed);
-    check_no_json(rt, status, needed);
-}
-
 /// The bytes are read twice: what isn't parsed is read again for the error.
 /// Allocations: 33.
 #[test]
 fn bytes_that_are_no_json_are_told_or_memory_was_refused(rt: HostRuntime) {
-    let mut out = [b'#'; 100];
-    check_no_json_printed(&rt, rt.alloc(), &mut out);
-    check_no_json_checked(&rt, rt.alloc(), &mut out);
-    check_no_json_written(&rt, rt.alloc(), &mut out);
+    let json = NO_JSON.as_bytes();
+    let wanted = (
+        Status::NotJson,
+        "not JSON: invalid JSON at line 1 column 40",
+    );
+    check_printed(&rt, rt.alloc(), json, wanted);
+    check_checked(&rt, rt.alloc(), json, wanted);
+    check_written(&rt, rt.alloc(), json, wanted);
 }

@@ -2,8 +2,8 @@
 use crate::made::check_text;
 use crate::samples::document;
 use graphql_ast::ast::{Document, ObjectTypeDefinition, ScalarTypeDefinition, SourceFile};
-use graphql_ast::name;
 use graphql_ast::span::FileId;
+use graphql_ast::{Name, name};
 use graphql_rewrite::{concat, rename_fields, sort_definitions, with_definitions};
 use std::alloc::{AllocError, Global};
 use std::process::Abort;
@@ -16,6 +16,25 @@ pub(crate) fn types(alloc: Global) -> Result<Document, AllocError> {
     document.push(alloc, ObjectTypeDefinition::new(alloc, name!(A)))?;
     document.push(alloc, ScalarTypeDefinition::new(alloc, name!(A)))?;
     Ok(document)
+}
+
+/// 21 types `B` and a type `A`, more than are sorted in place.
+pub(crate) fn many(alloc: Global) -> Result<Document, AllocError> {
+    let mut document = Document::new(alloc);
+    for _ in 0..21 {
+        document.push(alloc, ObjectTypeDefinition::new(alloc, name!(B)))?;
+    }
+    document.push(alloc, ObjectTypeDefinition::new(alloc, name!(A)))?;
+    Ok(document)
+}
+
+/// The type `A` comes to be the first of many.
+fn check_many(rt: &impl Abort, alloc: Global) {
+    let mut document = many(alloc).expect(rt, "memory");
+    assert!(rt; sort_definitions(&mut document).is_ok());
+    assert_eq!(rt; document.definitions.len(), 22);
+    let first = document.definitions.first().expect(rt, "a type");
+    assert_eq!(rt; first.name().map(Name::as_str), Some("A"));
 }
 
 /// A document that has a file of this text too.
@@ -71,6 +90,7 @@ fn documents_are_sorted_and_joined_and_have_their_sources(rt: HostRuntime) {
     let mut empty = Document::new(alloc);
     assert!(rt; sort_definitions(&mut empty).is_ok());
     assert!(rt; empty.definitions.is_empty());
+    check_many(&rt, alloc);
 
     let all = joined(alloc).expect(&rt, "memory");
     let twice = "type B scalar B type A scalar A type B scalar B type A scalar A";

@@ -37,7 +37,7 @@ fn check(rt: &impl Abort, once: Rebuilt<Document>, twice: Rebuilt<Document>, cop
 }
 
 /// And a document that is rewritten in place is another, or stays.
-/// Allocations: 159.
+/// Allocations: 264.
 #[test]
 fn another_document_is_made_or_memory_is_refused(rt: HostRuntime) {
     let alloc = rt.alloc();
@@ -89,7 +89,7 @@ fn check_sorted(rt: &impl Abort, alloc: Global) {
     assert_eq!(rt; document == before, answer.is_err());
 }
 
-/// Allocations: 7.
+/// Allocations: 67.
 #[test]
 fn documents_are_joined_and_sorted_or_memory_is_refused(rt: HostRuntime) {
     check_joined(&rt, rt.alloc());

@@ -60,7 +60,8 @@ fn check_vector<T: Syntax>(
         Ok(()) => assert!(rt; bytes == line.as_bytes(), "{line}"),
         Err(error) => {
             refused.add();
-            assert!(rt; bytes.is_empty() || error == PrintError::Sink, "{line}");
+            let is_refused = error == PrintError::Memory && bytes.is_empty();
+            assert!(rt; is_refused || error == PrintError::Sink, "{line}");
             assert!(rt; line.as_bytes().starts_with(bytes), "{line}");
         }
     }
@@ -86,8 +87,8 @@ fn check_writer<T: Syntax>(
     check_taken(rt, sink.into_inner(), wanted);
 }
 
-/// What is displayed is the print in the default layout; or nothing, if it was refused memory.
-fn check_display<T: Display>(rt: &impl Abort, refused: &mut Refused, tree: &T, lines: &str) {
+/// What is displayed is the print, of a tree in the default layout; or nothing, if it was refused memory.
+fn check_display<T: Display>(rt: &impl Abort, refused: &mut Refused, tree: &T, wanted: &str) {
     let mut page = Page {
         bytes: Cursor::new([0; ROOM]),
     };
@@ -95,7 +96,7 @@ fn check_display<T: Display>(rt: &impl Abort, refused: &mut Refused, tree: &T, l
     if answer.is_err() {
         refused.add();
     }
-    let wanted = if answer.is_ok() { lines } else { "" };
+    let wanted = if answer.is_ok() { wanted } else { "" };
     check_taken(rt, page.bytes, wanted);
 }
 
@@ -129,6 +130,7 @@ fn check_prints<T: Display + Syntax>(
     }
     check_vector(rt, alloc, refused, &flat, line);
     check_writer(rt, refused, &flat, line);
+    check_display(rt, refused, &flat, line);
     if let Some(lines) = printed(rt, refused, print.to_text(alloc)) {
         check_display(rt, refused, tree, lines.as_str());
     }

@@ -4,7 +4,7 @@ use Rattle.graphql_text.specs.lexical.Literals.{NameText}
 use Rattle.graphql_values.specs.kinds.TypeReferences.{TypeTree, named_type, non_null_named_type, list_type, non_null_list_type}
 use Rattle.serde_json.specs.Data.{Data, string}
 use Rattle.ast_json_nodes.specs.nodes.Nodes.{member_of}
-use Rattle.graphql_ast_json.specs.code.Nesting.{TellsKind}
+use Rattle.ast_json_nodes.specs.code.NodeReading.{TellsKind}
 use Rattle.graphql_ast_json.specs.code.TypeReading.{IsWithoutNull}
 use Rattle.graphql_ast_json.specs.kinds.TypeJson.{IsNamedType, IsTypeAround, IsTypeReference}
 use Rattle.graphql_ast_json.proofs.nodes.KindTexts.{initial, text_of}

@@ -8,7 +8,7 @@ ghost use Rattle.graphql_values.specs.trees.TypeTrees.{type_tree};
 ghost use Rattle.parsed_json.specs.AnyJson.{any_data};
 ghost use Rattle.ast_json_nodes.specs.code.Errors.{IsMemory};
 ghost use Rattle.ast_json_nodes.specs.code.JsonNodes.{node_data, IsFromNone, IsReadFrom};
-ghost use Rattle.graphql_ast_json.specs.code.Nesting.{TellsKind};
+ghost use Rattle.ast_json_nodes.specs.code.NodeReading.{TellsKind};
 ghost use Rattle.graphql_ast_json.specs.code.TypeReading.{IsWithoutNull};
 ghost use Rattle.graphql_ast_json.specs.kinds.TypeJson.{IsNamedType, IsTypeAround, IsTypeReference};
 ghost use Rattle.ast_json_nodes.specs.nodes.Nodes.{IsLocated, IsNode, member_of};

@@ -3,7 +3,7 @@ use Rattle.graphql_values.specs.kinds.TypeReferences.{TypeTree}
 use Rattle.serde_json.specs.Data.{string}
 use Rattle.ast_json_nodes.specs.code.JsonNodes.{node_data}
 use Rattle.ast_json_nodes.specs.code.Errors.{IsMemory}
-use Rattle.graphql_ast_json.specs.code.Nesting.{TellsKind}
+use Rattle.ast_json_nodes.specs.code.NodeReading.{TellsKind}
 use Rattle.graphql_ast_json.specs.code.TypeReading.{IsWithoutNull}
 use Rattle.graphql_ast_json.specs.kinds.TypeJson.{IsTypeAround, IsTypeReference}
 use Rattle.graphql_ast_json.specs.lemmas.Leaves.{IsOfKind}

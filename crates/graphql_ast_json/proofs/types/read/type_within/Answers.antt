@@ -1,6 +1,6 @@
 use Rattle.std.proofs.Common.{IsSomeAnd, Option, subst}
 use Rattle.serde_json.specs.Data.{Data}
-use Rattle.graphql_ast_json.specs.code.Nesting.{TellsKind}
+use Rattle.ast_json_nodes.specs.code.NodeReading.{TellsKind}
 use Rattle.graphql_ast_json.proofs.types.read.type_within.Goals as goal
 
 pub returns-in-Err-clause-err : goal.returns-in-Err-clause-err

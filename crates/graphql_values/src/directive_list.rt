@@ -105,9 +105,9 @@ impl DirectiveList {
         }
     }
 
-    /// The least position, counted from 0 and not below `from`, of a directive of that name.
+    /// The least index not below `from` of a directive of that name.
     ///
-    /// To write to each directive of a name, take the positions in turn, and write to the list at each.
+    /// To write to each directive of a name, take the indices in turn, and write to the list at each.
     pub fn next_position(&self, name: &str, from: usize) -> Option<usize>
         ensures { result ≡ next_directive_named name.now from self.now.0.items }
     {

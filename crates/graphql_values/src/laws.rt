@@ -76,7 +76,7 @@ pub fn arguments_are_read_back()
     ensures { Laws argument_kind }
 {}
 
-/// Each part that is no printed kind is read in one way, and each that may stand in a constant context is there too: a
+/// Each part that is no printed kind is read in one way, and each that may stand in a const context is there too: a
 /// value and an argument whatever follows it; arguments, which may be left out, before anything but `(`; a directive
 /// before anything but `(`, a list of directives before anything but `@` and `(`; a description before anything but a
 /// string, a default value before anything but `=`; an arguments definition, which may be left out, before anything but

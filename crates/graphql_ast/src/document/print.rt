@@ -200,10 +200,11 @@ impl SyntaxTree for Document {
 
 impl Syntax for Document {
     fn write<O: Target>(&self, out: &mut O, start: &Start<'_>) -> Result<(), AllocError> {
-        let alloc = *self.definitions.allocator();
-        let mut stacks = reserve_stacks(alloc, &self.definitions, start.depths)?;
+        let Document { sources: _, definitions } = self;
+        let alloc = *definitions.allocator();
+        let mut stacks = reserve_stacks(alloc, definitions, start.depths)?;
         write_first_indent(out, &start.place);
-        write_definitions(out, &start.place, &mut stacks, &self.definitions);
+        write_definitions(out, &start.place, &mut stacks, definitions);
         Ok(())
     }
 }

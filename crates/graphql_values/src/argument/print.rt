@@ -72,8 +72,9 @@ fn write_argument<'a, O: Target>(
     ensures written { WritesItems O.wrote out.old out.new None place.now.level
         (argument_items (argument_tree argument.now)) }
 {
-    write_name_then(out, &argument.name, ": ");
-    write_value(out, place, stack, &argument.value);
+    let Argument { name, value } = argument;
+    write_name_then(out, name, ": ");
+    write_value(out, place, stack, value);
 }
 
 /// Writes the arguments of a field or a directive, which stand on one line in every layout; nothing where there are

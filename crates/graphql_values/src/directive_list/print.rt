@@ -27,7 +27,7 @@ use graphql_text::writers::{
 use std::alloc::AllocError;
 use std::fmt;
 
-/// Whether the arguments of each directive are well formed in a constant context or another.
+/// Whether the arguments of each directive are well formed in a const context or another.
 pub fn are_directives_well_formed(directives: &DirectiveList, constness: Constness) -> bool
     ensures { result ≡ directives_obey (constness_of constness) (directive_trees directives.now) }
 {
@@ -40,7 +40,7 @@ pub fn are_directives_well_formed(directives: &DirectiveList, constness: Constne
     true
 }
 
-/// Where the arguments of the directives aren't well formed in a constant context or another.
+/// Where the arguments of the directives aren't well formed in a const context or another.
 pub fn find_ill_formed_directive(
     directives: &DirectiveList,
     constness: Constness,

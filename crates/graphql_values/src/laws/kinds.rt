@@ -10,7 +10,7 @@ ghost use Rattle.graphql_values.specs.kinds.OperationTypes.{operation_type_form,
 ghost use Rattle.graphql_values.specs.kinds.Values.{Constness, value_form, value_obeys, value_shape};
 
 /// The words and strings of the layout of a part that obeys the side conditions derive it, before whatever follows, in
-/// a constant context too.
+/// a const context too.
 pub fn printed_tokens_derive_the_tree()
     ensures values { (c : Constness) →
         PrintedTokensDerive (value_form c) value_shape (value_obeys c) }

@@ -200,7 +200,10 @@ impl SyntaxTree for Document {
 
 impl Syntax for Document {
     fn write<O: Target>(&self, out: &mut O, start: &Start<'_>) -> Result<(), AllocError> {
-        let Document { sources: _, definitions } = self;
+        let Document {
+            sources: _,
+            definitions,
+        } = self;
         let alloc = *definitions.allocator();
         let mut stacks = reserve_stacks(alloc, definitions, start.depths)?;
         write_first_indent(out, &start.place);

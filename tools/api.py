@@ -3,7 +3,7 @@
 
     tools/api.py [--lines]
 
-The modules are those that graphql_ast has or passes on, those of graphql_visit, graphql_rewrite, graphql_operations, graphql_locations, graphql_flaws and graphql_printing, and those of graphql_ast_json, each but `laws`. A module that is
+The modules are those that graphql_ast has or passes on, those of graphql_visit, graphql_rewrite, graphql_operations, graphql_locations, graphql_flaws, graphql_printing and ast_json_text, and those of graphql_ast_json, each but `laws`. A module that is
 public only for the crates above (`writers`, `short_text`) isn't passed on. Of each module it takes the public structs, enums, traits,
 macros and functions, also those that it passes on of private modules; the public functions and constants of inherent impls of
 these types, in whichever file of the crate; and the functions of these traits. What is marked `#[doc(hidden)]` is left out.
@@ -167,7 +167,7 @@ def all_items():
 def user_modules():
     """Pairs of a crate and a module of it: those that users name."""
     found = []
-    for crate in ["graphql_ast", "graphql_visit", "graphql_rewrite", "graphql_operations", "graphql_locations", "graphql_flaws", "graphql_printing", "graphql_ast_json"]:
+    for crate in ["graphql_ast", "graphql_visit", "graphql_rewrite", "graphql_operations", "graphql_locations", "graphql_flaws", "graphql_printing", "graphql_ast_json", "ast_json_text"]:
         own = [module for module in MODULE.findall(source(crate, "lib").read_text()) if module != "laws"]
         found += [(crate, module) for module in ["lib", *own]]
         for module in ["lib", *own]:

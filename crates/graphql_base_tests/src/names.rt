@@ -78,15 +78,13 @@ fn check_long(rt: &impl Abort, alloc: Global) {
 }
 
 /// Long ones too, and those that are made without a test.
-#[test]
-fn valid_texts_are_names(rt: HostRuntime) {
-    let alloc = rt.alloc();
+fn check_names(rt: &impl Abort, alloc: Global) {
     for text in VALID {
-        check_valid(&rt, alloc, text);
+        check_valid(rt, alloc, text);
     }
-    check_long(&rt, alloc);
-    for (name, text, is_static) in untested(&rt, alloc) {
-        check_new(&rt, &name, text, is_static);
+    check_long(rt, alloc);
+    for (name, text, is_static) in untested(rt, alloc) {
+        check_new(rt, &name, text, is_static);
     }
 }
 
@@ -96,16 +94,21 @@ fn check_refused(rt: &impl Abort, made: Result<Name, NameError>, wanted: &NameEr
     assert!(rt; !error.is_memory(), "{wanted}");
 }
 
-#[test]
-fn other_texts_are_refused(rt: HostRuntime) {
+fn check_other_texts(rt: &impl Abort, alloc: Global) {
     for text in INVALID {
-        let error = invalid(rt.alloc(), text).expect(&rt, "memory");
+        let error = invalid(alloc, text).expect(rt, "memory");
         assert!(rt; !Name::is_valid_syntax(text), "{text}");
-        check_refused(&rt, Name::new(rt.alloc(), text), &error);
-        check_refused(&rt, Name::compact(rt.alloc(), text), &error);
-        check_refused(&rt, Name::new_static(rt.alloc(), text), &error);
-        check_refused(&rt, new_shared(rt.alloc(), text), &error);
+        check_refused(rt, Name::new(alloc, text), &error);
+        check_refused(rt, Name::compact(alloc, text), &error);
+        check_refused(rt, Name::new_static(alloc, text), &error);
+        check_refused(rt, new_shared(alloc, text), &error);
     }
+}
+
+#[test]
+fn valid_texts_are_names_and_others_are_refused(rt: HostRuntime) {
+    check_names(&rt, rt.alloc());
+    check_other_texts(&rt, rt.alloc());
 }
 
 /// The error of the text `a b` that stood somewhere.

@@ -165,22 +165,21 @@ fn check_texts_compared(rt: &impl Abort, alloc: Global) {
 }
 
 /// And not by their locations. So they are found as keys.
-#[test]
-fn nodes_and_texts_compare_by_their_values(rt: HostRuntime) {
-    check_nodes_compared(&rt, rt.alloc());
-    check_texts_compared(&rt, rt.alloc());
+fn check_printed(rt: &impl Abort, alloc: Global) {
+    let number = Node::new(alloc, 7u8).expect(rt, "memory");
+    let name = Node::new(alloc, name!(abc)).expect(rt, "memory");
+    let text = NodeStr::new_str(alloc, "été").expect(rt, "memory");
+    check_made(rt, format!(in alloc; "{number}"), "7");
+    check_made(rt, format!(in alloc; "[{number:03}]"), "[007]");
+    check_made(rt, format!(in alloc; "[{name:>5}]"), "[  abc]");
+    check_made(rt, format!(in alloc; "{text}"), "été");
+    check_made(rt, format!(in alloc; "[{text:>5}]"), "[  été]");
+    check_made(rt, format!(in alloc; "[{text:.1}]"), "[é]");
 }
 
 #[test]
-fn nodes_and_texts_print_their_values(rt: HostRuntime) {
-    let alloc = rt.alloc();
-    let number = Node::new(alloc, 7u8).expect(&rt, "memory");
-    let name = Node::new(alloc, name!(abc)).expect(&rt, "memory");
-    let text = NodeStr::new_str(alloc, "été").expect(&rt, "memory");
-    check_made(&rt, format!(in alloc; "{number}"), "7");
-    check_made(&rt, format!(in alloc; "[{number:03}]"), "[007]");
-    check_made(&rt, format!(in alloc; "[{name:>5}]"), "[  abc]");
-    check_made(&rt, format!(in alloc; "{text}"), "été");
-    check_made(&rt, format!(in alloc; "[{text:>5}]"), "[  été]");
-    check_made(&rt, format!(in alloc; "[{text:.1}]"), "[é]");
+fn nodes_and_texts_compare_and_print_by_their_values(rt: HostRuntime) {
+    check_nodes_compared(&rt, rt.alloc());
+    check_texts_compared(&rt, rt.alloc());
+    check_printed(&rt, rt.alloc());
 }

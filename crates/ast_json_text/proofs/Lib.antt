@@ -1,0 +1,12 @@
+-- Lemmas on nodes that are written as text.
+
+-- nodes whose members stand one behind the other
+pub mod FilledNodes
+-- where they tell that they stand
+pub mod Locations
+-- lists that are written item by item
+pub mod AddedItems
+-- what is not null
+pub mod Presence
+-- flags
+pub mod Flags

@@ -1,0 +1,38 @@
+use Rattle.std.proofs.Common.{List, [], ◌∷◌, Some, codes, option_map, refl, sym}
+use Rattle.json.specs.Print.{escape_byte}
+use Rattle.serde_json.specs.Data.{object, string}
+use Rattle.graphql_ast_json.specs.code.Drafts.{location_json}
+use Rattle.graphql_ast_json.specs.kinds.TypeSystemJson.{input_object_type_members}
+use Rattle.json_text.proofs.Entries.{Entry, filled, plain_object}
+use Rattle.json_text.proofs.ObjectTexts.{begun, behind, ended, first, lead, next}
+use Rattle.ast_json_text.proofs.FilledNodes.{is_node, member_is, optional_is, optional_list_is}
+use Rattle.json_text.proofs.PlainTexts.{plain_string}
+use Rattle.ast_json_text.proofs.Locations.{located, plain_location, stands_at}
+use Rattle.ast_json_text.proofs.input_object_type.InputObjectTypeDefinitionWriteAstNode.write_ast_node.Goals as goal
+
+pub returns : goal.returns
+unfolding escape_byte
+returns g c =
+    let more = g.met.O.Target.more in
+    let in_description = c.write_leading.ensures in
+    let in_directives = c.write_directives.ensures in
+    let in_fields = c.write_list.ensures in
+    let location = c.write_location.ensures in
+    let in_name = c.write_member.ensures in
+    let entries : List Entry = (codes "description", in_description.json) ∷ (codes "directives", Some in_directives.json) ∷ (codes "fields", Some in_fields.json) ∷ (codes "kind", Some (string (codes "InputObjectTypeDefinition"))) ∷ (codes "loc", option_map location_json c.args.place.location) ∷ (codes "name", Some in_name.json) ∷ [] in record {
+      json = object (filled entries);
+      text = ended more (next more (codes "name") in_name.json (behind more (codes "loc") (option_map location_json c.args.place.location) (next more (codes "kind") (string (codes "InputObjectTypeDefinition")) (next more (codes "fields") in_fields.json (first more (codes "directives") in_directives.json (lead more (codes "description") in_description.json (begun more c.text.ensures) in_description.text) in_directives.text) in_fields.text) c.text-2.ensures) location.text) in_name.text) c.text-3.ensures;
+      plain = plain_object entries refl (in_description.plain, (in_directives.plain, (in_fields.plain, (plain_string, (plain_location c.args.place.location location.reach, (in_name.plain, tt))))));
+      is = (
+        λ unknown. (
+          is_node unknown (codes "InputObjectTypeDefinition") (codes "description" ∷ input_object_type_members) entries _ refl refl refl refl (located unknown c.args.place.location location.reach),
+          optional_is entries (codes "description") in_description refl refl unknown,
+          (
+            member_is entries (codes "name") in_name refl refl unknown,
+            optional_list_is entries (codes "directives") in_directives refl refl unknown,
+            rw (sym c.deref.ensures.value) (optional_list_is entries (codes "fields") in_fields refl refl unknown),
+          ),
+        ),
+        stands_at entries c.args.place.location location.reach refl refl,
+      );
+    }

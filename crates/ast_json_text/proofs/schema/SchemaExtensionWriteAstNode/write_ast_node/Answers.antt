@@ -1,0 +1,34 @@
+use Rattle.std.proofs.Common.{List, [], ◌∷◌, Some, codes, option_map, refl, sym}
+use Rattle.json.specs.Print.{escape_byte}
+use Rattle.serde_json.specs.Data.{object, string}
+use Rattle.graphql_ast_json.specs.code.Drafts.{location_json}
+use Rattle.graphql_ast_json.specs.kinds.TypeSystemJson.{schema_members}
+use Rattle.json_text.proofs.Entries.{Entry, filled, plain_object}
+use Rattle.json_text.proofs.ObjectTexts.{behind, ended, next, opened}
+use Rattle.ast_json_text.proofs.FilledNodes.{is_node, optional_list_is}
+use Rattle.json_text.proofs.PlainTexts.{plain_string}
+use Rattle.ast_json_text.proofs.Locations.{located, plain_location, stands_at}
+use Rattle.ast_json_text.proofs.schema.SchemaExtensionWriteAstNode.write_ast_node.Goals as goal
+
+pub returns : goal.returns
+unfolding escape_byte
+returns g c =
+    let more = g.met.O.Target.more in
+    let in_directives = c.write_directives.ensures in
+    let location = c.write_location.ensures in
+    let in_operationTypes = c.write_list.ensures in
+    let entries : List Entry = (codes "directives", Some in_directives.json) ∷ (codes "kind", Some (string (codes "SchemaExtension"))) ∷ (codes "loc", option_map location_json c.args.place.location) ∷ (codes "operationTypes", Some in_operationTypes.json) ∷ [] in record {
+      json = object (filled entries);
+      text = ended more (next more (codes "operationTypes") in_operationTypes.json (behind more (codes "loc") (option_map location_json c.args.place.location) (next more (codes "kind") (string (codes "SchemaExtension")) (opened more (codes "directives") in_directives.json in_directives.text) c.text.ensures) location.text) in_operationTypes.text) c.text-2.ensures;
+      plain = plain_object entries refl (in_directives.plain, (plain_string, (plain_location c.args.place.location location.reach, (in_operationTypes.plain, tt))));
+      is = (
+        λ unknown. (
+          is_node unknown (codes "SchemaExtension") (schema_members) entries _ refl refl refl refl (located unknown c.args.place.location location.reach),
+          (
+            optional_list_is entries (codes "directives") in_directives refl refl unknown,
+            rw (sym c.deref.ensures.value) (optional_list_is entries (codes "operationTypes") in_operationTypes refl refl unknown),
+          ),
+        ),
+        stands_at entries c.args.place.location location.reach refl refl,
+      );
+    }

@@ -1,0 +1,48 @@
+//! Interface types as the text of their AST JSON.
+use crate::form::NamedTypeForm;
+use crate::place::NodePlace;
+use crate::text::WriteAstNode;
+use crate::write::{write_directives, write_leading, write_list, write_location, write_member};
+use graphql_ast::ast::{FieldDefinition, InterfaceTypeDefinition, InterfaceTypeExtension};
+use graphql_ast::name::Name;
+use graphql_base::node::{Node, NodeStr};
+use graphql_text::writers::Target;
+
+impl WriteAstNode for InterfaceTypeDefinition {
+    fn write_ast_node<O: Target>(&self, out: &mut O, place: NodePlace) {
+        let InterfaceTypeDefinition {
+            description,
+            name,
+            implements_interfaces,
+            directives,
+            fields,
+        } = self;
+        out.text("{");
+        write_leading::<NodeStr, O>(out, "\"description\":", description);
+        write_directives(out, "\"directives\":", directives);
+        write_list::<Node<FieldDefinition>, O>(out, ",\"fields\":", fields);
+        write_list::<NamedTypeForm, O>(out, ",\"interfaces\":", implements_interfaces);
+        out.text(",\"kind\":\"InterfaceTypeDefinition\"");
+        write_location(out, place.location);
+        write_member::<Name, O>(out, ",\"name\":", name);
+        out.text("}");
+    }
+}
+
+impl WriteAstNode for InterfaceTypeExtension {
+    fn write_ast_node<O: Target>(&self, out: &mut O, place: NodePlace) {
+        let InterfaceTypeExtension {
+            name,
+            implements_interfaces,
+            directives,
+            fields,
+        } = self;
+        write_directives(out, "{\"directives\":", directives);
+        write_list::<Node<FieldDefinition>, O>(out, ",\"fields\":", fields);
+        write_list::<NamedTypeForm, O>(out, ",\"interfaces\":", implements_interfaces);
+        out.text(",\"kind\":\"InterfaceTypeExtension\"");
+        write_location(out, place.location);
+        write_member::<Name, O>(out, ",\"name\":", name);
+        out.text("}");
+    }
+}

@@ -1,0 +1,41 @@
+//! Where nodes are written.
+ghost use Rattle.std.specs.Prelude.{◌≡◌};
+
+use graphql_base::span::SourceSpan;
+
+/// Where a node is written: the source location that it tells, if there is one, and whether the default layout prints it
+/// on one line, so that no string in it is a block string.
+#[derive(Clone, Copy)]
+pub struct NodePlace {
+    pub location: Option<SourceSpan>,
+    pub is_on_one_line: bool,
+}
+
+impl NodePlace {
+    /// The place of a node that the default layout prints over lines.
+    pub(crate) fn new(location: Option<SourceSpan>) -> NodePlace
+        ensures { result.location ≡ location }
+    {
+        NodePlace {
+            location,
+            is_on_one_line: false,
+        }
+    }
+
+    /// The place of a node that the default layout prints on one line.
+    pub(crate) fn on_one_line(location: Option<SourceSpan>) -> NodePlace
+        ensures { result.location ≡ location }
+    {
+        NodePlace {
+            location,
+            is_on_one_line: true,
+        }
+    }
+
+    /// The place of a node within this one, which is printed on one line if this one is.
+    pub(crate) fn inner(self, location: Option<SourceSpan>) -> NodePlace
+        ensures { result.location ≡ location }
+    {
+        NodePlace { location, ..self }
+    }
+}

@@ -1,0 +1,65 @@
+//! Strings with each escape, and the locations at both ends.
+use crate::each_kind::check_text;
+use ast_json_text::to_ast_json_text;
+use graphql_ast::node::NodeStr;
+use graphql_ast::span::{FileId, SourceSpan};
+use std::alloc::Global;
+use std::process::Abort;
+use worked_trees::refused::Refused;
+
+/// What `JSON.stringify` of node writes of these texts.
+const ROWS: [(&str, &str); 8] = [
+    ("", "\"\""),
+    ("a", "\"a\""),
+    ("\"\\/", "\"\\\"\\\\/\""),
+    ("\u{8}\t\n\u{c}\r", "\"\\b\\t\\n\\f\\r\""),
+    (
+        "\u{0}\u{1}\u{b}\u{e}\u{1f}",
+        "\"\\u0000\\u0001\\u000b\\u000e\\u001f\"",
+    ),
+    (
+        "\u{7f}\u{80}\u{2028}\u{ffff}\u{10ffff}",
+        "\"\u{7f}\u{80}\u{2028}\u{ffff}\u{10ffff}\"",
+    ),
+    ("é\"日\n🎉", "\"é\\\"日\\n🎉\""),
+    ("\u{1f}\u{1f}", "\"\\u001f\\u001f\""),
+];
+
+fn check_row(rt: &impl Abort, alloc: Global, text: &str, wanted: &str) {
+    let string = NodeStr::new_str(alloc, text).expect(rt, "memory");
+    let found = to_ast_json_text(alloc, &string).expect(rt, "memory");
+    assert!(rt; found.as_str().contains(wanted), "{found}");
+    let mut refused = Refused::none();
+    check_text(rt, alloc, &mut refused, &string);
+    assert!(rt; refused.calls == 0);
+}
+
+/// A text of a million control characters, each of which has an escape of six bytes, in a node of 46 bytes, which tells `block`.
+fn check_long(rt: &impl Abort, alloc: Global) {
+    let text = "\u{1}".repeat(alloc, 1_000_000).expect(rt, "memory");
+    let string = NodeStr::new_str(alloc, text.as_str()).expect(rt, "memory");
+    let found = to_ast_json_text(alloc, &string).expect(rt, "memory");
+    assert_eq!(rt; found.len(), 6_000_046);
+}
+
+fn check_location(rt: &impl Abort, alloc: Global, at: u32, wanted: &str) {
+    let span = SourceSpan::new(FileId::new(1), at, at).expect(rt, "in order");
+    let string = NodeStr::new_str_parsed(alloc, "D", span).expect(rt, "memory");
+    let found = to_ast_json_text(alloc, &string).expect(rt, "memory");
+    assert!(rt; found.as_str().contains(wanted), "{found}");
+}
+
+/// Each row, a long text, and the locations at both ends.
+pub(crate) fn check_strings(rt: &impl Abort, alloc: Global) {
+    for (text, wanted) in ROWS {
+        check_row(rt, alloc, text, wanted);
+    }
+    check_long(rt, alloc);
+    check_location(rt, alloc, 0, "\"loc\":{\"end\":0,\"start\":0}");
+    check_location(
+        rt,
+        alloc,
+        u32::MAX,
+        "\"loc\":{\"end\":4294967295,\"start\":4294967295}",
+    );
+}

@@ -1,0 +1,4 @@
+-- JSON as text.
+
+-- what is written of JSON
+pub mod Texts

@@ -14,21 +14,10 @@ use Rattle.ast_json_nodes.specs.nodes.Nodes.{present, member_of, items_or_none, 
 use Rattle.ast_json_nodes.specs.nodes.Nodes.{OptionalListMember}
 use Rattle.ast_json_nodes.specs.declared.read.Unknown.{Unknown}
 use Rattle.ast_json_nodes.specs.declared.read.Unknown.TheVariants.{Refuse, PassOver}
+use Rattle.graphql_ast_json.proofs.nodes.DraftsAreNodes.{apart_sym, are_among, are_apart, entry_at}
 use Rattle.json_text.specs.Texts.{optional_member}
 use Rattle.json_text.proofs.Entries.{Entry, entry_names, filled}
 use Rattle.ast_json_text.specs.Members.{WritesMember, WritesOptional}
-
-abbrev pub are_apart : List (List ℕ) → Bool
-are_apart [] = true
-are_apart (name ∷ names) = not (is_one_of names name) && are_apart names
-
-abbrev pub entry_at : List ℕ → List Entry → Option Data
-entry_at name [] = None
-entry_at name (entry ∷ entries) = cond (pointwise nat_eq entry.0 name) entry.1 (entry_at name entries)
-
-abbrev pub are_among : List (List ℕ) → List (List ℕ) → Bool
-are_among names [] = true
-are_among names (name ∷ more) = is_one_of names name && are_among names more
 
 both_true : (a b : Bool) → IsTrue (a && b) → IsTrue a × IsTrue b
 both_true true true h = (refl, refl)
@@ -48,14 +37,6 @@ both_false false false h = (refl, refl)
 not_true : (a : Bool) → IsTrue (not a) → a ≡ false
 not_true true h = absurd (true≢false (sym h))
 not_true false h = refl
-
-apart_by : (b : Bool) (name other : List ℕ) → pointwise nat_eq other name ≡ b → pointwise nat_eq name other ≡ false → b ≡ false
-apart_by true name other same apart =
-    absurd (true≢false (sym ((bytes_eq-Decides name other).1 (sym ((bytes_eq-Decides other name).0 same))) ∙ apart))
-apart_by false name other same apart = refl
-
-apart_sym : (name other : List ℕ) → pointwise nat_eq name other ≡ false → pointwise nat_eq other name ≡ false
-apart_sym name other apart = apart_by (pointwise nat_eq other name) name other refl apart
 
 passed : (o : Ordering) (json : Data) (later : Option Data) → is_eq o ≡ false → match_ordering o later (Some json) later ≡ later
 passed Less json later other = refl

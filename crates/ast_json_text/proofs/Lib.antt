@@ -6,7 +6,5 @@ pub mod FilledNodes
 pub mod Locations
 -- lists that are written item by item
 pub mod AddedItems
--- what is not null
-pub mod Presence
 -- flags
 pub mod Flags

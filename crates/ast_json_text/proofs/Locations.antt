@@ -1,5 +1,6 @@
 -- Where nodes tell that they stand: as those do that are begun as values.
-use Rattle.std.proofs.Common.{◌≡◌, ◌<◌, ◌^◌, IsTrue, List, [], ◌∷◌, Option, Some, None, IfSome, MatchOption, codes, option_and_then, option_map, refl, sym, ap, ◌∙◌, subst, arith}
+use Rattle.std.proofs.Common.{◌≡◌, ◌<◌, ◌^◌, IsTrue, List, [], ◌∷◌, Option, Some, None, IfSome, MatchOption, codes, option_and_then, option_map, refl, sym}
+use Rattle.std.proofs.Common.{ap, ◌∙◌, subst, arith}
 use Rattle.std.specs.Prelude.{⊤}
 use Rattle.serde_json.specs.Data.{number, object, unsigned}
 use Rattle.graphql_base.specs.Span.{span_end, span_start}
@@ -8,12 +9,12 @@ use Rattle.ast_json_nodes.specs.code.NodeReading.{StandsAt}
 use Rattle.ast_json_nodes.specs.declared.read.Unknown.{Unknown}
 use Rattle.ast_json_nodes.specs.nodes.Nodes.{IsLocation, member_of, present, stretch_in}
 use Rattle.graphql_ast_json.specs.code.Drafts.{beginning, location_json}
-use Rattle.graphql_ast_json.proofs.nodes.DraftsAreNodes.{IsWritten, is_node, stands}
+use Rattle.graphql_ast_json.proofs.nodes.DraftsAreNodes.{IsWritten, are_apart, entry_at, is_node, stands}
 use Rattle.graphql_ast_json.proofs.nodes.DraftsAreNodes as draft
 use Rattle.json_text.specs.Texts.{IsPlain}
 use Rattle.json_text.proofs.Entries.{Entry, entry_names, filled, plain_object}
 use Rattle.json_text.proofs.PlainTexts.{plain_number}
-use Rattle.ast_json_text.proofs.FilledNodes.{are_apart, entry_at, found}
+use Rattle.ast_json_text.proofs.FilledNodes.{found}
 
 begun : (location : Option SourceSpan) → IfSome location (λ span. span_end span < 2 ^ 32) → IsWritten [] location [] (object (beginning [] location))
 begun location reach = record { are = refl; reach = reach }

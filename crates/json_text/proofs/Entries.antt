@@ -72,13 +72,15 @@ put_by Less name other json one rest h = absurd (true≢false (sym h))
 put_by Equal name other json one rest h = absurd (true≢false (sym h))
 put_by Greater name other json one rest h = refl
 
-put_behind : (name : List ℕ) (json : Data) (members : Members) → IsTrue (is_behind name (names_of members)) → put name json members ≡ behind_all members name json
+put_behind : (name : List ℕ) (json : Data) (members : Members) → IsTrue (is_behind name (names_of members)) → put name json members ≡ behind_all members name
+    json
 put_behind name json no_members h = refl
 put_behind name json (member other one more) h =
     let parts = both_true (is_greater (slice_cmp nat_cmp name other)) (is_behind name (names_of more)) h in
     put_by (slice_cmp nat_cmp name other) name other json one more parts.0 ∙ ap (member other one) (put_behind name json more parts.1)
 
-joined_behind : (members : Members) (name : List ℕ) (json : Data) (others : Members) → joined (behind_all members name json) others ≡ joined members (member name json others)
+joined_behind : (members : Members) (name : List ℕ) (json : Data) (others : Members) → joined (behind_all members name json) others ≡ joined members (member
+    name json others)
 joined_behind no_members name json others = refl
 joined_behind (member other one more) name json others = ap (member other one) (joined_behind more name json others)
 

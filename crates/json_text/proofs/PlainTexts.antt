@@ -1,5 +1,6 @@
 -- Of Texts: what is plain, and that its text is read as it.
-use Rattle.std.proofs.Common.{◌≡◌, ℕ, suc, max, ◌<◌, ◌≤◌, ◌^◌, Bool, true, false, ◌||◌, [], Option, Some, append-nil, refl, sym, ap, ap₂, subst, ◌∙◌, option_map, option_and_then}
+use Rattle.std.proofs.Common.{◌≡◌, ℕ, suc, max, ◌<◌, ◌≤◌, ◌^◌, Bool, true, false, ◌||◌, [], Option, Some, append-nil, refl, sym, ap, ap₂, subst, ◌∙◌}
+use Rattle.std.proofs.Common.{option_map, option_and_then}
 use Rattle.json.specs.Json as json
 use Rattle.json.specs.Tree as tree
 use Rattle.json.proofs.Printed.Decimals.{IsNumber-decimal}
@@ -8,7 +9,8 @@ use Rattle.json.proofs.Printed.Trees.{ArePrintable-json_tokens, value-json_token
 use Rattle.json.specs.Lex.{tokens}
 use Rattle.serde_json.proofs.Numbers.{number_of-decimal}
 use Rattle.serde_json.proofs.Texts.{print-outline}
-use Rattle.serde_json.specs.Data.{Data, null, boolean, number, string, array, object, unsigned, negative, float, Items, no_items, item, Members, no_members, member}
+use Rattle.serde_json.specs.Data.{Data, null, boolean, number, string, array, object, unsigned, negative, float, Items, no_items, item, Members, no_members}
+use Rattle.serde_json.specs.Data.{member}
 use Rattle.serde_json.specs.Data.{depth, items_depth, members_depth}
 use Rattle.serde_json.specs.Read.{max_depth, of_items, of_json, read}
 use Rattle.serde_json.specs.Written.{compact_text, has_float, items_have_float, items_outline, members_outline, outline}
@@ -64,5 +66,6 @@ mutual
 pub read_back : (d : Data) → IsPlain d → depth d ≤ max_depth → read (compact_text d) ≡ Some d
 read_back d is shallow =
     let lexed = ap tokens (sym (print-outline d)) ∙ tokens-print (tree.json_tokens (outline d)) (ArePrintable-json_tokens (outline d) is.numbers) in
-    ap (λ o. option_and_then of_json (option_and_then (λ p. json.if_last p.0 p.1) o)) (ap (json.value max_depth) (lexed ∙ sym (append-nil (tree.json_tokens (outline d))))
+    ap (λ o. option_and_then of_json (option_and_then (λ p. json.if_last p.0 p.1) o)) (ap (json.value max_depth) (lexed ∙ sym (append-nil (tree.json_tokens
+    (outline d))))
     ∙ value-json_tokens (outline d) max_depth [] (subst (λ n. n ≤ max_depth) (sym (depth_same d)) shallow)) ∙ is.same

@@ -22,7 +22,7 @@ use Rattle.ast_json_text.specs.Members.{WritesMember}
 use Rattle.ast_json_text.proofs.AddedItems.{selections_added}
 use Rattle.ast_json_text.proofs.FilledNodes.{is_node, list_is, member_is, optional_is, optional_list_is}
 use Rattle.ast_json_text.proofs.Locations.{located, plain_location, stands_at}
-use Rattle.ast_json_text.proofs.Presence.{array_there}
+use Rattle.graphql_ast_json.proofs.nodes.GivenMembers.{array_there}
 use Rattle.ast_json_text.proofs.selection.+selection.Goals as goal
 
 pub write_selections-loop-selection-init : goal.write_selections-loop-selection-init

@@ -43,7 +43,8 @@ write_type-returns-in-NonNullNamed g t c =
     let at = option_map location_json c.args.location in
     let made = c.write_named_type-in-NonNullNamed.ensures in
     let is : (unknown : Unknown) → IsNamedType unknown (name_tree c.in-NonNullNamed.name) made.json = made.is.0 in
-    let type : WritesMember g.O.Target.wrote c.write_location.new.out (codes ",\"type\":") c.write_named_type-in-NonNullNamed.new.out (λ json. (unknown : Unknown) → IsNamedType unknown (name_tree c.in-NonNullNamed.name) json) = record {
+    let type : WritesMember g.O.Target.wrote c.write_location.new.out (codes ",\"type\":") c.write_named_type-in-NonNullNamed.new.out (λ json. (unknown :
+    Unknown) → IsNamedType unknown (name_tree c.in-NonNullNamed.name) json) = record {
       json = made.json;
       text = more _ _ _ _ _ c.text-in-NonNullNamed.ensures made.text;
       there = there (IsTypeReference Refuse) (never_null_of type_laws Refuse) (named_type (name_tree c.in-NonNullNamed.name)) made.json (is Refuse);
@@ -74,8 +75,11 @@ write_type-returns-in-NonNullList g t c =
     let location = c.write_location-in-NonNullList.ensures in
     let at = option_map location_json c.args.location in
     let made = c.write_list_type-in-NonNullList.ensures in
-    let is : (unknown : Unknown) → IsTypeAround unknown (codes "ListType") (IsTypeReference unknown (type_tree c.in-NonNullList.item.value)) made.json = λ unknown. subst (λ ty. IsTypeAround unknown (codes "ListType") (IsTypeReference unknown (type_tree ty)) made.json) c.deref-in-NonNullList.ensures (made.is.0 unknown) in
-    let type : WritesMember g.O.Target.wrote c.write_location-in-NonNullList.new.out (codes ",\"type\":") c.write_list_type-in-NonNullList.new.out (λ json. (unknown : Unknown) → IsTypeAround unknown (codes "ListType") (IsTypeReference unknown (type_tree c.in-NonNullList.item.value)) json) = record {
+    let is : (unknown : Unknown) → IsTypeAround unknown (codes "ListType") (IsTypeReference unknown (type_tree c.in-NonNullList.item.value)) made.json = λ
+    unknown. subst (λ ty. IsTypeAround unknown (codes "ListType") (IsTypeReference unknown (type_tree ty)) made.json) c.deref-in-NonNullList.ensures
+    (made.is.0 unknown) in
+    let type : WritesMember g.O.Target.wrote c.write_location-in-NonNullList.new.out (codes ",\"type\":") c.write_list_type-in-NonNullList.new.out (λ json.
+    (unknown : Unknown) → IsTypeAround unknown (codes "ListType") (IsTypeReference unknown (type_tree c.in-NonNullList.item.value)) json) = record {
       json = made.json;
       text = more _ _ _ _ _ c.text-in-NonNullList-2.ensures made.text;
       there = there (IsTypeReference Refuse) (never_null_of type_laws Refuse) (list_type (type_tree c.in-NonNullList.item.value)) made.json (is Refuse);
@@ -107,7 +111,8 @@ write_list_type-returns g t c =
     let at = option_map location_json c.args.location in
     let made = c.write_type.ensures in
     let is : (unknown : Unknown) → IsTypeReference unknown (type_tree c.args.item.now) made.json = made.is.0 in
-    let type : WritesMember g.O.Target.wrote c.write_location.new.out (codes ",\"type\":") c.write_type.new.out (λ json. (unknown : Unknown) → IsTypeReference unknown (type_tree c.args.item.now) json) = record {
+    let type : WritesMember g.O.Target.wrote c.write_location.new.out (codes ",\"type\":") c.write_type.new.out (λ json. (unknown : Unknown) →
+    IsTypeReference unknown (type_tree c.args.item.now) json) = record {
       json = made.json;
       text = more _ _ _ _ _ c.text-2.ensures made.text;
       there = there (IsTypeReference Refuse) (never_null_of type_laws Refuse) (type_tree c.args.item.now) made.json (is Refuse);

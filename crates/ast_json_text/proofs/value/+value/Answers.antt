@@ -25,7 +25,7 @@ use Rattle.ast_json_text.specs.Members.{WritesMember}
 use Rattle.ast_json_text.proofs.AddedItems.{fields_added, values_added}
 use Rattle.ast_json_text.proofs.FilledNodes.{is_node, list_is, member_is}
 use Rattle.ast_json_text.proofs.Locations.{located, plain_location, stands_at}
-use Rattle.ast_json_text.proofs.Presence.{array_there}
+use Rattle.graphql_ast_json.proofs.nodes.GivenMembers.{array_there}
 use Rattle.ast_json_text.proofs.value.+value.Goals as goal
 
 -- THE ITEMS OF A LIST
@@ -42,7 +42,8 @@ write_items-loop-item-preserved g t c =
     next_item g.met.O.Target.more made.json so_far c.write_comma.ensures made.text made.plain (λ are unknown.
     subst (λ taken. AreValues unknown (value_trees taken) (added so_far.items made.json))
     (sym (take_next c.args.items.now i item c.loop-item-test.true c.item-item.is))
-    (values_added unknown (take i c.args.items.now) item so_far.items made.json (are unknown) (subst (λ v. IsValue unknown (value_tree v) made.json) c.deref.ensures (made.is.0 unknown))))
+    (values_added unknown (take i c.args.items.now) item so_far.items made.json (are unknown) (subst (λ v. IsValue unknown (value_tree v) made.json)
+    c.deref.ensures (made.is.0 unknown))))
 
 pub write_items-returns : goal.write_items-returns
 write_items-returns g t c =
@@ -102,7 +103,8 @@ write_fields-loop-field-preserved g t c =
     let tree = value_tree field.1.value in
     let is : (unknown : Unknown) → IsValue unknown tree value.json =
     λ unknown. subst (λ v. IsValue unknown (value_tree v) value.json) c.deref.ensures (value.is.0 unknown) in
-    let member : WritesMember wrote c.write_member.new.out (codes ",\"value\":") c.write_value.new.out (λ json. (unknown : Unknown) → IsValue unknown tree json) =
+    let member : WritesMember wrote c.write_member.new.out (codes ",\"value\":") c.write_value.new.out (λ json. (unknown : Unknown) → IsValue unknown tree
+    json) =
     record {
       json = value.json;
       text = more _ _ _ _ _ c.text-in-loop-field.ensures value.text;
@@ -153,7 +155,8 @@ write_object_value-returns g t c =
     let entries : List Entry = (codes "fields", Some fields.json) ∷ (codes "kind", Some (string (codes "ObjectValue"))) ∷ (codes "loc", at) ∷ [] in record {
       json = object (filled entries);
       text =
-          ended more (behind more (codes "loc") at (next more (codes "kind") (string (codes "ObjectValue")) (opened more (codes "fields") fields.json fields.text)
+          ended more (behind more (codes "loc") at (next more (codes "kind") (string (codes "ObjectValue")) (opened more (codes "fields") fields.json
+          fields.text)
           c.text-2.ensures) location.text) c.text-3.ensures;
       plain = plain_object entries refl (fields.plain, (plain_string, (plain_location c.args.place.location location.reach, tt)));
       is = (

@@ -19,7 +19,8 @@ returns g c =
     let entries : List Entry = (codes "kind", Some (string (codes "BooleanValue"))) ∷ (codes "loc", at) ∷ (codes "value", Some in_value.json) ∷ [] in record {
       json = object (filled entries);
       text =
-          ended more (next more (codes "value") in_value.json (behind more (codes "loc") at (opened more (codes "kind") (string (codes "BooleanValue")) c.text.ensures)
+          ended more (next more (codes "value") in_value.json (behind more (codes "loc") at (opened more (codes "kind") (string (codes "BooleanValue"))
+          c.text.ensures)
           location.text) in_value.text) c.text-2.ensures;
       plain = plain_object entries refl (plain_string, (plain_location c.args.location location.reach, (in_value.plain, tt)));
       is = (

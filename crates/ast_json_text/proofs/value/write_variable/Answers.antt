@@ -19,7 +19,8 @@ returns g c =
     let entries : List Entry = (codes "kind", Some (string (codes "Variable"))) ∷ (codes "loc", at) ∷ (codes "name", Some in_name.json) ∷ [] in record {
       json = object (filled entries);
       text =
-          ended more (next more (codes "name") in_name.json (behind more (codes "loc") at (opened more (codes "kind") (string (codes "Variable")) c.text.ensures)
+          ended more (next more (codes "name") in_name.json (behind more (codes "loc") at (opened more (codes "kind") (string (codes "Variable"))
+          c.text.ensures)
           location.text) in_name.text) c.text-2.ensures;
       plain = plain_object entries refl (plain_string, (plain_location c.args.location location.reach, (in_name.plain, tt)));
       is = (

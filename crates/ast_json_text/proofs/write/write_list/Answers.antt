@@ -1,7 +1,7 @@
 use Rattle.std.proofs.Common.{map}
 use Rattle.ast_json_nodes.specs.declared.read.Unknown.TheVariants.{Refuse}
 use Rattle.ast_json_nodes.specs.nodes.Nodes.{Each}
-use Rattle.ast_json_text.proofs.Presence.{array_there}
+use Rattle.graphql_ast_json.proofs.nodes.GivenMembers.{array_there}
 use Rattle.ast_json_text.proofs.write.write_list.Goals as goal
 
 pub returns : goal.returns

@@ -1,5 +1,5 @@
 use Rattle.ast_json_nodes.specs.declared.read.Unknown.TheVariants.{Refuse}
-use Rattle.ast_json_text.proofs.Presence.{there}
+use Rattle.graphql_ast_json.specs.lemmas.Leaves.{there}
 use Rattle.ast_json_text.proofs.write.write_member.Goals as goal
 
 pub returns : goal.returns

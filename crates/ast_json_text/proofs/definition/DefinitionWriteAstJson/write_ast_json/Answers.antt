@@ -10,10 +10,13 @@ use Rattle.ast_json_text.proofs.definition.DefinitionWriteAstJson.write_ast_json
 
 -- what is written of a definition under its variant is written of it
 as_variant : {O : Type 0} {wrote : O → List ℕ → O → Type 0} {a b : O} {definition variant : Definition} → definition ≡ variant →
-    WritesJson wrote a b (λ json. ((unknown : Unknown) → IsAnyDefinition unknown (definition_tree variant) json) × StandsAt (definition_location variant) json) →
-    WritesJson wrote a b (λ json. ((unknown : Unknown) → IsAnyDefinition unknown (definition_tree definition) json) × StandsAt (definition_location definition) json)
+    WritesJson wrote a b (λ json. ((unknown : Unknown) → IsAnyDefinition unknown (definition_tree variant) json) × StandsAt (definition_location variant)
+    json) →
+    WritesJson wrote a b (λ json. ((unknown : Unknown) → IsAnyDefinition unknown (definition_tree definition) json) × StandsAt (definition_location
+    definition) json)
 as_variant {wrote = wrote} {a = a} {b = b} is =
-    subst (λ d. WritesJson wrote a b (λ json. ((unknown : Unknown) → IsAnyDefinition unknown (definition_tree d) json) × StandsAt (definition_location d) json)) (sym is)
+    subst (λ d. WritesJson wrote a b (λ json. ((unknown : Unknown) → IsAnyDefinition unknown (definition_tree d) json) × StandsAt (definition_location d)
+    json)) (sym is)
 
 pub returns-in-OperationDefinition : goal.returns-in-OperationDefinition
 returns-in-OperationDefinition g c = as_variant c.in-OperationDefinition.is c.write_ast_json.ensures

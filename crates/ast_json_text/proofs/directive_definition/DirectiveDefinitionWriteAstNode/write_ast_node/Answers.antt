@@ -20,13 +20,37 @@ returns g c =
     let in_locations = c.write_list.ensures in
     let in_name = c.write_member.ensures in
     let in_repeatable = c.write_boolean.ensures in
-    let entries : List Entry = (codes "arguments", Some in_arguments.json) ∷ (codes "description", in_description.json) ∷ (codes "kind", Some (string (codes "DirectiveDefinition"))) ∷ (codes "loc", option_map location_json c.args.place.location) ∷ (codes "locations", Some in_locations.json) ∷ (codes "name", Some in_name.json) ∷ (codes "repeatable", Some in_repeatable.json) ∷ [] in record {
+    let entries : List Entry =
+    (codes "arguments", Some in_arguments.json) ∷ (codes "description", in_description.json)
+    ∷ (codes "kind", Some (string (codes "DirectiveDefinition"))) ∷ (codes "loc", option_map location_json c.args.place.location)
+    ∷ (codes "locations", Some in_locations.json) ∷ (codes "name", Some in_name.json) ∷ (codes "repeatable", Some in_repeatable.json) ∷ [] in record {
       json = object (filled entries);
-      text = ended more (next more (codes "repeatable") in_repeatable.json (next more (codes "name") in_name.json (next more (codes "locations") in_locations.json (behind more (codes "loc") (option_map location_json c.args.place.location) (next more (codes "kind") (string (codes "DirectiveDefinition")) (behind more (codes "description") in_description.json (opened more (codes "arguments") in_arguments.json in_arguments.text) in_description.text) c.text.ensures) location.text) in_locations.text) in_name.text) in_repeatable.text) c.text-2.ensures;
-      plain = plain_object entries refl (in_arguments.plain, (in_description.plain, (plain_string, (plain_location c.args.place.location location.reach, (in_locations.plain, (in_name.plain, (in_repeatable.plain, tt)))))));
+      text =
+          ended more (next more (codes "repeatable") in_repeatable.json (next more (codes "name") in_name.json
+          (next more (codes "locations") in_locations.json (behind more (codes "loc") (option_map location_json c.args.place.location)
+          (next more (codes "kind") (string (codes "DirectiveDefinition")) (behind more (codes "description") in_description.json
+          (opened more (codes "arguments") in_arguments.json in_arguments.text) in_description.text) c.text.ensures) location.text) in_locations.text)
+          in_name.text) in_repeatable.text) c.text-2.ensures;
+      plain = plain_object entries refl (
+        in_arguments.plain,
+        (
+          in_description.plain,
+          (
+            plain_string,
+            (
+              plain_location c.args.place.location location.reach,
+              (
+                in_locations.plain,
+                (in_name.plain, (in_repeatable.plain, tt)),
+              ),
+            ),
+          ),
+        ),
+      );
       is = (
         λ unknown. (
-          is_node unknown (codes "DirectiveDefinition") (codes "description" ∷ codes "name" ∷ codes "arguments" ∷ codes "repeatable" ∷ codes "locations" ∷ []) entries _ refl refl refl refl (located unknown c.args.place.location location.reach),
+          is_node unknown (codes "DirectiveDefinition") (codes "description" ∷ codes "name" ∷ codes "arguments" ∷ codes "repeatable" ∷ codes "locations" ∷ [])
+              entries _ refl refl refl refl (located unknown c.args.place.location location.reach),
           optional_is entries (codes "description") in_description refl refl unknown,
           member_is entries (codes "name") in_name refl refl unknown,
           rw (sym c.deref-2.ensures.value) (optional_list_is entries (codes "arguments") in_arguments refl refl unknown),

@@ -15,9 +15,13 @@ returns g c =
     let more = g.met.O.Target.more in
     let in_definitions = c.write_list.ensures in
     let location = c.write_location.ensures in
-    let entries : List Entry = (codes "definitions", Some in_definitions.json) ∷ (codes "kind", Some (string (codes "Document"))) ∷ (codes "loc", option_map location_json c.args.place.location) ∷ [] in record {
+    let entries : List Entry =
+    (codes "definitions", Some in_definitions.json) ∷ (codes "kind", Some (string (codes "Document")))
+    ∷ (codes "loc", option_map location_json c.args.place.location) ∷ [] in record {
       json = object (filled entries);
-      text = ended more (behind more (codes "loc") (option_map location_json c.args.place.location) (next more (codes "kind") (string (codes "Document")) (opened more (codes "definitions") in_definitions.json in_definitions.text) c.text.ensures) location.text) c.text-2.ensures;
+      text =
+          ended more (behind more (codes "loc") (option_map location_json c.args.place.location) (next more (codes "kind") (string (codes "Document"))
+          (opened more (codes "definitions") in_definitions.json in_definitions.text) c.text.ensures) location.text) c.text-2.ensures;
       plain = plain_object entries refl (in_definitions.plain, (plain_string, (plain_location c.args.place.location location.reach, tt)));
       is = (
         λ unknown. (

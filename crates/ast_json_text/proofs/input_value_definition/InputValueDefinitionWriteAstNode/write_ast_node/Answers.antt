@@ -19,13 +19,38 @@ returns g c =
     let location = c.write_location.ensures in
     let in_name = c.write_member.ensures in
     let in_type = c.write_member-2.ensures in
-    let entries : List Entry = (codes "defaultValue", in_defaultValue.json) ∷ (codes "description", in_description.json) ∷ (codes "directives", Some in_directives.json) ∷ (codes "kind", Some (string (codes "InputValueDefinition"))) ∷ (codes "loc", option_map location_json c.args.place.location) ∷ (codes "name", Some in_name.json) ∷ (codes "type", Some in_type.json) ∷ [] in record {
+    let entries : List Entry =
+    (codes "defaultValue", in_defaultValue.json) ∷ (codes "description", in_description.json) ∷ (codes "directives", Some in_directives.json)
+    ∷ (codes "kind", Some (string (codes "InputValueDefinition"))) ∷ (codes "loc", option_map location_json c.args.place.location)
+    ∷ (codes "name", Some in_name.json) ∷ (codes "type", Some in_type.json) ∷ [] in record {
       json = object (filled entries);
-      text = ended more (next more (codes "type") in_type.json (next more (codes "name") in_name.json (behind more (codes "loc") (option_map location_json c.args.place.location) (next more (codes "kind") (string (codes "InputValueDefinition")) (first more (codes "directives") in_directives.json (lead more (codes "description") in_description.json (lead more (codes "defaultValue") in_defaultValue.json (begun more c.text.ensures) in_defaultValue.text) in_description.text) in_directives.text) c.text-2.ensures) location.text) in_name.text) in_type.text) c.text-3.ensures;
-      plain = plain_object entries refl (in_defaultValue.plain, (in_description.plain, (in_directives.plain, (plain_string, (plain_location c.args.place.location location.reach, (in_name.plain, (in_type.plain, tt)))))));
+      text =
+          ended more (next more (codes "type") in_type.json (next more (codes "name") in_name.json
+          (behind more (codes "loc") (option_map location_json c.args.place.location) (next more (codes "kind") (string (codes "InputValueDefinition"))
+          (first more (codes "directives") in_directives.json (lead more (codes "description") in_description.json
+          (lead more (codes "defaultValue") in_defaultValue.json
+          (begun more c.text.ensures) in_defaultValue.text) in_description.text) in_directives.text) c.text-2.ensures) location.text) in_name.text)
+          in_type.text) c.text-3.ensures;
+      plain = plain_object entries refl (
+        in_defaultValue.plain,
+        (
+          in_description.plain,
+          (
+            in_directives.plain,
+            (
+              plain_string,
+              (
+                plain_location c.args.place.location location.reach,
+                (in_name.plain, (in_type.plain, tt)),
+              ),
+            ),
+          ),
+        ),
+      );
       is = (
         λ unknown. (
-          is_node unknown (codes "InputValueDefinition") (codes "description" ∷ codes "name" ∷ codes "type" ∷ codes "defaultValue" ∷ codes "directives" ∷ []) entries _ refl refl refl refl (located unknown c.args.place.location location.reach),
+          is_node unknown (codes "InputValueDefinition") (codes "description" ∷ codes "name" ∷ codes "type" ∷ codes "defaultValue" ∷ codes "directives" ∷ [])
+              entries _ refl refl refl refl (located unknown c.args.place.location location.reach),
           optional_is entries (codes "description") in_description refl refl unknown,
           member_is entries (codes "name") in_name refl refl unknown,
           member_is entries (codes "type") in_type refl refl unknown,

@@ -21,13 +21,39 @@ returns g c =
     let in_operation = c.write_text.ensures in
     let in_selectionSet = c.write_member.ensures in
     let in_variableDefinitions = c.write_parameters.ensures in
-    let entries : List Entry = (codes "description", in_description.json) ∷ (codes "directives", Some in_directives.json) ∷ (codes "kind", Some (string (codes "OperationDefinition"))) ∷ (codes "loc", option_map location_json c.args.place.location) ∷ (codes "name", in_name.json) ∷ (codes "operation", Some in_operation.json) ∷ (codes "selectionSet", Some in_selectionSet.json) ∷ (codes "variableDefinitions", Some in_variableDefinitions.json) ∷ [] in record {
+    let entries : List Entry =
+    (codes "description", in_description.json) ∷ (codes "directives", Some in_directives.json)
+    ∷ (codes "kind", Some (string (codes "OperationDefinition"))) ∷ (codes "loc", option_map location_json c.args.place.location)
+    ∷ (codes "name", in_name.json) ∷ (codes "operation", Some in_operation.json) ∷ (codes "selectionSet", Some in_selectionSet.json)
+    ∷ (codes "variableDefinitions", Some in_variableDefinitions.json) ∷ [] in record {
       json = object (filled entries);
-      text = ended more (next more (codes "variableDefinitions") in_variableDefinitions.json (next more (codes "selectionSet") in_selectionSet.json (next more (codes "operation") in_operation.json (behind more (codes "name") in_name.json (behind more (codes "loc") (option_map location_json c.args.place.location) (next more (codes "kind") (string (codes "OperationDefinition")) (first more (codes "directives") in_directives.json (lead more (codes "description") in_description.json (begun more c.text.ensures) in_description.text) in_directives.text) c.text-2.ensures) location.text) in_name.text) in_operation.text) in_selectionSet.text) in_variableDefinitions.text) c.text-3.ensures;
-      plain = plain_object entries refl (in_description.plain, (in_directives.plain, (plain_string, (plain_location c.args.place.location location.reach, (in_name.plain, (in_operation.plain, (in_selectionSet.plain, (in_variableDefinitions.plain, tt))))))));
+      text =
+          ended more (next more (codes "variableDefinitions") in_variableDefinitions.json (next more (codes "selectionSet") in_selectionSet.json
+          (next more (codes "operation") in_operation.json (behind more (codes "name") in_name.json
+          (behind more (codes "loc") (option_map location_json c.args.place.location) (next more (codes "kind") (string (codes "OperationDefinition"))
+          (first more (codes "directives") in_directives.json (lead more (codes "description") in_description.json
+          (begun more c.text.ensures) in_description.text) in_directives.text) c.text-2.ensures) location.text) in_name.text) in_operation.text)
+          in_selectionSet.text) in_variableDefinitions.text) c.text-3.ensures;
+      plain = plain_object entries refl (
+        in_description.plain,
+        (
+          in_directives.plain,
+          (
+            plain_string,
+            (
+              plain_location c.args.place.location location.reach,
+              (
+                in_name.plain,
+                (in_operation.plain, (in_selectionSet.plain, (in_variableDefinitions.plain, tt))),
+              ),
+            ),
+          ),
+        ),
+      );
       is = (
         λ unknown. (
-          is_node unknown (codes "OperationDefinition") (codes "description" ∷ operation_definition_members) entries _ refl refl refl refl (located unknown c.args.place.location location.reach),
+          is_node unknown (codes "OperationDefinition") (codes "description" ∷ operation_definition_members)
+              entries _ refl refl refl refl (located unknown c.args.place.location location.reach),
           optional_is entries (codes "description") in_description refl refl unknown,
           (
             rw (sym c.name.ensures) (leaf_is entries (codes "operation") in_operation refl refl),

@@ -22,7 +22,7 @@ from pathlib import Path
 
 PROGRAM = Path(__file__).resolve().parent.parent / "crates/op_speed/out/op_speed"
 # An operation, and how many rounds a turn has.
-OPERATIONS = {"read": 10, "write": 10, "print": 200, "walk": 1000, "rebuild": 200, "equal": 200}
+OPERATIONS = {"read": 10, "write": 10, "write_text": 20, "print": 200, "walk": 1000, "rebuild": 200, "equal": 200}
 NODE = r"""
 const { parse, print, version, visit } = require("graphql");
 const { isDeepStrictEqual } = require("util");
@@ -32,6 +32,7 @@ let nodes = 0;
 const peers = {
   read: () => JSON.parse(text).definitions.length,
   write: () => JSON.stringify(document).length,
+  write_text: () => JSON.stringify(document).length,
   print: () => print(document).length,
   walk: () => visit(document, { enter() { nodes += 1; } }).definitions.length,
   rebuild: () => visit(document, { Field: { leave(node) { if (node.name.value === "no_such_field") return null; } } }).definitions.length,

@@ -1,7 +1,6 @@
 //! Syntax trees as the text of their AST JSON, written without a value of `serde_json` between them.
 //!
 //! - `WriteAstJson`: what can be written so; `WriteAstNode`: of which each tree is one node.
-//! - `AsAstJson`: a tree that is displayed as the text of its AST JSON.
 //! - `to_ast_json_text`: that text.
 //!
 //! The members of each node stand in the order of their names, as `serde_json` writes them.

@@ -3,16 +3,17 @@ use crate::case::{Case, JsonCase, PrintCase};
 use crate::checks::{Check, first_failed};
 use crate::difference::Difference;
 use anyhow::{Context, Result, bail};
+use ast_json_text::{WriteAstJson, to_ast_json_text};
 use graphql_ast::serialize::Syntax;
 use graphql_ast::span::FileId;
-use graphql_ast_json::{AstJson, AstJsonError, JsonNode, NodeReader, Unknown, parse_json};
+use graphql_ast_json::{AstJsonError, JsonNode, NodeReader, Unknown, parse_json};
 use json::Scratch;
 use serde_json::Value as Json;
 use std::alloc::Global;
 use std::fmt::Display;
 
 /// Of a type whose trees are printed, and read.
-pub fn tree<T: AstJson + Syntax + Display + PartialEq + Drop>(
+pub fn tree<T: WriteAstJson + Syntax + Display + PartialEq + Drop>(
     alloc: Global,
     case: &Case,
 ) -> Result<Option<Difference>> {
@@ -25,8 +26,8 @@ pub fn tree<T: AstJson + Syntax + Display + PartialEq + Drop>(
 
 /// Of a type that a variant of another has, as a field, which is a selection too: the tree is then printed as that.
 pub fn variant<
-    T: AstJson + Syntax + Display + PartialEq + Drop,
-    Whole: AstJson + Syntax + Display + PartialEq + Drop,
+    T: WriteAstJson + Syntax + Display + PartialEq + Drop,
+    Whole: WriteAstJson + Syntax + Display + PartialEq + Drop,
 >(alloc: Global, case: &Case) -> Result<Option<Difference>> {
     match (&case.print, tree::<T>(alloc, case)?) {
         (Some(print), None) => printed::<Whole>(alloc, print),
@@ -35,7 +36,7 @@ pub fn variant<
 }
 
 /// Of a type whose trees are read, and not printed by themselves.
-pub fn part<T: AstJson + Drop>(alloc: Global, case: &Case) -> Result<Option<Difference>> {
+pub fn part<T: WriteAstJson + Drop>(alloc: Global, case: &Case) -> Result<Option<Difference>> {
     match (&case.print, &case.json) {
         (None, Some(json)) => read::<T>(alloc, json),
         _ => bail!("wanted `json`, since such trees aren't printed"),
@@ -60,7 +61,7 @@ pub fn depth(case: &Case, member: &str) -> Result<u64> {
 }
 
 /// The first check that the tree of a print doesn't pass, if there is one.
-fn printed<T: AstJson + Syntax + Display + PartialEq + Drop>(
+fn printed<T: WriteAstJson + Syntax + Display + PartialEq + Drop>(
     alloc: Global,
     case: &PrintCase,
 ) -> Result<Option<Difference>> {
@@ -72,11 +73,29 @@ fn printed<T: AstJson + Syntax + Display + PartialEq + Drop>(
         let found = json.to_string(alloc)?;
         return Ok(Some(Difference::new(alloc, Check::AstJson, wanted.as_str(), found.as_str())?));
     }
+    if let Some(difference) = text_differs(alloc, &tree, &json)? {
+        return Ok(Some(difference));
+    }
     Ok(first_failed(alloc, case, &tree)?)
 }
 
+/// Where the text that a tree is written as isn't that of the value that it is written as.
+fn text_differs<T: WriteAstJson>(
+    alloc: Global,
+    tree: &T,
+    json: &Json,
+) -> Result<Option<Difference>> {
+    let wanted = json.to_string(alloc)?;
+    let found = to_ast_json_text(alloc, tree)?;
+    if found == wanted {
+        return Ok(None);
+    }
+    let found = found.as_str();
+    Ok(Some(Difference::new(alloc, Check::AstJsonText, wanted.as_str(), found)?))
+}
+
 /// Where JSON isn't read, and written again, as the case wants: as it was parsed from its text, or as a value of `serde_json`.
-fn read<T: AstJson + Drop>(alloc: Global, case: &JsonCase) -> Result<Option<Difference>> {
+fn read<T: WriteAstJson + Drop>(alloc: Global, case: &JsonCase) -> Result<Option<Difference>> {
     let source = FileId::new(1);
     let unknown = if case.pass_over {
         Unknown::PassOver
@@ -101,7 +120,7 @@ fn read<T: AstJson + Drop>(alloc: Global, case: &JsonCase) -> Result<Option<Diff
 }
 
 /// Where what was read, or why nothing was, isn't as the case wants.
-fn differs<T: AstJson + Drop>(
+fn differs<T: WriteAstJson + Drop>(
     alloc: Global,
     case: &JsonCase,
     read: std::result::Result<T, AstJsonError>,
@@ -110,6 +129,9 @@ fn differs<T: AstJson + Drop>(
     let (found, is_wanted) = match read {
         Ok(tree) => {
             let json = tree.to_ast_json(alloc)?;
+            if let Some(difference) = text_differs(alloc, &tree, &json)? {
+                return Ok(Some(difference));
+            }
             let is_wanted = case.error.is_none() && json == *written;
             (json.to_string(alloc)?, is_wanted)
         }

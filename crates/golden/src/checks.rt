@@ -9,11 +9,12 @@ use std::alloc::{AllocError, Global};
 use std::fmt;
 use std::fmt::{Display, Formatter, Write};
 
-/// What is asked of AST JSON or a tree: whether it is read and written as the case wants, whether the tree is well
-/// formed, why it isn't, or its text, in one of the ways in which it can be printed.
+/// What is asked of AST JSON or a tree: whether it is read and written as the case wants, by a value and as text, whether
+/// the tree is well formed, why it isn't, or its text, in one of the ways in which it can be printed.
 #[derive(Clone, Copy, Debug, PartialEq, Eq)]
 pub enum Check {
     AstJson,
+    AstJsonText,
     WellFormed,
     IllFormed,
     ToText,
@@ -46,7 +47,7 @@ impl Check {
     ) -> Result<Option<Difference>, AllocError> {
         let print = print_of(case, tree);
         let found = match self {
-            Check::AstJson => return Ok(None),
+            Check::AstJson | Check::AstJsonText => return Ok(None),
             Check::WellFormed => return of_answer(alloc, case, tree.is_well_formed()),
             Check::IllFormed => return of_flaw(alloc, case, tree.find_ill_formed()),
             Check::ToText => of_text(alloc, &print)?,
@@ -65,6 +66,7 @@ impl Display for Check {
     fn fmt<W: Write>(&self, f: &mut Formatter<W>) -> fmt::Result {
         f.write_str(match self {
             Check::AstJson => "AST JSON",
+            Check::AstJsonText => "AST JSON as text",
             Check::WellFormed => "is_well_formed",
             Check::IllFormed => "find_ill_formed",
             Check::ToText => "to_text",

@@ -4,6 +4,7 @@ use crate::built::{nested_fields, nested_lists};
 use crate::case::Case;
 use crate::difference::Difference;
 use anyhow::{Result, bail};
+use ast_json_text::WriteAstJson;
 use graphql_ast::ast::{
     Argument, Definition, Directive, DirectiveDefinition, DirectiveList, Document,
     EnumTypeDefinition, EnumTypeExtension, EnumValueDefinition, Field, FieldDefinition,
@@ -14,7 +15,6 @@ use graphql_ast::ast::{
     UnionTypeDefinition, UnionTypeExtension, Value, VariableDefinition,
 };
 use graphql_ast::serialize::Syntax;
-use graphql_ast_json::AstJson;
 use std::alloc::Global;
 use std::fmt::Display;
 
@@ -73,7 +73,7 @@ fn difference_of_definition(alloc: Global, case: &Case) -> Result<Option<Differe
 }
 
 /// Of a type that is a definition.
-fn definition<T: AstJson + Syntax + Display + PartialEq + Drop>(
+fn definition<T: WriteAstJson + Syntax + Display + PartialEq + Drop>(
     alloc: Global,
     case: &Case,
 ) -> Result<Option<Difference>> {

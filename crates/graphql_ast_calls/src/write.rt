@@ -7,8 +7,8 @@ ghost use Rattle.graphql_ast_calls.specs.Answers.{IsTextOf, WriteAnswer, reading
 use crate::message::{put_bytes, put_out_of_memory};
 use crate::read::read_tree;
 use crate::status::Status;
+use ast_json_text::to_ast_json_text;
 use graphql_ast::ast::Document;
-use graphql_ast_json::AstJson;
 use std::alloc::{AllocError, Global};
 
 /// The text of a document's JSON.
@@ -16,8 +16,7 @@ fn json_text(alloc: Global, document: &Document) -> Result<String, AllocError>
     ensures { IfOk result (λ text. IsTextOf IsDocument (document_tree document.now)
         (string_bytes text)) }
 {
-    let json = document.to_ast_json(alloc)?;
-    let text = json.to_string(alloc)?;
+    let text = to_ast_json_text(alloc, document)?;
     Ok(text)
 }
 

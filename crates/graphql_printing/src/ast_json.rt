@@ -9,6 +9,7 @@ ghost use Rattle.graphql_ast_calls.specs.Answers.{IsTextOf};
 ghost use Rattle.graphql_printing.specs.Printing.{WritesJson};
 
 use crate::flush::flushed;
+use ast_json_text::to_ast_json_text;
 use graphql_ast::ast::Document;
 use graphql_ast::serialize::PrintError;
 use graphql_ast_json::AstJson;
@@ -62,25 +63,34 @@ fn pretty_text(alloc: Global, width: u8, json: &Json) -> Result<String, AllocErr
     }
 }
 
-/// The text of JSON, on one line, or with so many spaces for each level.
-fn text_of(alloc: Global, width: Option<u8>, json: &Json) -> Result<String, AllocError>
-    ensures { IfOk result (λ text. depth (view json.now) ≤ max_depth
-        → read (string_bytes text) ≡ Some (view json.now)) }
-{
-    match width {
-        Some(width) => pretty_text(alloc, width, json),
-        None => json.to_string(alloc),
-    }
-}
-
-/// The text of a document's JSON.
-fn json_text(alloc: Global, width: Option<u8>, document: &Document) -> Result<String, AllocError>
+/// The text of a document's JSON over several lines, with so many spaces for each level.
+fn indented_text(alloc: Global, width: u8, document: &Document) -> Result<String, AllocError>
     ensures { IfOk result (λ text. IsTextOf IsDocument (document_tree document.now)
         (string_bytes text)) }
 {
     let json = document.to_ast_json(alloc)?;
-    let text = text_of(alloc, width, &json)?;
+    let text = pretty_text(alloc, width, &json)?;
     Ok(text)
+}
+
+/// The text of a document's JSON on one line.
+fn compact_text(alloc: Global, document: &Document) -> Result<String, AllocError>
+    ensures { IfOk result (λ text. IsTextOf IsDocument (document_tree document.now)
+        (string_bytes text)) }
+{
+    let text = to_ast_json_text(alloc, document)?;
+    Ok(text)
+}
+
+/// The text of a document's JSON, on one line, or with so many spaces for each level.
+fn json_text(alloc: Global, width: Option<u8>, document: &Document) -> Result<String, AllocError>
+    ensures { IfOk result (λ text. IsTextOf IsDocument (document_tree document.now)
+        (string_bytes text)) }
+{
+    match width {
+        Some(width) => indented_text(alloc, width, document),
+        None => compact_text(alloc, document),
+    }
 }
 
 /// Writes a document's JSON, on one line or with so many spaces for each level, and a line feed.

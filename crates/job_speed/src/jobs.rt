@@ -130,6 +130,23 @@ fn add_small_documents(
     Ok(())
 }
 
+/// Schemas of so many definitions in the AST JSON of graphql-js are written anew by a call of the C interface.
+pub fn normalize_json(alloc: Global, task: Task, digest: &mut Digest) -> Result<()> {
+    let mut out = vec![in alloc; 0u8; task.size.saturating_mul(20_000).min(100_000_000)]?;
+    let texts = Texts::escaped(alloc, task.seed)?;
+    for index in 0..task.count {
+        let json = SchemaJson::document(alloc, &texts, task.seed_of(index), task.size)?;
+        let mut needed = 0;
+        let json = json.as_bytes();
+        let status = graphql_ast_calls::write_json(alloc, json, true, &mut out, &mut needed);
+        match (status, out.get(..needed)) {
+            (Status::Done, Some(text)) => digest.add(str::from_utf8(text)?),
+            _ => bail!("a document was not written"),
+        }
+    }
+    Ok(())
+}
+
 /// A schema of so many definitions is built, and its AST JSON is made, and the text of that.
 pub fn write_json(alloc: Global, task: Task, digest: &mut Digest) -> Result<()> {
     let texts = Texts::plain(alloc, task.seed)?;

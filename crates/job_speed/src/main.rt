@@ -11,7 +11,8 @@
 //! - `build`: schemas are built, printed and dropped;
 //! - `operations`: operations are built, and printed on one line;
 //! - `rewrite`: documents are copied, changed, compared, tested and printed, and some have a flaw;
-//! - `all`: each of these.
+//! - `all`: each of these;
+//! - `normalize`: schemas in AST JSON are written anew by a call of the C interface.
 #![tactic(auto)]
 
 mod digest;
@@ -57,6 +58,7 @@ fn run(alloc: Global, job: &str, task: Task, digest: &mut Digest) -> Result<()> 
         "build" => jobs::build_schemas(alloc, task, digest),
         "operations" => jobs::print_operations(alloc, task, digest),
         "rewrite" => jobs::rewrite(alloc, task, digest),
+        "normalize" => jobs::normalize_json(alloc, task, digest),
         _ => bail!("no such job"),
     }
 }
@@ -67,7 +69,9 @@ fn main(rt: HostRuntime) -> Result<()> {
     let alloc = rt.alloc();
     let mut buffer = [0u8; 16];
     let (Some(job), Some(task)) = (word(&rt, 1, &mut buffer), read_task(&rt)) else {
-        bail!("usage: job_speed read|sorted|write|build|operations|rewrite|all COUNT SIZE SEED");
+        bail!(
+            "usage: job_speed read|sorted|write|build|operations|rewrite|all|normalize COUNT SIZE SEED"
+        );
     };
     let mut digest = Digest::new();
     if job == "all" {

@@ -6,6 +6,7 @@
 //!
 //! - `read`: the tree is made of the text of its JSON, and dropped;
 //! - `write`: the JSON of the tree is made, and its text;
+//! - `write_text`: the text of the JSON of the tree is made, without a value between;
 //! - `equal`: the tree is compared with one that was read apart, and so shares nothing with it;
 //! - `clone`: the document is cloned, and the clone dropped;
 //! - `well_formed`: whether the tree is well formed is found;
@@ -30,6 +31,7 @@ mod lists;
 use crate::built::build;
 use crate::lists::{Items, Lists};
 use anyhow::{Context, Result, bail};
+use ast_json_text::to_ast_json_text;
 use graphql_ast::ast::{Definition, Document};
 use graphql_ast::name;
 use graphql_ast::span::FileId;
@@ -46,6 +48,7 @@ use std::mem;
 enum Operation {
     Read,
     Write,
+    WriteText,
     Equal,
     Clone,
     WellFormed,
@@ -59,9 +62,10 @@ enum Operation {
     Find(Items),
 }
 
-const OPERATIONS: [(&str, Operation); 18] = [
+const OPERATIONS: [(&str, Operation); 19] = [
     ("read", Operation::Read),
     ("write", Operation::Write),
+    ("write_text", Operation::WriteText),
     ("equal", Operation::Equal),
     ("clone", Operation::Clone),
     ("well_formed", Operation::WellFormed),
@@ -192,6 +196,7 @@ fn round(alloc: Global, operation: Operation, subject: &Subject<'_>) -> Result<u
     match operation {
         Operation::Read => Ok(read_tree(alloc, subject.text)?.definitions.len()),
         Operation::Write => Ok(document.to_ast_json(alloc)?.to_string(alloc)?.len()),
+        Operation::WriteText => Ok(to_ast_json_text(alloc, document)?.len()),
         Operation::Equal => Ok((*document == subject.other) as usize),
         Operation::Clone => Ok(document.clone()?.definitions.len()),
         Operation::WellFormed => Ok(document.is_well_formed() as usize),

@@ -1,5 +1,4 @@
-use Rattle.serde_json.specs.View.{view}
 use Rattle.graphql_ast_calls.proofs.write.json_text.Goals as goal
 
 pub returns : goal.returns
-returns c = record { written = view c.in_ok-json.json; is = c.in_ok-json.ensures.ok; text = c.in_ok-text.ensures.reads_back }
+returns c = let is = c.in_ok-text.ensures.text in record { written = is.json; is = is.is; text = is.read_back }

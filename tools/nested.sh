@@ -47,7 +47,7 @@ for form in fields inline_fragments list_types non_null_list_types lists objects
 done
 for form in lists objects selection field fragment definition document variable_types argument_types field_types wide_set; do
     if is_wanted "made_$form" "$@"; then
-        for action in print check compare hash clone drop write read_back; do search "made_$form" "$action"; done
+        for action in print check compare hash clone drop write write_text read_back; do search "made_$form" "$action"; done
     fi
 done
 if ! { (ulimit -s 8192; ulimit -v 131072; exec "$program" 100000 made_lists print) >/dev/null; }; then

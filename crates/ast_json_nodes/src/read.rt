@@ -77,17 +77,17 @@ pub struct JsonNode<'j, 't> {
     pub unknown: Unknown,
 }
 
-/// Where one of these names is this one, if one is.
+/// Whether this is one of the names.
 #[doc(hidden)]
-pub fn index_of(names: &[&str], name: &str) -> Option<usize>
-    ensures { is_some result ≡ is_one_of (texts_of names.now) name.now }
+pub fn is_one_of(names: &[&str], name: &str) -> bool
+    ensures { result ≡ is_one_of (texts_of names.now) name.now }
 {
     for index in 0..names.len() {
         if names[index] == name {
-            return Some(index);
+            return true;
         }
     }
-    None
+    false
 }
 
 /// Whether this is one of the names, or of the others.
@@ -95,10 +95,10 @@ pub fn index_of(names: &[&str], name: &str) -> Option<usize>
 fn is_one_of_either(names: &[&str], others: &[&str], name: &str) -> bool
     ensures { result ≡ is_one_of (texts_of names.now ++ texts_of others.now) name.now }
 {
-    if index_of(names, name).is_some() {
+    if is_one_of(names, name) {
         true
     } else {
-        index_of(others, name).is_some()
+        is_one_of(others, name)
     }
 }
 

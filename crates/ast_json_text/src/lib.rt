@@ -1,7 +1,8 @@
 //! Syntax trees as the text of their AST JSON, written without a value of `serde_json` between them.
 //!
 //! - `WriteAstJson`: what can be written so; `WriteAstNode`: of which each tree is one node.
-//! - `to_ast_json_text`: that text.
+//! - `to_ast_json_text`: that text; `send_ast_json`: the same to a sink; `AsAstJson`: what is written so.
+//! - `to_ast_json_text_by_value`: the text of any kind that has `to_ast_json` alone.
 //!
 //! The members of each node stand in the order of their names, as `serde_json` writes them.
 #![tactic(auto)]
@@ -39,4 +40,7 @@ mod variable_definition;
 mod write;
 
 pub use crate::place::NodePlace;
-pub use crate::text::{WriteAstJson, WriteAstNode, to_ast_json_text};
+pub use crate::text::{
+    AsAstJson, WriteAstJson, WriteAstNode, send_ast_json, to_ast_json_text,
+    to_ast_json_text_by_value,
+};

@@ -1,15 +1,17 @@
 //! What can be written as the text of its AST JSON.
-ghost use Rattle.std.specs.Prelude.{IfOk, IsTrue, string_bytes};
-ghost use Rattle.graphql_text.specs.code.Targets.{TextGrew};
-ghost use Rattle.graphql_text.specs.lemmas.Targets.{grew_idle, grew_more, grew_nothing};
+ghost use Rattle.std.specs.Prelude.{IfOk, OnErr, OnOk, string_bytes};
+ghost use Rattle.graphql_text.specs.code.Sinks.{CanFault, SinkFaulted, SinkTook};
+ghost use Rattle.graphql_text.specs.code.Writing.{WritesSome};
 ghost use Rattle.ast_json_nodes.specs.code.NodeReading.{StandsAt};
 ghost use Rattle.ast_json_nodes.specs.declared.read.Unknown.{Unknown};
 ghost use Rattle.json_text.specs.Texts.{WritesJson};
-ghost use Rattle.ast_json_text.specs.AstJsonTexts.{IsAstJsonText};
+ghost use Rattle.ast_json_text.specs.AstJsonTexts.{IsAstJsonText, IsValueText};
 
 use crate::place::NodePlace;
 use graphql_ast_json::{AstJson, AstNode};
 use graphql_base::node::Node;
+use graphql_text::engine::{WriteText, send_text, text_of};
+use graphql_text::sink::{SinkFault, TextSink};
 use graphql_text::writers::Target;
 use std::alloc::{AllocError, Global};
 
@@ -52,35 +54,23 @@ impl<T: WriteAstNode + Drop> WriteAstJson for Node<T> {
     }
 }
 
-/// A text that grows until memory is refused.
-#[derive(Drop)]
-struct Growing {
-    text: String,
-    is_refused: bool,
+/// A tree, to be written as the text of its AST JSON: to a text in memory by `text_of`, to a sink by `send_text`.
+///
+/// ```
+/// let value = value!(in alloc; 4)?;
+/// text_of(alloc, &AsAstJson { tree: &value })? // {"kind":"IntValue","value":"4"}
+/// ```
+#[derive_where(Clone, Copy)]
+pub struct AsAstJson<'a, T> {
+    pub tree: &'a T,
 }
 
-impl Target for Growing {
-    ghost wrote = { λ a bytes b.
-        TextGrew (string_bytes a.text) a.is_refused bytes (string_bytes b.text) b.is_refused };
+impl<'a, T: WriteAstJson> WriteText for AsAstJson<'a, T> {
+    ghost is_text = { λ written. IsAstJsonText T.is_json_of (T.stands written.tree.now)
+        (T.tree written.tree.now) };
 
-    ghost stopped = { λ a. IsTrue a.is_refused };
-
-    ghost nothing = { λ a. grew_nothing (string_bytes a.text) a.is_refused };
-
-    ghost idle = { λ a bytes h. grew_idle (string_bytes a.text) a.is_refused bytes h };
-
-    ghost more = { λ a b c x y h k.
-        grew_more (string_bytes a.text) (string_bytes b.text) (string_bytes c.text)
-        a.is_refused b.is_refused c.is_refused x y h k };
-
-    fn text(&mut self, text: &str) {
-        if !self.is_refused {
-            self.is_refused = self.text.push_str(text).is_err();
-        }
-    }
-
-    fn is_stopped(&self) -> bool {
-        self.is_refused
+    fn write_text<O: Target>(&self, out: &mut O) {
+        self.tree.write_ast_json(out);
     }
 }
 
@@ -95,14 +85,41 @@ pub fn to_ast_json_text<T: WriteAstJson>(alloc: Global, tree: &T) -> Result<Stri
     ensures text { IfOk result (λ text. IsAstJsonText T.is_json_of (T.stands tree.now)
         (T.tree tree.now) (string_bytes text)) }
 {
-    let mut out = Growing {
-        text: String::new(alloc),
-        is_refused: false,
-    };
-    tree.write_ast_json(&mut out);
-    if out.is_refused {
-        Err(AllocError)
-    } else {
-        Ok(out.text)
-    }
+    text_of(alloc, &AsAstJson { tree })
+}
+
+/// Sends that text to a sink, with no memory but a buffer on the stack. `Ok`: the sink has taken all of it. `SinkFault` at
+/// the sink's first fault, after a beginning of the text.
+///
+/// Condition: `sink.faults()` is below `u64::MAX`.
+///
+/// ```
+/// let mut sink = VecSink::new(alloc);
+/// send_ast_json(&value, &mut sink)?;
+/// sink.bytes() // {"kind":"IntValue","value":"4"}
+/// ```
+pub fn send_ast_json<T: WriteAstJson, S: TextSink>(tree: &T, sink: &mut S) -> Result<(), SinkFault>
+    requires { CanFault (S.fault_count sink.old) }
+    ensures sent { OnOk result (WritesSome (SinkTook S.taken S.fault_count) sink.old
+        (IsAstJsonText T.is_json_of (T.stands tree.now) (T.tree tree.now)) sink.new) }
+    ensures stopped { OnErr result (WritesSome (SinkFaulted S.taken S.fault_count) sink.old
+        (IsAstJsonText T.is_json_of (T.stands tree.now) (T.tree tree.now)) sink.new) }
+{
+    send_text(&AsAstJson { tree }, sink)
+}
+
+/// The text of the JSON of a tree of any kind that has `to_ast_json`, of another crate too: of the value that gives, which
+/// is made first, and is memory of its own. `AllocError` where memory is refused.
+///
+/// ```
+/// let value = value!(in alloc; 4)?;
+/// to_ast_json_text_by_value(alloc, &value)? // {"kind":"IntValue","value":"4"}
+/// ```
+pub fn to_ast_json_text_by_value<T: AstJson>(alloc: Global, tree: &T) -> Result<String, AllocError>
+    ensures text { IfOk result (λ text. IsValueText T.is_json_of (T.stands tree.now)
+        (T.tree tree.now) (string_bytes text)) }
+{
+    let json = tree.to_ast_json(alloc)?;
+    let text = json.to_string(alloc)?;
+    Ok(text)
 }

@@ -1,7 +1,9 @@
-//! A worked tree of each kind: its text is that of the value of `serde_json` that it is written as.
+//! A worked tree of each kind: its text, in memory and as a sink takes it, is that of the value of `serde_json` that it is
+//! written as.
 use crate::strings::check_strings;
-use ast_json_text::{WriteAstJson, to_ast_json_text};
+use ast_json_text::{WriteAstJson, send_ast_json, to_ast_json_text, to_ast_json_text_by_value};
 use graphql_ast::ast::{Definition, Document};
+use graphql_ast::sink::{TextSink, VecSink};
 use std::alloc::{AllocError, Global};
 use std::ops::Range;
 use std::process::Abort;
@@ -15,6 +17,25 @@ use worked_trees::types::{enum_value_definition, field_definition};
 use worked_trees::values::{
     argument, directive, directive_list, input_value_definition, type_reference, value,
 };
+
+/// What is sent is the text; or memory for it was refused, a fault, before which a beginning was sent.
+fn check_sent<T: WriteAstJson>(
+    rt: &impl Abort,
+    alloc: Global,
+    refused: &mut Refused,
+    tree: &T,
+    wanted: &str,
+) {
+    let mut sink = VecSink::new(alloc);
+    if send_ast_json(tree, &mut sink).is_ok() {
+        assert_eq!(rt; sink.faults(), 0);
+        assert!(rt; sink.bytes() == wanted.as_bytes());
+    } else {
+        refused.add();
+        assert_eq!(rt; sink.faults(), 1);
+        assert!(rt; wanted.as_bytes().starts_with(sink.bytes()));
+    }
+}
 
 /// The text of the JSON is that of its value; or one of the calls is refused memory.
 pub(crate) fn check_text<T: WriteAstJson + Drop>(
@@ -32,6 +53,10 @@ pub(crate) fn check_text<T: WriteAstJson + Drop>(
     if let Some(text) = refused.made(to_ast_json_text(alloc, tree)) {
         assert!(rt; text.as_str() == wanted.as_str(), "{text}");
     }
+    if let Some(text) = refused.made(to_ast_json_text_by_value(alloc, tree)) {
+        assert!(rt; text.as_str() == wanted.as_str(), "{text}");
+    }
+    check_sent(rt, alloc, refused, tree, wanted.as_str());
 }
 
 /// The same of a tree that is made first.

@@ -4,6 +4,10 @@
 #[cfg(test)]
 mod each_kind;
 #[cfg(test)]
+mod outside;
+#[cfg(test)]
 mod refusals;
+#[cfg(test)]
+mod sinks;
 #[cfg(test)]
 mod strings;

@@ -1,7 +1,8 @@
-//! Strings with each escape, and the locations at both ends.
+//! Strings with each escape, the locations at both ends, and lists in one another.
 use crate::each_kind::check_text;
 use ast_json_text::to_ast_json_text;
-use graphql_ast::node::NodeStr;
+use graphql_ast::ast::Value;
+use graphql_ast::node::{Node, NodeStr};
 use graphql_ast::span::{FileId, SourceSpan};
 use std::alloc::Global;
 use std::process::Abort;
@@ -49,7 +50,19 @@ fn check_location(rt: &impl Abort, alloc: Global, at: u32, wanted: &str) {
     assert!(rt; found.as_str().contains(wanted), "{found}");
 }
 
-/// Each row, a long text, and the locations at both ends.
+/// So many lists in one another.
+fn check_nested(rt: &impl Abort, alloc: Global, levels: u32) {
+    let mut value = Value::Null;
+    for _ in 0..levels {
+        let node = Node::new(alloc, value).expect(rt, "memory");
+        value = Value::List(vec![in alloc; node].expect(rt, "memory"));
+    }
+    let mut refused = Refused::none();
+    check_text(rt, alloc, &mut refused, &value);
+    assert!(rt; refused.calls == 0);
+}
+
+/// Each row, a long text, the locations at both ends, and lists in one another.
 pub(crate) fn check_strings(rt: &impl Abort, alloc: Global) {
     for (text, wanted) in ROWS {
         check_row(rt, alloc, text, wanted);
@@ -62,4 +75,6 @@ pub(crate) fn check_strings(rt: &impl Abort, alloc: Global) {
         u32::MAX,
         "\"loc\":{\"end\":4294967295,\"start\":4294967295}",
     );
+    check_nested(rt, alloc, 127);
+    check_nested(rt, alloc, 1_000);
 }

@@ -13,8 +13,8 @@ ghost use Rattle.graphql_rewrite.specs.Rewritings.{unchanged};
 use crate::recursion::{clear_document, without_aliases};
 use anyhow::Result;
 use graphql_ast::ast::{
-    Argument, Directive, Document, Field, OperationDefinition, OperationType, Selection, Value,
-    VariableDefinition,
+    Argument, Directive, DirectiveList, Document, Field, OperationDefinition, OperationType,
+    Selection, Value, VariableDefinition,
 };
 use graphql_ast::{Name, Node, name, ty, value};
 use graphql_rewrite::{
@@ -64,19 +64,22 @@ impl Rewriter for Tidy {
     }
 }
 
+/// `id: $id`
+fn id(alloc: Global) -> Result<Node<Argument>, AllocError> {
+    let variable = Node::new(alloc, value!(in alloc; $id)?)?;
+    Argument::new_node(alloc, name!(id), variable)
+}
+
 /// `me: user(id: $id) @client { name }`
 fn user(alloc: Global) -> Result<Selection, AllocError> {
-    let id = Node::new(alloc, value!(in alloc; $id)?)?;
     let mut user = Field {
         alias: Some(name!(me)),
         ..Field::new(alloc, name!(user))
     };
-    user.arguments
-        .push(Argument::new_node(alloc, name!(id), id)?)?;
-    let client = Node::new(alloc, Directive::new(alloc, name!(client)))?;
-    user.directives.0.push(client)?;
-    user.selection_set
-        .push(Selection::field(alloc, Field::new(alloc, name!(name)))?)?;
+    user.arguments.push(id(alloc)?)?;
+    user.directives = DirectiveList::of(alloc, Directive::new(alloc, name!(client)))?;
+    let name = Selection::field(alloc, Field::new(alloc, name!(name)))?;
+    user.selection_set.push(name)?;
     Selection::field(alloc, user)
 }
 

@@ -16,6 +16,7 @@ use crate::ill_formed::IllFormed;
 use crate::place::{Place, Start};
 use crate::sink::TextSink;
 use crate::target::{Target, ToFormatter, ToSink, ToText, finish, into_text};
+pub use crate::text::{WriteText, send_text, text_of};
 use std::alloc::{AllocError, Global};
 use std::fmt;
 use std::hash::Hash;

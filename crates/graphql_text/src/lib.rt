@@ -25,5 +25,6 @@ pub mod sink;
 mod stack;
 mod string;
 mod target;
+mod text;
 pub mod writers;
 mod written;

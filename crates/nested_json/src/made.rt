@@ -2,6 +2,7 @@
 
 use crate::rewriting::{fields, lists};
 use anyhow::{Result, bail};
+use ast_json_text::{WriteAstJson, to_ast_json_text};
 use graphql_ast::ast::{
     Definition, Document, Field, FieldDefinition, FragmentDefinition, InputValueDefinition,
     OperationDefinition, OperationType, Selection, Type, Value, VariableDefinition,
@@ -40,6 +41,7 @@ pub enum Action {
     Clone,
     Drop,
     Write,
+    WriteText,
     ReadBack,
 }
 
@@ -132,7 +134,7 @@ fn read_back<T: AstJson>(alloc: Global, tree: &T) -> Result<T> {
 }
 
 /// Does it with the first of two equal trees that share nothing. It tells a number: of a print how many bytes it has, else 0.
-fn act<T: Syntax + AstJson + Clone + PartialEq + Hash + Drop>(
+fn act<T: Syntax + WriteAstJson + Clone + PartialEq + Hash + Drop>(
     alloc: Global,
     action: Action,
     made: (Result<T, AllocError>, Result<T, AllocError>),
@@ -158,6 +160,10 @@ fn act<T: Syntax + AstJson + Clone + PartialEq + Hash + Drop>(
         }
         Action::Write => {
             forget(tree.to_ast_json(alloc)?);
+            true
+        }
+        Action::WriteText => {
+            forget(to_ast_json_text(alloc, &tree)?);
             true
         }
         Action::ReadBack => {

@@ -17,7 +17,7 @@
 //! - `renamed_fields`: fields, which get another name;
 //! - `replaced_variables`: lists around a variable that a value takes the place of;
 //!
-//! or one with which ACTION is done (`print`, `check`, `compare`, `hash`, `clone`, `drop`, `write` as JSON, and `read_back` of that),
+//! or one with which ACTION is done (`print`, `check`, `compare`, `hash`, `clone`, `drop`, `write` as JSON, `write_text`, and `read_back` of what was written),
 //!
 //! - `made_lists`, `made_objects`: values;
 //! - `made_selection`, `made_field`, `made_fragment`, `made_definition`, `made_document`: selection sets in one another, in each of these;
@@ -72,7 +72,7 @@ const MADE: [(&str, Made); 11] = [
     ("made_wide_set", Made::WideSet),
 ];
 
-const ACTIONS: [(&str, Action); 8] = [
+const ACTIONS: [(&str, Action); 9] = [
     ("print", Action::Print),
     ("check", Action::Check),
     ("compare", Action::Compare),
@@ -80,6 +80,7 @@ const ACTIONS: [(&str, Action); 8] = [
     ("clone", Action::Clone),
     ("drop", Action::Drop),
     ("write", Action::Write),
+    ("write_text", Action::WriteText),
     ("read_back", Action::ReadBack),
 ];
 

@@ -2,13 +2,7 @@
 #![tactic(auto)]
 
 use anyhow::Result;
-use graphql_ast::ast::{
-    Argument, Directive, DirectiveDefinition, DirectiveList, DirectiveLocation, Document,
-    EnumTypeDefinition, EnumTypeExtension, EnumValueDefinition, FieldDefinition,
-    InputObjectTypeDefinition, InputValueDefinition, InterfaceTypeDefinition, ObjectTypeDefinition,
-    ObjectTypeExtension, OperationType, ScalarTypeDefinition, SchemaDefinition,
-    UnionTypeDefinition,
-};
+use graphql_ast::ast::*;
 use graphql_ast::node::NodeStr;
 use graphql_ast::{Node, name, ty, value};
 use std::alloc::{AllocError, Global};
@@ -35,16 +29,16 @@ fn auth(alloc: Global) -> Result<DirectiveDefinition, AllocError> {
     auth.description = Some(NodeStr::new_str(alloc, "Who may ask")?);
     auth.arguments = vec![in alloc; Node::new(alloc, role)?, Node::new(alloc, scopes)?]?;
     auth.repeatable = true;
-    auth.locations = vec![in alloc;
-        DirectiveLocation::Object,
-        DirectiveLocation::FieldDefinition,
-    ]?;
+    auth.locations.push(DirectiveLocation::Object)?;
+    auth.locations.push(DirectiveLocation::FieldDefinition)?;
     Ok(auth)
 }
 
 fn date_time(alloc: Global) -> Result<ScalarTypeDefinition, AllocError> {
-    let url = value!(in alloc; "https://scalars.example/date-time")?;
-    let url = Node::new(alloc, url)?;
+    let url = Node::new(
+        alloc,
+        value!(in alloc; "https://scalars.example/date-time")?,
+    )?;
     let mut specified_by = Directive::new(alloc, name!(specifiedBy));
     specified_by.arguments = vec![in alloc; Argument::new_node(alloc, name!(url), url)?]?;
     let mut date_time = ScalarTypeDefinition::new(alloc, name!(DateTime));
@@ -63,57 +57,59 @@ fn node(alloc: Global) -> Result<InterfaceTypeDefinition, AllocError> {
 }
 
 /// `price(currency: Currency = EUR): Float!`
-fn price(alloc: Global) -> Result<FieldDefinition, AllocError> {
+fn price(alloc: Global, told: Option<NodeStr>) -> Result<Node<FieldDefinition>, AllocError> {
     let ty = Node::new(alloc, ty!(Currency))?;
     let mut currency = InputValueDefinition::new(alloc, name!(currency), ty);
     currency.default_value = Some(Node::new(alloc, value!(in alloc; EUR)?)?);
     let mut price = FieldDefinition::new(alloc, name!(price), ty!(Float!));
+    price.description = told;
     price.arguments = vec![in alloc; Node::new(alloc, currency)?]?;
-    Ok(price)
+    Node::new(alloc, price)
 }
 
 fn priced(alloc: Global) -> Result<InterfaceTypeDefinition, AllocError> {
     let id = FieldDefinition::new(alloc, name!(id), ty!(ID!));
     let mut priced = InterfaceTypeDefinition::new(alloc, name!(Priced));
     priced.implements_interfaces = vec![in alloc; name!(Node)]?;
-    priced.fields = vec![in alloc; Node::new(alloc, id)?, Node::new(alloc, price(alloc)?)?]?;
+    priced.fields = vec![in alloc; Node::new(alloc, id)?, price(alloc, None)?]?;
     Ok(priced)
 }
 
 /// `reviews(first: Int = 10, after: ID): [Review!]!`
-fn reviews(alloc: Global) -> Result<FieldDefinition, AllocError> {
+fn reviews(alloc: Global) -> Result<Node<FieldDefinition>, AllocError> {
     let mut first = InputValueDefinition::new(alloc, name!(first), Node::new(alloc, ty!(Int))?);
     first.default_value = Some(Node::new(alloc, value!(in alloc; 10)?)?);
     let after = InputValueDefinition::new(alloc, name!(after), Node::new(alloc, ty!(ID))?);
     let mut reviews = FieldDefinition::new(alloc, name!(reviews), ty!(in alloc; [Review!]!)?);
     reviews.arguments = vec![in alloc; Node::new(alloc, first)?, Node::new(alloc, after)?]?;
-    Ok(reviews)
+    Node::new(alloc, reviews)
 }
 
 /// `oldName: String @deprecated(reason: "use `name`")`
-fn old_name(alloc: Global) -> Result<FieldDefinition, AllocError> {
+fn old_name(alloc: Global) -> Result<Node<FieldDefinition>, AllocError> {
     let reason = Node::new(alloc, value!(in alloc; "use `name`")?)?;
     let mut deprecated = Directive::new(alloc, name!(deprecated));
     deprecated.arguments = vec![in alloc; Argument::new_node(alloc, name!(reason), reason)?]?;
     let mut old_name = FieldDefinition::new(alloc, name!(oldName), ty!(String));
     old_name.directives = DirectiveList::of(alloc, deprecated)?;
-    Ok(old_name)
+    Node::new(alloc, old_name)
 }
 
 fn product_fields(alloc: Global) -> Result<Vec<Node<FieldDefinition>>, AllocError> {
     let taxes = "In the currency that is asked for.\nTaxes are \"in\".";
-    let mut price = price(alloc)?;
-    price.description = Some(NodeStr::new_str(alloc, taxes)?);
-    let name = FieldDefinition::new(alloc, name!(name), ty!(String!));
-    let added = FieldDefinition::new(alloc, name!(added), ty!(DateTime));
-    let fields = vec![in alloc;
-        Node::new(alloc, FieldDefinition::new(alloc, name!(id), ty!(ID!)))?,
-        Node::new(alloc, name)?,
-        Node::new(alloc, price)?,
-        Node::new(alloc, reviews(alloc)?)?,
-        Node::new(alloc, old_name(alloc)?)?,
-        Node::new(alloc, added)?,
-    ]?;
+    let mut fields = Vec::new(alloc);
+    fields.push(Node::new(alloc, FieldDefinition::new(alloc, name!(id), ty!(ID!)))?)?;
+    fields.push(Node::new(
+        alloc,
+        FieldDefinition::new(alloc, name!(name), ty!(String!)),
+    )?)?;
+    fields.push(price(alloc, Some(NodeStr::new_str(alloc, taxes)?))?)?;
+    fields.push(reviews(alloc)?)?;
+    fields.push(old_name(alloc)?)?;
+    fields.push(Node::new(
+        alloc,
+        FieldDefinition::new(alloc, name!(added), ty!(DateTime)),
+    )?)?;
     Ok(fields)
 }
 
@@ -132,24 +128,27 @@ fn product(alloc: Global) -> Result<ObjectTypeDefinition, AllocError> {
 fn review(alloc: Global) -> Result<ObjectTypeDefinition, AllocError> {
     let mut review = ObjectTypeDefinition::new(alloc, name!(Review));
     review.implements_interfaces = vec![in alloc; name!(Node)]?;
-    review.fields = vec![in alloc;
-        Node::new(alloc, FieldDefinition::new(alloc, name!(id), ty!(ID!)))?,
-        Node::new(alloc, FieldDefinition::new(alloc, name!(stars), ty!(Int!)))?,
-        Node::new(alloc, FieldDefinition::new(alloc, name!(text), ty!(String)))?,
-    ]?;
+    review.fields.push(Node::new(alloc, FieldDefinition::new(alloc, name!(id), ty!(ID!)))?)?;
+    review.fields.push(Node::new(alloc, FieldDefinition::new(alloc, name!(stars), ty!(Int!)))?)?;
+    review.fields.push(Node::new(alloc, FieldDefinition::new(alloc, name!(text), ty!(String)))?)?;
     Ok(review)
+}
+
+/// `search(filter: SearchFilter!): [SearchResult!]!`
+fn search(alloc: Global) -> Result<Node<FieldDefinition>, AllocError> {
+    let ty = Node::new(alloc, ty!(SearchFilter!))?;
+    let filter = InputValueDefinition::new(alloc, name!(filter), ty);
+    let mut search = FieldDefinition::new(alloc, name!(search), ty!(in alloc; [SearchResult!]!)?);
+    search.arguments = vec![in alloc; Node::new(alloc, filter)?]?;
+    Node::new(alloc, search)
 }
 
 fn query(alloc: Global) -> Result<ObjectTypeDefinition, AllocError> {
     let id = InputValueDefinition::new(alloc, name!(id), Node::new(alloc, ty!(ID!))?);
     let mut node = FieldDefinition::new(alloc, name!(node), ty!(Node));
     node.arguments = vec![in alloc; Node::new(alloc, id)?]?;
-    let ty = Node::new(alloc, ty!(SearchFilter!))?;
-    let filter = InputValueDefinition::new(alloc, name!(filter), ty);
-    let mut search = FieldDefinition::new(alloc, name!(search), ty!(in alloc; [SearchResult!]!)?);
-    search.arguments = vec![in alloc; Node::new(alloc, filter)?]?;
     let mut query = ObjectTypeDefinition::new(alloc, name!(Query));
-    query.fields = vec![in alloc; Node::new(alloc, node)?, Node::new(alloc, search)?]?;
+    query.fields = vec![in alloc; Node::new(alloc, node)?, search(alloc)?]?;
     Ok(query)
 }
 
@@ -167,21 +166,17 @@ fn currency(alloc: Global) -> Result<EnumTypeDefinition, AllocError> {
     mark.description = Some(NodeStr::new_str(alloc, "Gone")?);
     mark.directives = DirectiveList::of(alloc, deprecated)?;
     let mut currency = EnumTypeDefinition::new(alloc, name!(Currency));
-    currency.values = vec![in alloc;
-        Node::new(alloc, EnumValueDefinition::new(alloc, name!(EUR)))?,
-        Node::new(alloc, EnumValueDefinition::new(alloc, name!(USD)))?,
-        Node::new(alloc, mark)?,
-    ]?;
+    currency.values.push(Node::new(alloc, EnumValueDefinition::new(alloc, name!(EUR)))?)?;
+    currency.values.push(Node::new(alloc, EnumValueDefinition::new(alloc, name!(USD)))?)?;
+    currency.values.push(Node::new(alloc, mark)?)?;
     Ok(currency)
 }
 
 fn role(alloc: Global) -> Result<EnumTypeDefinition, AllocError> {
     let mut role = EnumTypeDefinition::new(alloc, name!(Role));
-    role.values = vec![in alloc;
-        Node::new(alloc, EnumValueDefinition::new(alloc, name!(GUEST)))?,
-        Node::new(alloc, EnumValueDefinition::new(alloc, name!(USER)))?,
-        Node::new(alloc, EnumValueDefinition::new(alloc, name!(ADMIN)))?,
-    ]?;
+    role.values.push(Node::new(alloc, EnumValueDefinition::new(alloc, name!(GUEST)))?)?;
+    role.values.push(Node::new(alloc, EnumValueDefinition::new(alloc, name!(USER)))?)?;
+    role.values.push(Node::new(alloc, EnumValueDefinition::new(alloc, name!(ADMIN)))?)?;
     Ok(role)
 }
 
@@ -223,17 +218,11 @@ fn extend(alloc: Global, document: &mut Document) -> Result<(), AllocError> {
     query.fields = vec![in alloc; Node::new(alloc, me)?]?;
     document.push(alloc, query)?;
     let mut currency = EnumTypeExtension::new(alloc, name!(Currency));
-    let pound = EnumValueDefinition::new(alloc, name!(GBP));
-    currency.values = vec![in alloc; Node::new(alloc, pound)?]?;
+    currency.values.push(Node::new(alloc, EnumValueDefinition::new(alloc, name!(GBP)))?)?;
     document.push(alloc, currency)
 }
 
-fn main(rt: HostRuntime) -> Result<()> {
-    let alloc = rt.alloc();
-    let mut document = Document::new(alloc);
-    document.push(alloc, schema(alloc)?)?;
-    document.push(alloc, auth(alloc)?)?;
-    document.push(alloc, date_time(alloc)?)?;
+fn push_types(alloc: Global, document: &mut Document) -> Result<(), AllocError> {
     document.push(alloc, node(alloc)?)?;
     document.push(alloc, priced(alloc)?)?;
     document.push(alloc, product(alloc)?)?;
@@ -242,7 +231,16 @@ fn main(rt: HostRuntime) -> Result<()> {
     document.push(alloc, search_result(alloc)?)?;
     document.push(alloc, currency(alloc)?)?;
     document.push(alloc, role(alloc)?)?;
-    document.push(alloc, search_filter(alloc)?)?;
+    document.push(alloc, search_filter(alloc)?)
+}
+
+fn main(rt: HostRuntime) -> Result<()> {
+    let alloc = rt.alloc();
+    let mut document = Document::new(alloc);
+    document.push(alloc, schema(alloc)?)?;
+    document.push(alloc, auth(alloc)?)?;
+    document.push(alloc, date_time(alloc)?)?;
+    push_types(alloc, &mut document)?;
     extend(alloc, &mut document)?;
     print!(rt; "{document}")?;
     Ok(())

@@ -5,7 +5,7 @@ ghost use Rattle.ast_json_nodes.specs.code.JsonNodes.{has_text_of, lacks};
 ghost use Rattle.ast_json_nodes.specs.code.NodeReading.{texts_of};
 
 use ast_json_nodes::error::JsonPath;
-use ast_json_nodes::{JsonNode, find_member, index_of};
+use ast_json_nodes::{JsonNode, find_member, is_one_of};
 use graphql_base::span::SourceSpan;
 use graphql_text::ill_formed::SideCondition::{
     self, AddsSomething, HasDefinition, HasLocation, HasRootOperation, HasSelection, IsConstant,
@@ -100,7 +100,7 @@ fn is_any_of(texts: &[&str], json: AnyJson<'_, '_>) -> bool
 {
     match find_member(json, "value") {
         Some(found) => match found.as_str() {
-            Some(text) => index_of(texts, text).is_some(),
+            Some(text) => is_one_of(texts, text),
             None => false,
         },
         None => false,

@@ -22,6 +22,12 @@ Writes wrote a b place items = WritesItems wrote a b (mode_of place.prefix) plac
 abbrev pub WritesAnywhere : {O : Type 0} → (O → List ℕ → O → Type 0) → O → O → List Item → Type 0
 WritesAnywhere wrote a b items = (mode : Option (List ℕ)) (level : ℕ) → WritesItems wrote a b mode level items
 
+-- From a to b some bytes were written, and they are such.
+pub record WritesSome {O : Type 0} (wrote : O → List ℕ → O → Type 0) (a : O) (Is : List ℕ → Type 0) (b : O) : Type 0 where
+  pub bytes : List ℕ
+  pub text : wrote a bytes b
+  pub is : Is bytes
+
 -- The same of a tree that stands within another, where something was written before.
 abbrev pub WritesPart : {O : Type 0} → (O → List ℕ → O → Type 0) → O → O → Place → (kind : Kind) → kind.Tree → Type 0
 WritesPart wrote a b place kind tree = Writes wrote a b place (kind.shape (breaks place) false tree)

@@ -1,5 +1,5 @@
 //! Values are printed: the loop that writes a value, and its `Syntax`.
-ghost use Rattle.std.specs.Prelude.{◌≡◌, Some, ◌+◌, ◌≤◌, ◌<◌, ◌++◌, List, [], ◌∷◌, Bool, IsNone, length, MatchOption};
+ghost use Rattle.std.specs.Prelude.{◌≡◌, Some, ◌+◌, ◌≤◌, ◌<◌, ◌++◌, List, [], ◌∷◌, Bool, IfSome, IsNone, false, true, length, MatchOption};
 ghost use Rattle.graphql_text.specs.layout.Layout.{Item, Lower, Tight, Word, last_comma};
 ghost use Rattle.graphql_text.specs.lexical.Tokens.{IntValue as IntToken, FloatValue as FloatToken};
 ghost use Rattle.graphql_text.specs.layout.Levels.{Fits, IsCount};
@@ -8,11 +8,11 @@ ghost use Rattle.graphql_text.specs.code.Place.{breaks, mode_of};
 ghost use Rattle.graphql_text.specs.kinds.PrintedKinds.{no_types};
 ghost use Rattle.graphql_text.specs.kinds.Printing.{IsDefaultPrint, default_bytes};
 ghost use Rattle.graphql_text.specs.code.Stack.{CanWrite, IsKept, stack_entries, stack_room};
-ghost use Rattle.graphql_text.specs.code.Writing.{IsCommaLead, Writes, WritesAnywhere, WritesToLevel, fixed_text};
+ghost use Rattle.graphql_text.specs.code.Writing.{IsCommaLead, Writes, WritesAnywhere, WritesBeginning, WritesToLevel, fixed_text};
 ghost use Rattle.graphql_values.specs.kinds.Values.{boolean_value, object_fields_nesting, value_kind, value_nesting, value_shape, values_nesting};
 ghost use Rattle.graphql_values.specs.trees.Literals.{float_text, int_text};
 ghost use Rattle.graphql_values.specs.trees.ValueTrees.{object_field_trees, value_tree, value_trees};
-ghost use Rattle.graphql_values.specs.code.ValueWalk.{CanGoOn, GoesOn, OpensValue, need_with, opened_level, opening, opening_word, stack_items, stack_need};
+ghost use Rattle.graphql_values.specs.code.ValueWalk.{CanGoOn, GoesOn, OpensValue, entry_items, need_with, opened_level, opening, opening_word, stack_items, stack_need};
 ghost use Rattle.graphql_values.specs.lemmas.Values.{value_laws};
 
 use crate::constness::Constness;
@@ -346,6 +346,70 @@ fn write_next_field<'a, O: Target>(
     }
 }
 
+/// Writes the next field of an object, if it is the object's first, and its value has no items or fields of its own. What
+/// is left then, unless that begins with the first. So the loop over the others need not ask whether a comma leads to one.
+#[inline(always)]
+fn write_first_field<'a, O: Target>(
+    out: &mut O,
+    here: &Place<'_>,
+    fields: &'a [(Name, Node<Value>)],
+    is_first: bool,
+) -> Option<&'a [(Name, Node<Value>)]>
+    ensures nesting { IfSome result (λ rest. object_fields_nesting (object_field_trees rest.now)
+        ≤ object_fields_nesting (object_field_trees fields.now)) }
+    ensures written { IfSome result (λ rest.
+        WritesBeginning O.wrote out.old out.new (mode_of here.now.prefix) here.now.level
+        (entry_items (breaks here.now) (ValueEntry.Fields fields.entry is_first)) here.now.level
+        (entry_items (breaks here.now) (ValueEntry.Fields rest false))) }
+    ensures untouched { IsNone result → out.new ≡ out.old }
+{
+    if !is_first {
+        return Some(fields);
+    }
+    match fields.split_first() {
+        Some((field, rest)) if opening_bracket(&field.1).is_none() => {
+            write_comma_lead(out, here, None, is_first);
+            write_name_then(out, &field.0, ": ");
+            write_leaf(out, here, &field.1);
+            Some(rest)
+        }
+        _ => None,
+    }
+}
+
+/// Writes what is left of an object behind its first field: its fields up to the next one whose value has items of its
+/// own, or to the end. What is left then is put on the stack.
+#[inline(always)]
+fn write_further_fields<'a, O: Target>(
+    out: &mut O,
+    here: &mut Place<'_>,
+    stack: &mut Stack<ValueEntry<'a>>,
+    lead: Option<ReadyCommaBreak>,
+    fields: &'a [(Name, Node<Value>)],
+)
+    requires lead { IsCommaLead (mode_of here.old.prefix) here.old.level lead }
+    requires goes_on { CanGoOn here.old.level (stack_room stack.old) (stack_entries stack.old)
+        (ValueEntry.Fields fields false) }
+    ensures prefix { here.new.prefix ≡ here.old.prefix }
+    ensures room { stack_room stack.old ≤ stack_room stack.new }
+    ensures written { GoesOn O.wrote out.old out.new
+        (mode_of here.old.prefix) here.old.level here.new.level
+        (ValueEntry.Fields fields.entry false) (stack_entries stack.old)
+        (stack_entries stack.new) }
+{
+    let mut rest = fields;
+    while let Some((field, more)) = rest.split_first() {
+        if opening_bracket(&field.1).is_some() || out.is_stopped() {
+            break;
+        }
+        write_comma_lead(out, here, lead, false);
+        write_name_then(out, &field.0, ": ");
+        write_leaf(out, here, &field.1);
+        rest = more;
+    }
+    write_next_field(out, here, stack, lead, rest, false);
+}
+
 /// Writes what is left of an object: its fields up to the next one whose value has items of its own, or to the end.
 /// What is left then is put on the stack.
 #[inline(always)]
@@ -366,19 +430,10 @@ fn write_fields<'a, O: Target>(
         (stack_entries stack.new) }
 {
     let lead = ready_comma_lead(here);
-    let mut rest = fields;
-    let mut first = is_first;
-    while let Some((field, more)) = rest.split_first() {
-        if opening_bracket(&field.1).is_some() || out.is_stopped() {
-            break;
-        }
-        write_comma_lead(out, here, lead, first);
-        write_name_then(out, &field.0, ": ");
-        write_leaf(out, here, &field.1);
-        rest = more;
-        first = false;
+    match write_first_field(out, here, fields, is_first) {
+        Some(rest) => write_further_fields(out, here, stack, lead, rest),
+        None => write_next_field(out, here, stack, lead, fields, is_first),
     }
-    write_next_field(out, here, stack, lead, rest, first);
 }
 
 /// Writes what is left of a list or an object, up to the next value in it that has items or fields of its own, or to

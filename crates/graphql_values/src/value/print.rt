@@ -1,5 +1,5 @@
 //! Values are printed: the loop that writes a value, and its `Syntax`.
-ghost use Rattle.std.specs.Prelude.{◌≡◌, Some, ◌+◌, ◌≤◌, ◌<◌, ◌++◌, List, [], ◌∷◌, Bool, IfSome, IsNone, false, true, length, MatchOption};
+ghost use Rattle.std.specs.Prelude.{◌≡◌, Some, ◌+◌, ◌≤◌, ◌<◌, ◌++◌, List, [], ◌∷◌, Bool, IfSome, IsNone, false, length, MatchOption};
 ghost use Rattle.graphql_text.specs.layout.Layout.{Item, Lower, Tight, Word, last_comma};
 ghost use Rattle.graphql_text.specs.lexical.Tokens.{IntValue as IntToken, FloatValue as FloatToken};
 ghost use Rattle.graphql_text.specs.layout.Levels.{Fits, IsCount};
@@ -12,7 +12,7 @@ ghost use Rattle.graphql_text.specs.code.Writing.{IsCommaLead, Writes, WritesAny
 ghost use Rattle.graphql_values.specs.kinds.Values.{boolean_value, object_fields_nesting, value_kind, value_nesting, value_shape, values_nesting};
 ghost use Rattle.graphql_values.specs.trees.Literals.{float_text, int_text};
 ghost use Rattle.graphql_values.specs.trees.ValueTrees.{object_field_trees, value_tree, value_trees};
-ghost use Rattle.graphql_values.specs.code.ValueWalk.{CanGoOn, GoesOn, OpensValue, entry_items, need_with, opened_level, opening, opening_word, stack_items, stack_need};
+ghost use Rattle.graphql_values.specs.code.ValueWalk.{CanGoOn, GoesOn, OpensValue, entry_items, entry_nesting, need_with, opened_level, opening, opening_word, stack_items, stack_need};
 ghost use Rattle.graphql_values.specs.lemmas.Values.{value_laws};
 
 use crate::constness::Constness;
@@ -355,8 +355,8 @@ fn write_first_field<'a, O: Target>(
     fields: &'a [(Name, Node<Value>)],
     is_first: bool,
 ) -> Option<&'a [(Name, Node<Value>)]>
-    ensures nesting { IfSome result (λ rest. object_fields_nesting (object_field_trees rest.now)
-        ≤ object_fields_nesting (object_field_trees fields.now)) }
+    ensures nesting { IfSome result (λ rest. entry_nesting (ValueEntry.Fields rest false)
+        ≤ entry_nesting (ValueEntry.Fields fields.entry is_first)) }
     ensures written { IfSome result (λ rest.
         WritesBeginning O.wrote out.old out.new (mode_of here.now.prefix) here.now.level
         (entry_items (breaks here.now) (ValueEntry.Fields fields.entry is_first)) here.now.level
@@ -377,25 +377,22 @@ fn write_first_field<'a, O: Target>(
     }
 }
 
-/// Writes what is left of an object behind its first field: its fields up to the next one whose value has items of its
-/// own, or to the end. What is left then is put on the stack.
+/// Writes fields of an object behind its first one, up to the next one whose value has items or fields of its own, or to
+/// the end. What is left then.
 #[inline(always)]
 fn write_further_fields<'a, O: Target>(
     out: &mut O,
-    here: &mut Place<'_>,
-    stack: &mut Stack<ValueEntry<'a>>,
+    here: &Place<'_>,
     lead: Option<ReadyCommaBreak>,
     fields: &'a [(Name, Node<Value>)],
-)
-    requires lead { IsCommaLead (mode_of here.old.prefix) here.old.level lead }
-    requires goes_on { CanGoOn here.old.level (stack_room stack.old) (stack_entries stack.old)
-        (ValueEntry.Fields fields false) }
-    ensures prefix { here.new.prefix ≡ here.old.prefix }
-    ensures room { stack_room stack.old ≤ stack_room stack.new }
-    ensures written { GoesOn O.wrote out.old out.new
-        (mode_of here.old.prefix) here.old.level here.new.level
-        (ValueEntry.Fields fields.entry false) (stack_entries stack.old)
-        (stack_entries stack.new) }
+) -> &'a [(Name, Node<Value>)]
+    requires { IsCommaLead (mode_of here.now.prefix) here.now.level lead }
+    ensures nesting { entry_nesting (ValueEntry.Fields result false)
+        ≤ entry_nesting (ValueEntry.Fields fields.entry false) }
+    ensures written { WritesBeginning O.wrote out.old out.new
+        (mode_of here.now.prefix) here.now.level
+        (entry_items (breaks here.now) (ValueEntry.Fields fields.entry false)) here.now.level
+        (entry_items (breaks here.now) (ValueEntry.Fields result false)) }
 {
     let mut rest = fields;
     while let Some((field, more)) = rest.split_first() {
@@ -407,7 +404,31 @@ fn write_further_fields<'a, O: Target>(
         write_leaf(out, here, &field.1);
         rest = more;
     }
-    write_next_field(out, here, stack, lead, rest, false);
+    rest
+}
+
+/// Writes fields of an object, up to the next one whose value has items or fields of its own, or to the end. What is left
+/// then, and whether that begins with the object's first.
+#[inline(always)]
+fn write_leaf_fields<'a, O: Target>(
+    out: &mut O,
+    here: &Place<'_>,
+    lead: Option<ReadyCommaBreak>,
+    fields: &'a [(Name, Node<Value>)],
+    is_first: bool,
+) -> (&'a [(Name, Node<Value>)], bool)
+    requires { IsCommaLead (mode_of here.now.prefix) here.now.level lead }
+    ensures nesting { entry_nesting (ValueEntry.Fields result.0 result.1)
+        ≤ entry_nesting (ValueEntry.Fields fields.entry is_first) }
+    ensures written { WritesBeginning O.wrote out.old out.new
+        (mode_of here.now.prefix) here.now.level
+        (entry_items (breaks here.now) (ValueEntry.Fields fields.entry is_first)) here.now.level
+        (entry_items (breaks here.now) (ValueEntry.Fields result.0 result.1)) }
+{
+    match write_first_field(out, here, fields, is_first) {
+        Some(rest) => (write_further_fields(out, here, lead, rest), false),
+        None => (fields, is_first),
+    }
 }
 
 /// Writes what is left of an object: its fields up to the next one whose value has items of its own, or to the end.
@@ -430,10 +451,8 @@ fn write_fields<'a, O: Target>(
         (stack_entries stack.new) }
 {
     let lead = ready_comma_lead(here);
-    match write_first_field(out, here, fields, is_first) {
-        Some(rest) => write_further_fields(out, here, stack, lead, rest),
-        None => write_next_field(out, here, stack, lead, fields, is_first),
-    }
+    let (rest, first) = write_leaf_fields(out, here, lead, fields, is_first);
+    write_next_field(out, here, stack, lead, rest, first);
 }
 
 /// Writes what is left of a list or an object, up to the next value in it that has items or fields of its own, or to

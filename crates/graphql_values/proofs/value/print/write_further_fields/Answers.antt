@@ -1,15 +1,11 @@
 use Rattle.std.proofs.Common.{[], ◌∷◌, ap, arith, false, refl, le_refl}
 use Rattle.graphql_text.specs.code.Groups.{comma_rest}
-use Rattle.graphql_text.specs.layout.Layout.{Space, Word, is_broken}
-use Rattle.graphql_text.specs.code.Place.{mode_of}
-use Rattle.graphql_text.specs.code.Stack.{stack_entries}
+use Rattle.graphql_text.specs.code.Place.{breaks}
+use Rattle.graphql_text.specs.layout.Layout.{Space, Word}
 use Rattle.graphql_text.specs.lexical.Tokens.{colon, rbrace, Punctuation}
-use Rattle.graphql_text.proofs.code.PendingStackSteps.{goes_on_after}
 use Rattle.graphql_text.proofs.code.WritingSteps.{beginning_none, beginning_next, writes_levels, writes_then}
 use Rattle.graphql_values.specs.kinds.Values.{object_fields_nesting, object_fields_shapes}
 use Rattle.graphql_values.specs.trees.ValueTrees.{object_field_trees}
-use Rattle.graphql_values.specs.declared.value.print.ValueEntry.TheVariants.{Fields}
-use Rattle.graphql_values.proofs.code.ValueWalkSteps.{can_go_on_less}
 use Rattle.graphql_values.proofs.value.print.write_further_fields.Goals as goal
 
 pub loop-field-init : goal.loop-field-init
@@ -18,7 +14,7 @@ loop-field-init g c = record { nesting = le_refl _; written = beginning_none g.m
 pub loop-field-preserved : goal.loop-field-preserved
 loop-field-preserved g c =
     let more = g.met.O.Target.more in
-    let broken = is_broken (mode_of c.args.here.now.prefix) in
+    let broken = breaks c.args.here.now in
     let i = c.loop-field.invariant in
     let split = c.in-Some.ensures.cases.0 in
     let name = c.write_name_then.ensures (Word (Punctuation colon) ∷ Space ∷ []) refl _ _ in
@@ -31,15 +27,3 @@ loop-field-preserved g c =
       nesting = omega (arith, i.nesting, ap (λ fields. object_fields_nesting (object_field_trees fields)) split);
       written = beginning_next more lead refl (writes_levels (writes_then more name leaf));
     }
-
-pub write_next_field-requires-clause-goes_on : goal.write_next_field-requires-clause-goes_on
-write_next_field-requires-clause-goes_on g c =
-    can_go_on_less (stack_entries c.args.stack.now) (Fields c.args.fields false)
-    (Fields c.loop-field.rest false) c.loop-field.invariant.nesting c.requires.goes_on
-
-pub returns-clause-written : goal.returns-clause-written
-returns-clause-written g c =
-    goes_on_after g.met.O.Target.nothing g.met.O.Target.more (Fields c.args.fields false)
-    (Fields c.loop-field.rest false) (stack_entries c.args.stack.now)
-    (stack_entries c.write_next_field.new.stack) c.loop-field.invariant.nesting c.loop-field.invariant.written
-    c.write_next_field.ensures.written

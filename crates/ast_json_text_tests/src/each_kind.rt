@@ -1,7 +1,7 @@
 //! A worked tree of each kind: its text, in memory and as a sink takes it, is that of the value of `serde_json` that it is
 //! written as.
 use crate::strings::check_strings;
-use ast_json_text::{WriteAstJson, send_ast_json, to_ast_json_text, to_ast_json_text_by_value};
+use ast_json_text::{WriteAstJson, send_ast_json, to_ast_json_text};
 use graphql_ast::ast::{Definition, Document};
 use graphql_ast::sink::{TextSink, VecSink};
 use std::alloc::{AllocError, Global};
@@ -51,9 +51,6 @@ pub(crate) fn check_text<T: WriteAstJson + Drop>(
         return;
     };
     if let Some(text) = refused.made(to_ast_json_text(alloc, tree)) {
-        assert!(rt; text.as_str() == wanted.as_str(), "{text}");
-    }
-    if let Some(text) = refused.made(to_ast_json_text_by_value(alloc, tree)) {
         assert!(rt; text.as_str() == wanted.as_str(), "{text}");
     }
     check_sent(rt, alloc, refused, tree, wanted.as_str());

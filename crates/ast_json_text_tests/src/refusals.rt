@@ -2,7 +2,7 @@
 use crate::each_kind::{check_documents, check_parts, check_selections};
 use worked_trees::refused::Refused;
 
-/// Allocations: 2388.
+/// Allocations: 2317.
 #[test]
 fn texts_are_whole_or_memory_was_refused(rt: HostRuntime) {
     let mut refused = Refused::none();

@@ -1,8 +1,11 @@
 //! A worked tree of each kind: its text, in memory and as a sink takes it, is that of the value of `serde_json` that it is
 //! written as.
 use crate::strings::check_strings;
-use ast_json_text::{WriteAstJson, send_ast_json, to_ast_json_text};
+use ast_json_text::{
+    AsAstJson, WriteAstJson, send_ast_json, to_ast_json_text, to_ast_json_text_by_value,
+};
 use graphql_ast::ast::{Definition, Document};
+use graphql_ast::serialize::{send_text, text_of};
 use graphql_ast::sink::{TextSink, VecSink};
 use std::alloc::{AllocError, Global};
 use std::ops::Range;
@@ -68,6 +71,26 @@ fn check<T: WriteAstJson + Drop>(
     }
 }
 
+/// The text, what is sent, and the text by the value are the same of what is written, as by the calls of this crate.
+pub(crate) fn check_written(rt: &impl Abort, alloc: Global, refused: &mut Refused) {
+    let Some(tree) = refused.made(value(alloc)) else {
+        return;
+    };
+    let written = AsAstJson { tree: &tree };
+    let Some(whole) = refused.made(text_of(alloc, &written)) else {
+        return;
+    };
+    if let Some(text) = refused.made(to_ast_json_text_by_value(alloc, &tree)) {
+        assert!(rt; text.as_str() == whole.as_str(), "{text}");
+    }
+    let mut sink = VecSink::new(alloc);
+    if send_text(&written, &mut sink).is_ok() {
+        assert!(rt; sink.bytes() == whole.as_bytes());
+    } else {
+        refused.add();
+    }
+}
+
 pub(crate) fn check_parts(rt: &impl Abort, alloc: Global, refused: &mut Refused) {
     check(rt, alloc, refused, value(alloc));
     check(rt, alloc, refused, type_reference(alloc));
@@ -113,6 +136,7 @@ pub(crate) fn check_documents(
 #[test]
 fn each_kind_is_written_as_its_value_is(rt: HostRuntime) {
     let mut refused = Refused::none();
+    check_written(&rt, rt.alloc(), &mut refused);
     check_parts(&rt, rt.alloc(), &mut refused);
     check_selections(&rt, rt.alloc(), &mut refused);
     check_documents(&rt, rt.alloc(), &mut refused, 0..VARIANTS);

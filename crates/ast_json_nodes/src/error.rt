@@ -126,7 +126,7 @@ pub enum AstJsonProblem {
     WrongOrder { start: u32, end: u32 },
 }
 
-/// A position within JSON, as `fields[0].value`. The root is the empty path.
+/// A path within JSON, as `fields[0].value`. The root is the empty path.
 ///
 /// ```
 /// // `json` is {"kind":"ListValue","values":[{"kind":"IntValue","value":true}]}
@@ -169,7 +169,7 @@ impl JsonPath {
         }
     }
 
-    /// The same position, told from the object that has it in this member.
+    /// The same path, told from the object that has it in this member.
     #[doc(hidden)]
     pub fn in_member(&self, alloc: Global, name: &str) -> Result<JsonPath, AllocError>
         ensures { IfOk result (λ path. path_text path ≡ path_in name.now (path_text self.now)) }
@@ -183,7 +183,7 @@ impl JsonPath {
         }
     }
 
-    /// The same position, told from the array that has it in this item.
+    /// The same path, told from the array that has it in this item.
     #[doc(hidden)]
     pub fn in_item(&self, alloc: Global, index: usize) -> Result<JsonPath, AllocError>
         ensures { IfOk result (λ path.
@@ -223,7 +223,7 @@ pub enum AstJsonError {
     /// The nesting depth of arrays and objects of the text is above 127.
     #[error("arrays and objects stand in one another more than 127 deep")]
     TooDeep,
-    /// The JSON is of no such tree, because of this problem at this position, in a node that tells this location.
+    /// The JSON is of no such tree, because of this problem at this path, in a node that tells this location.
     #[error("at {path}{location}: {problem}")]
     Invalid {
         path: JsonPath,
@@ -282,7 +282,7 @@ impl AstJsonError {
         }
     }
 
-    /// The error, told from the object that has the position in this member and perhaps tells its own location.
+    /// The error, told from the object that has the path in this member and perhaps tells its own location.
     #[doc(hidden)]
     pub fn in_member(self, alloc: Global, name: &str, outer: Option<SourceSpan>) -> AstJsonError
         ensures memory { IsMemory self → IsMemory result }
@@ -306,7 +306,7 @@ impl AstJsonError {
         }
     }
 
-    /// The error, told from the array that has the position in this item.
+    /// The error, told from the array that has the path in this item.
     #[doc(hidden)]
     pub fn in_item(self, alloc: Global, index: usize) -> AstJsonError
         ensures memory { IsMemory self → IsMemory result }

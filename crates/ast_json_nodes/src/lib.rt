@@ -15,4 +15,4 @@ mod read;
 pub use crate::error::AstJsonError;
 pub use crate::offsets::Offsets;
 pub use crate::read::text::read_json;
-pub use crate::read::{JsonNode, NodeReader, Unknown, find_member, is_one_of};
+pub use crate::read::{JsonNode, NodeReader, Unknown, find_member, index_of, is_one_of};

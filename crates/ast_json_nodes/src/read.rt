@@ -1,5 +1,7 @@
 //! JSON is read: a node's kind, the names of its members, and where it stands.
-ghost use Rattle.std.specs.Prelude.{◌≡◌, ◌<◌, [], ◌++◌, IfOk, IfErr, IfSome, OnOk, OnSome, Some, None, IsTrue, codes, is_some, not, option_map};
+ghost use Rattle.std.specs.Prelude.{◌≡◌, ◌<◌, [], ◌++◌, IfOk, IfErr, IfSome, OnOk, OnSome, Some, None, IsTrue, codes, is_some, nat_eq, not, option_map};
+ghost use Rattle.std.specs.Cmp.Lexicographic.{pointwise};
+ghost use Rattle.std.specs.List.{position_from};
 ghost use Rattle.json.specs.Value.{members_view as parsed_members};
 ghost use Rattle.serde_json.specs.Data.{depth, no_members, object};
 ghost use Rattle.serde_json.specs.Find.{get};
@@ -77,17 +79,27 @@ pub struct JsonNode<'j, 't> {
     pub unknown: Unknown,
 }
 
+/// Where the first of these names stands that is this one, if one is.
+#[doc(hidden)]
+pub fn index_of(names: &[&str], name: &str) -> Option<usize>
+    ensures found { is_some result ≡ is_one_of (texts_of names.now) name.now }
+    ensures first { result
+        ≡ position_from (λ known. pointwise nat_eq known name.now) 0 (texts_of names.now) }
+{
+    for index in 0..names.len() {
+        if names[index] == name {
+            return Some(index);
+        }
+    }
+    None
+}
+
 /// Whether this is one of the names.
 #[doc(hidden)]
 pub fn is_one_of(names: &[&str], name: &str) -> bool
     ensures { result ≡ is_one_of (texts_of names.now) name.now }
 {
-    for index in 0..names.len() {
-        if names[index] == name {
-            return true;
-        }
-    }
-    false
+    index_of(names, name).is_some()
 }
 
 /// Whether this is one of the names, or of the others.

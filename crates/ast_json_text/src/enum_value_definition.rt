@@ -1,5 +1,5 @@
 //! Definitions of enum values as the text of their AST JSON.
-use crate::place::NodePlace;
+use crate::context::NodeContext;
 use crate::text::WriteAstNode;
 use crate::write::{write_directives, write_leading, write_location, write_member};
 use graphql_ast::ast::EnumValueDefinition;
@@ -8,7 +8,7 @@ use graphql_base::node::NodeStr;
 use graphql_text::writers::Target;
 
 impl WriteAstNode for EnumValueDefinition {
-    fn write_ast_node<O: Target>(&self, out: &mut O, place: NodePlace) {
+    fn write_ast_node<O: Target>(&self, out: &mut O, context: NodeContext) {
         let EnumValueDefinition {
             description,
             value,
@@ -18,7 +18,7 @@ impl WriteAstNode for EnumValueDefinition {
         write_leading::<NodeStr, O>(out, "\"description\":", description);
         write_directives(out, "\"directives\":", directives);
         out.text(",\"kind\":\"EnumValueDefinition\"");
-        write_location(out, place.location);
+        write_location(out, context.location);
         write_member::<Name, O>(out, ",\"name\":", value);
         out.text("}");
     }

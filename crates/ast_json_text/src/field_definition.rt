@@ -1,5 +1,5 @@
 //! Definitions of fields as the text of their AST JSON.
-use crate::place::NodePlace;
+use crate::context::NodeContext;
 use crate::text::WriteAstNode;
 use crate::write::{
     write_directives, write_location, write_member, write_optional, write_parameters,
@@ -11,7 +11,7 @@ use graphql_text::writers::Target;
 use graphql_values::writers::some_want_lines;
 
 impl WriteAstNode for FieldDefinition {
-    fn write_ast_node<O: Target>(&self, out: &mut O, place: NodePlace) {
+    fn write_ast_node<O: Target>(&self, out: &mut O, context: NodeContext) {
         let FieldDefinition {
             description,
             name,
@@ -24,7 +24,7 @@ impl WriteAstNode for FieldDefinition {
         write_optional::<NodeStr, O>(out, ",\"description\":", description);
         write_directives(out, ",\"directives\":", directives);
         out.text(",\"kind\":\"FieldDefinition\"");
-        write_location(out, place.location);
+        write_location(out, context.location);
         write_member::<Name, O>(out, ",\"name\":", name);
         write_member::<Type, O>(out, ",\"type\":", ty);
         out.text("}");

@@ -14,7 +14,7 @@ ghost use Rattle.graphql_ast_json.specs.lemmas.Leaves.{json_laws};
 ghost use Rattle.graphql_ast_json.specs.lemmas.TypeNodes.{named_type_laws};
 ghost use Rattle.json_text.specs.Texts.{WritesJson};
 
-use crate::place::NodePlace;
+use crate::context::NodeContext;
 use crate::selection::write_selection_set;
 use crate::text::{WriteAstJson, WriteAstNode};
 use crate::types::write_named_type;
@@ -78,7 +78,7 @@ impl<T: WriteAstNode + Drop> WriteForm for OnOneLine<T> {
     fn write_form<O: Target>(out: &mut O, value: &Node<T>) {
         value
             .as_ref()
-            .write_ast_node(out, NodePlace::on_one_line(value.location()));
+            .write_ast_node(out, NodeContext::on_one_line(value.location()));
     }
 }
 

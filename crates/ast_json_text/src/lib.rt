@@ -8,6 +8,7 @@
 #![tactic(auto)]
 
 mod argument;
+mod context;
 mod definition;
 mod directive;
 mod directive_definition;
@@ -26,7 +27,6 @@ mod interface_type;
 mod name;
 mod object_type;
 mod operation_definition;
-mod place;
 mod root_operation;
 mod scalar_type;
 mod schema;
@@ -39,7 +39,7 @@ mod value;
 mod variable_definition;
 mod write;
 
-pub use crate::place::NodePlace;
+pub use crate::context::NodeContext;
 pub use crate::text::{
     AsAstJson, WriteAstJson, WriteAstNode, send_ast_json, to_ast_json_text,
     to_ast_json_text_by_value,

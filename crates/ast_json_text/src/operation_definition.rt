@@ -1,6 +1,6 @@
 //! Operations as the text of their AST JSON.
+use crate::context::NodeContext;
 use crate::form::SelectionSetForm;
-use crate::place::NodePlace;
 use crate::text::WriteAstNode;
 use crate::write::{
     write_directives, write_leading, write_location, write_member, write_optional,
@@ -19,7 +19,7 @@ fn some_are_described(variables: &[Node<VariableDefinition>]) -> bool {
 }
 
 impl WriteAstNode for OperationDefinition {
-    fn write_ast_node<O: Target>(&self, out: &mut O, place: NodePlace) {
+    fn write_ast_node<O: Target>(&self, out: &mut O, context: NodeContext) {
         let OperationDefinition {
             description,
             operation_type,
@@ -32,7 +32,7 @@ impl WriteAstNode for OperationDefinition {
         write_leading::<NodeStr, O>(out, "\"description\":", description);
         write_directives(out, "\"directives\":", directives);
         out.text(",\"kind\":\"OperationDefinition\"");
-        write_location(out, place.location);
+        write_location(out, context.location);
         write_optional::<Name, O>(out, ",\"name\":", name);
         write_text(out, ",\"operation\":", operation_type.name());
         write_member::<SelectionSetForm, O>(out, ",\"selectionSet\":", selection_set);

@@ -1,5 +1,5 @@
 //! Schemas as the text of their AST JSON.
-use crate::place::NodePlace;
+use crate::context::NodeContext;
 use crate::text::WriteAstNode;
 use crate::write::{write_directives, write_leading, write_list, write_location};
 use graphql_ast::ast::{NamedType, OperationType, SchemaDefinition, SchemaExtension};
@@ -7,7 +7,7 @@ use graphql_base::node::{Node, NodeStr};
 use graphql_text::writers::Target;
 
 impl WriteAstNode for SchemaDefinition {
-    fn write_ast_node<O: Target>(&self, out: &mut O, place: NodePlace) {
+    fn write_ast_node<O: Target>(&self, out: &mut O, context: NodeContext) {
         let SchemaDefinition {
             description,
             directives,
@@ -17,7 +17,7 @@ impl WriteAstNode for SchemaDefinition {
         write_leading::<NodeStr, O>(out, "\"description\":", description);
         write_directives(out, "\"directives\":", directives);
         out.text(",\"kind\":\"SchemaDefinition\"");
-        write_location(out, place.location);
+        write_location(out, context.location);
         write_list::<Node<(OperationType, NamedType)>, O>(
             out,
             ",\"operationTypes\":",
@@ -28,14 +28,14 @@ impl WriteAstNode for SchemaDefinition {
 }
 
 impl WriteAstNode for SchemaExtension {
-    fn write_ast_node<O: Target>(&self, out: &mut O, place: NodePlace) {
+    fn write_ast_node<O: Target>(&self, out: &mut O, context: NodeContext) {
         let SchemaExtension {
             directives,
             root_operations,
         } = self;
         write_directives(out, "{\"directives\":", directives);
         out.text(",\"kind\":\"SchemaExtension\"");
-        write_location(out, place.location);
+        write_location(out, context.location);
         write_list::<Node<(OperationType, NamedType)>, O>(
             out,
             ",\"operationTypes\":",

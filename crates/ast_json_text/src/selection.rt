@@ -10,8 +10,8 @@ ghost use Rattle.graphql_ast_json.specs.kinds.ExecutableJson.{AreSelections, IsF
 ghost use Rattle.json_text.specs.Texts.{WritesJson};
 ghost use Rattle.ast_json_text.specs.Members.{WritesOptional};
 
+use crate::context::NodeContext;
 use crate::form::NamedTypeForm;
-use crate::place::NodePlace;
 use crate::text::{WriteAstJson, WriteAstNode};
 use crate::write::{
     write_directives, write_leading, write_list, write_location, write_member, write_optional,
@@ -127,13 +127,13 @@ impl WriteAstJson for Selection {
 }
 
 impl WriteAstNode for Field {
-    fn write_ast_node<O: Target>(&self, out: &mut O, place: NodePlace) {
-        write_field(out, place.location, self);
+    fn write_ast_node<O: Target>(&self, out: &mut O, context: NodeContext) {
+        write_field(out, context.location, self);
     }
 }
 
 impl WriteAstNode for InlineFragment {
-    fn write_ast_node<O: Target>(&self, out: &mut O, place: NodePlace) {
-        write_inline_fragment(out, place.location, self);
+    fn write_ast_node<O: Target>(&self, out: &mut O, context: NodeContext) {
+        write_inline_fragment(out, context.location, self);
     }
 }

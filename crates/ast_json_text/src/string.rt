@@ -8,16 +8,16 @@ ghost use Rattle.ast_json_nodes.specs.nodes.Nodes.{IsStringValue, member_of};
 ghost use Rattle.json_text.specs.Texts.{WritesJson};
 ghost use Rattle.ast_json_text.specs.Members.{WritesOptional};
 
-use crate::place::NodePlace;
+use crate::context::NodeContext;
 use crate::text::WriteAstJson;
 use crate::write::{write_location, write_text};
 use graphql_base::node::NodeStr;
 use graphql_base::span::SourceSpan;
 use graphql_text::writers::{Target, can_be_block};
 
-/// Whether the default layout prints the value of this text, which stands at this place, as a block string.
-pub(crate) fn is_block_value(place: NodePlace, text: &str) -> bool {
-    !place.is_on_one_line && text.as_bytes().contains(&b'\n') && can_be_block(text)
+/// Whether the default layout prints the value of this text, which stands in this context, as a block string.
+pub(crate) fn is_block_value(context: NodeContext, text: &str) -> bool {
+    !context.is_on_one_line && text.as_bytes().contains(&b'\n') && can_be_block(text)
 }
 
 /// Writes that a string is a block string, where it is one, before the members that are always there.

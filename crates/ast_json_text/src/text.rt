@@ -7,7 +7,7 @@ ghost use Rattle.ast_json_nodes.specs.declared.read.Unknown.{Unknown};
 ghost use Rattle.json_text.specs.Texts.{WritesJson};
 ghost use Rattle.ast_json_text.specs.AstJsonTexts.{IsAstJsonText, IsValueText};
 
-use crate::place::NodePlace;
+use crate::context::NodeContext;
 use graphql_ast_json::{AstJson, AstNode};
 use graphql_base::node::Node;
 use graphql_text::engine::{WriteText, send_text, text_of};
@@ -34,15 +34,15 @@ pub trait WriteAstJson: AstJson {
 /// A kind of which each tree is written as one node.
 pub trait WriteAstNode: AstNode {
     /// Writes the tree as a node.
-    fn write_ast_node<O: Target>(&self, out: &mut O, place: NodePlace)
+    fn write_ast_node<O: Target>(&self, out: &mut O, context: NodeContext)
         ensures { WritesJson O.wrote out.old out.new (λ json.
             ((unknown : Unknown) → Self.is_node unknown (Self.tree self.now) json)
-            × StandsAt place.location json) };
+            × StandsAt context.location json) };
 }
 
 impl<T: WriteAstNode> WriteAstJson for T {
     fn write_ast_json<O: Target>(&self, out: &mut O) {
-        self.write_ast_node(out, NodePlace::new(None));
+        self.write_ast_node(out, NodeContext::new(None));
     }
 }
 
@@ -50,7 +50,7 @@ impl<T: WriteAstNode + Drop> WriteAstJson for Node<T> {
     /// The node, at its location if it has one.
     fn write_ast_json<O: Target>(&self, out: &mut O) {
         self.as_ref()
-            .write_ast_node(out, NodePlace::new(self.location()));
+            .write_ast_node(out, NodeContext::new(self.location()));
     }
 }
 

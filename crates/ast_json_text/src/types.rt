@@ -7,7 +7,7 @@ ghost use Rattle.ast_json_nodes.specs.declared.read.Unknown.{Unknown};
 ghost use Rattle.graphql_ast_json.specs.kinds.TypeJson.{IsNamedType, IsTypeAround, IsTypeReference};
 ghost use Rattle.json_text.specs.Texts.{WritesJson};
 
-use crate::place::NodePlace;
+use crate::context::NodeContext;
 use crate::text::WriteAstNode;
 use crate::write::{write_location, write_member};
 use graphql_ast::ast::{NamedType, Type};
@@ -73,7 +73,7 @@ pub(crate) fn write_named_type<O: Target>(
 }
 
 impl WriteAstNode for Type {
-    fn write_ast_node<O: Target>(&self, out: &mut O, place: NodePlace) {
-        write_type(out, place.location, self);
+    fn write_ast_node<O: Target>(&self, out: &mut O, context: NodeContext) {
+        write_type(out, context.location, self);
     }
 }

@@ -1,6 +1,6 @@
 //! Union types as the text of their AST JSON.
+use crate::context::NodeContext;
 use crate::form::NamedTypeForm;
-use crate::place::NodePlace;
 use crate::text::WriteAstNode;
 use crate::write::{write_directives, write_leading, write_list, write_location, write_member};
 use graphql_ast::ast::{UnionTypeDefinition, UnionTypeExtension};
@@ -9,7 +9,7 @@ use graphql_base::node::NodeStr;
 use graphql_text::writers::Target;
 
 impl WriteAstNode for UnionTypeDefinition {
-    fn write_ast_node<O: Target>(&self, out: &mut O, place: NodePlace) {
+    fn write_ast_node<O: Target>(&self, out: &mut O, context: NodeContext) {
         let UnionTypeDefinition {
             description,
             name,
@@ -20,7 +20,7 @@ impl WriteAstNode for UnionTypeDefinition {
         write_leading::<NodeStr, O>(out, "\"description\":", description);
         write_directives(out, "\"directives\":", directives);
         out.text(",\"kind\":\"UnionTypeDefinition\"");
-        write_location(out, place.location);
+        write_location(out, context.location);
         write_member::<Name, O>(out, ",\"name\":", name);
         write_list::<NamedTypeForm, O>(out, ",\"types\":", members);
         out.text("}");
@@ -28,7 +28,7 @@ impl WriteAstNode for UnionTypeDefinition {
 }
 
 impl WriteAstNode for UnionTypeExtension {
-    fn write_ast_node<O: Target>(&self, out: &mut O, place: NodePlace) {
+    fn write_ast_node<O: Target>(&self, out: &mut O, context: NodeContext) {
         let UnionTypeExtension {
             name,
             directives,
@@ -36,7 +36,7 @@ impl WriteAstNode for UnionTypeExtension {
         } = self;
         write_directives(out, "{\"directives\":", directives);
         out.text(",\"kind\":\"UnionTypeExtension\"");
-        write_location(out, place.location);
+        write_location(out, context.location);
         write_member::<Name, O>(out, ",\"name\":", name);
         write_list::<NamedTypeForm, O>(out, ",\"types\":", members);
         out.text("}");

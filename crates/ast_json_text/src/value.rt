@@ -10,7 +10,7 @@ ghost use Rattle.ast_json_nodes.specs.declared.read.Unknown.{Unknown};
 ghost use Rattle.graphql_ast_json.specs.kinds.ValueJson.{AreObjectFields, AreValues, IsValue};
 ghost use Rattle.json_text.specs.Texts.{WritesJson};
 
-use crate::place::NodePlace;
+use crate::context::NodeContext;
 use crate::string::{is_block_value, write_string_node};
 use crate::text::WriteAstNode;
 use crate::write::{write_boolean, write_location, write_member, write_text};
@@ -52,61 +52,66 @@ pub(crate) fn write_variable<O: Target>(out: &mut O, location: Option<SourceSpan
 
 /// Writes the value as a node. The names and the nodes in it have their own locations.
 #[cycle(value)]
-pub(crate) fn write_value<O: Target>(out: &mut O, place: NodePlace, value: &Value)
+pub(crate) fn write_value<O: Target>(out: &mut O, context: NodeContext, value: &Value)
     ensures { WritesJson O.wrote out.old out.new (λ json.
         ((unknown : Unknown) → IsValue unknown (value_tree value.now) json)
-        × StandsAt place.location json) }
+        × StandsAt context.location json) }
 {
     match value {
-        Value::List(items) => write_list_value(out, place, items.as_slice()),
-        Value::Object(fields) => write_object_value(out, place, fields.as_slice()),
-        Value::Null => write_null(out, place.location),
+        Value::List(items) => write_list_value(out, context, items.as_slice()),
+        Value::Object(fields) => write_object_value(out, context, fields.as_slice()),
+        Value::Null => write_null(out, context.location),
         Value::Enum(name) => {
             write_text_node(
                 out,
                 "{\"kind\":\"EnumValue\"",
-                place.location,
+                context.location,
                 name.as_str(),
             );
         }
-        Value::Variable(name) => write_variable(out, place.location, name),
+        Value::Variable(name) => write_variable(out, context.location, name),
         Value::String(text) => {
             let characters = text.as_str();
-            let is_block = is_block_value(place, characters);
-            write_string_node(out, place.location, characters, is_block);
+            let is_block = is_block_value(context, characters);
+            write_string_node(out, context.location, characters, is_block);
         }
         Value::Float(float) => {
             write_text_node(
                 out,
                 "{\"kind\":\"FloatValue\"",
-                place.location,
+                context.location,
                 float.as_str(),
             );
         }
         Value::Int(int) => {
-            write_text_node(out, "{\"kind\":\"IntValue\"", place.location, int.as_str());
+            write_text_node(
+                out,
+                "{\"kind\":\"IntValue\"",
+                context.location,
+                int.as_str(),
+            );
         }
-        Value::Boolean(is_true) => write_boolean_value(out, place.location, *is_true),
+        Value::Boolean(is_true) => write_boolean_value(out, context.location, *is_true),
     }
 }
 
 /// Writes a list of these values.
 #[cycle(value)]
-fn write_list_value<O: Target>(out: &mut O, place: NodePlace, items: &[Node<Value>])
+fn write_list_value<O: Target>(out: &mut O, context: NodeContext, items: &[Node<Value>])
     ensures { WritesJson O.wrote out.old out.new (λ json.
         ((unknown : Unknown) → IsValue unknown (list_value (value_trees items.now)) json)
-        × StandsAt place.location json) }
+        × StandsAt context.location json) }
 {
     out.text("{\"kind\":\"ListValue\"");
-    write_location(out, place.location);
+    write_location(out, context.location);
     out.text(",\"values\":");
-    write_items(out, place, items);
+    write_items(out, context, items);
     out.text("}");
 }
 
 /// Writes an array of these values.
 #[cycle(value)]
-fn write_items<O: Target>(out: &mut O, place: NodePlace, items: &[Node<Value>])
+fn write_items<O: Target>(out: &mut O, context: NodeContext, items: &[Node<Value>])
     ensures { WritesJson O.wrote out.old out.new (λ json. (unknown : Unknown)
         → IsSomeAnd (as_array json) (AreValues unknown (value_trees items.now))) }
 {
@@ -114,7 +119,7 @@ fn write_items<O: Target>(out: &mut O, place: NodePlace, items: &[Node<Value>])
     let mut is_behind = false;
     for item in items {
         write_comma(out, is_behind);
-        write_value(out, place.inner(item.location()), item);
+        write_value(out, context.inner(item.location()), item);
         is_behind = true;
     }
     out.text("]");
@@ -122,21 +127,21 @@ fn write_items<O: Target>(out: &mut O, place: NodePlace, items: &[Node<Value>])
 
 /// Writes an object of these fields.
 #[cycle(value)]
-fn write_object_value<O: Target>(out: &mut O, place: NodePlace, fields: &[(Name, Node<Value>)])
+fn write_object_value<O: Target>(out: &mut O, context: NodeContext, fields: &[(Name, Node<Value>)])
     ensures { WritesJson O.wrote out.old out.new (λ json.
         ((unknown : Unknown) → IsValue unknown (object_value (object_field_trees fields.now)) json)
-        × StandsAt place.location json) }
+        × StandsAt context.location json) }
 {
     out.text("{\"fields\":");
-    write_fields(out, place, fields);
+    write_fields(out, context, fields);
     out.text(",\"kind\":\"ObjectValue\"");
-    write_location(out, place.location);
+    write_location(out, context.location);
     out.text("}");
 }
 
 /// Writes an array of these fields, which have no location of their own.
 #[cycle(value)]
-fn write_fields<O: Target>(out: &mut O, place: NodePlace, fields: &[(Name, Node<Value>)])
+fn write_fields<O: Target>(out: &mut O, context: NodeContext, fields: &[(Name, Node<Value>)])
     ensures { WritesJson O.wrote out.old out.new (λ json. (unknown : Unknown)
         → IsSomeAnd (as_array json) (AreObjectFields unknown (object_field_trees fields.now))) }
 {
@@ -146,7 +151,7 @@ fn write_fields<O: Target>(out: &mut O, place: NodePlace, fields: &[(Name, Node<
         write_comma(out, is_behind);
         write_member::<Name, O>(out, "{\"kind\":\"ObjectField\",\"name\":", &field.0);
         out.text(",\"value\":");
-        write_value(out, place.inner(field.1.location()), &field.1);
+        write_value(out, context.inner(field.1.location()), &field.1);
         out.text("}");
         is_behind = true;
     }
@@ -176,7 +181,7 @@ fn write_boolean_value<O: Target>(out: &mut O, location: Option<SourceSpan>, is_
 }
 
 impl WriteAstNode for Value {
-    fn write_ast_node<O: Target>(&self, out: &mut O, place: NodePlace) {
-        write_value(out, place, self);
+    fn write_ast_node<O: Target>(&self, out: &mut O, context: NodeContext) {
+        write_value(out, context, self);
     }
 }

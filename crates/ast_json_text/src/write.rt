@@ -14,8 +14,8 @@ ghost use Rattle.graphql_ast_json.specs.kinds.ValueJson.{IsValue};
 ghost use Rattle.json_text.specs.Texts.{WritesJson, optional_text};
 ghost use Rattle.ast_json_text.specs.Members.{WritesMember, WritesOptional};
 
+use crate::context::NodeContext;
 use crate::form::{OnOneLine, WriteForm};
-use crate::place::NodePlace;
 use crate::text::WriteAstNode;
 use graphql_ast::ast::{Directive, DirectiveList, Value};
 use graphql_base::node::Node;
@@ -70,14 +70,14 @@ pub(crate) fn write_leading<F: WriteForm, O: Target>(
 /// it prints the node so.
 pub(crate) fn write_default_value<O: Target>(
     out: &mut O,
-    place: NodePlace,
+    context: NodeContext,
     value: &Option<Node<Value>>,
 )
     ensures { WritesOptional O.wrote out.old (codes "\"defaultValue\":") (codes ",") out.new
         (λ json. (unknown : Unknown) → IsOptional (IsValue unknown)
         (option_map (λ node. value_tree (node_value node)) value.now) json) }
 {
-    if place.is_on_one_line {
+    if context.is_on_one_line {
         write_leading::<OnOneLine<Value>, O>(out, "\"defaultValue\":", value);
     } else {
         write_leading::<Node<Value>, O>(out, "\"defaultValue\":", value);

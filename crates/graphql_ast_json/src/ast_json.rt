@@ -29,8 +29,9 @@ use std::alloc::{AllocError, Global};
 /// a location `loc`.
 ///
 /// A member that is null is the same as none, and of two members of one name the last counts. An optional list may be left
-/// out where it is empty. What is missing is
-/// refused: nothing is guessed. So is what no node of the kind has, unless the reading passes over it.
+/// out where it is empty. What is missing is refused: nothing is guessed. So is what no node of the kind has, unless the
+/// reading passes over it. The offsets of a `loc` are the numbers that stand there, in the unit of who wrote it: graphql-js
+/// counts UTF-16 code units. `Offsets` finds the bytes.
 ///
 /// ```
 /// let json = serde_json::Value::from_str(alloc, "{\"kind\":\"IntValue\",\"value\":\"4\"}")?;

@@ -1,14 +1,15 @@
 //! Forms of AST JSON that values are read from and written in.
-ghost use Rattle.std.specs.Prelude.{IfOk, IfErr};
+ghost use Rattle.std.specs.Prelude.{IfOk, IfErr, None};
 ghost use Rattle.serde_json.specs.Data.{Data};
 ghost use Rattle.serde_json.specs.View.{view};
-ghost use Rattle.graphql_base.specs.Node.{node_value};
+ghost use Rattle.graphql_base.specs.Node.{node_location, node_value};
 ghost use Rattle.graphql_text.specs.trees.Leaves.{name_tree};
 ghost use Rattle.graphql_text.specs.lexical.Literals.{NameText};
 ghost use Rattle.graphql_executable.specs.trees.ExecutableTrees.{selection_trees};
 ghost use Rattle.graphql_executable.specs.kinds.Selections.{SelectionTrees};
 ghost use Rattle.ast_json_nodes.specs.code.Errors.{IsMemory};
 ghost use Rattle.ast_json_nodes.specs.code.JsonNodes.{IsFromNone, IsReadFrom};
+ghost use Rattle.ast_json_nodes.specs.code.NodeReading.{StandsAt};
 ghost use Rattle.ast_json_nodes.specs.declared.read.Unknown.{Unknown};
 ghost use Rattle.graphql_ast_json.specs.kinds.ExecutableJson.{IsSelectionSet, IsVariable};
 ghost use Rattle.graphql_ast_json.specs.kinds.TypeJson.{IsNamedType};
@@ -45,13 +46,17 @@ pub trait Form {
 
     ghost is_json_of: { Unknown → Tree → Data → Type 0 };
 
+    /// Whether a value is written where the JSON tells.
+    ghost stands: { Self.Value → Data → Type 0 };
+
     fn read(node: JsonNode<'_, '_>) -> Result<Self::Value, AstJsonError>
         ensures ok { IfOk result (λ value. IsReadFrom is_json_of node.entry (tree value)) }
         ensures err { IfErr result (λ error. ¬ IsMemory error → IsFromNone is_json_of node.entry) };
 
     fn write(alloc: Global, value: &Self::Value) -> Result<Json, AllocError>
-        ensures { IfOk result (λ json. (unknown : Unknown)
-            → is_json_of unknown (tree value.now) (view json)) };
+        ensures ok { IfOk result (λ json. (unknown : Unknown)
+            → is_json_of unknown (tree value.now) (view json)) }
+        ensures stands { IfOk result (λ json. stands value.now (view json)) };
 
     ghost laws: { JsonLaws is_json_of };
 }
@@ -64,6 +69,8 @@ impl<T: AstJson + Drop> Form for T {
     ghost tree = { T.tree };
 
     ghost is_json_of = { T.is_json_of };
+
+    ghost stands = { T.stands };
 
     ghost laws = { T.laws };
 
@@ -90,6 +97,8 @@ impl<T: AstNode + Drop> Form for OnOneLine<T> {
 
     ghost is_json_of = { T.is_node };
 
+    ghost stands = { λ node. StandsAt (node_location node) };
+
     ghost laws = { json_laws T.laws };
 
     fn read(node: JsonNode<'_, '_>) -> Result<Node<T>, AstJsonError> {
@@ -115,6 +124,8 @@ impl Form for NamedTypeForm {
 
     ghost is_json_of = { IsNamedType };
 
+    ghost stands = { λ _. StandsAt None };
+
     ghost laws = { json_laws named_type_laws };
 
     fn read(node: JsonNode<'_, '_>) -> Result<NamedType, AstJsonError> {
@@ -139,6 +150,8 @@ impl Form for VariableForm {
 
     ghost is_json_of = { IsVariable };
 
+    ghost stands = { λ _. StandsAt None };
+
     ghost laws = { json_laws variable_laws };
 
     fn read(node: JsonNode<'_, '_>) -> Result<Name, AstJsonError> {
@@ -162,6 +175,8 @@ impl Form for SelectionSetForm {
     ghost tree = { λ selections. selection_trees selections.items };
 
     ghost is_json_of = { IsSelectionSet };
+
+    ghost stands = { λ _. StandsAt None };
 
     ghost laws = { json_laws selection_set_laws };
 

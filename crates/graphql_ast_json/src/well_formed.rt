@@ -20,7 +20,7 @@ use graphql_text::engine::SyntaxTree;
 use graphql_text::ill_formed::{IllFormed, SideCondition};
 use json::Scratch;
 use parsed_json::parse_json;
-use search::position_of;
+use search::path_of;
 use std::alloc::{AllocError, Global};
 use std::fmt::{self, Display, Formatter, Write};
 use thiserror::Error;
@@ -85,10 +85,10 @@ pub enum WellFormedError {
     /// No tree was made of it, well formed or not.
     #[error("{0}")]
     NotRead(AstJsonError),
-    /// The JSON is of a tree that isn't well formed. The first of its flaws in the order of print is at this position,
+    /// The JSON is of a tree that isn't well formed. The first of its flaws in the order of print is at this path,
     /// in a node that tells this location.
     ///
-    /// The position is that of what is told of the condition: of the node, as of an empty selection set, or of the text
+    /// The path is that of what is told of the condition: of the node, as of an empty selection set, or of the text
     /// of a name.
     #[error("at {path}{location}: {broken}")]
     IllFormed {
@@ -169,10 +169,10 @@ pub fn read_well_formed_json<T: AstJson + SyntaxTree + Drop>(
         None => Ok(tree),
         Some(found) => {
             let broken = BrokenCondition::of(&found)?;
-            let position = position_of(node, found.condition)?;
+            let flawed = path_of(node, found.condition)?;
             Err(WellFormedError::IllFormed {
-                path: position.path,
-                location: NodeLocation(position.location),
+                path: flawed.path,
+                location: NodeLocation(flawed.location),
                 broken,
             })
         }

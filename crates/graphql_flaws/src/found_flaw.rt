@@ -16,7 +16,7 @@ pub enum PathStep {
     Item(usize),
 }
 
-/// Where in a tree a flaw is, as a position within its AST JSON: `definitions[0].values[1].name.value`.
+/// Where in a tree a flaw is, as a path within its AST JSON: `definitions[0].values[1].name.value`.
 ///
 /// It leads to what is told of the side condition: to a node, as to a variable or an extension, to a selection set without
 /// a selection, or to the text of a name. The tree itself is the path without steps. `Display` writes the names between

@@ -7,9 +7,7 @@ ghost use Rattle.graphql_values.specs.kinds.Values.{admits_variables};
 ///
 /// ```
 /// let value = value!(in alloc; [$first])?;
-/// if let Some(flaw) = find_ill_formed_value(&value, Constness::Const) {
-///     println!(rt; "{flaw}")?; // a variable where only constants may stand: `first`
-/// }
+/// let is_constant = is_value_well_formed(&value, Constness::Const); // false: a variable stands in it
 /// ```
 #[derive(Clone, Copy, Debug, PartialEq, Eq)]
 pub enum Constness {

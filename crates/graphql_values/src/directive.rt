@@ -140,7 +140,7 @@ impl Directive {
         Directive { name, arguments }
     }
 
-    fn specified_argument_position(&self, name: &str) -> Option<usize>
+    fn specified_argument_index(&self, name: &str) -> Option<usize>
         ensures index { result ≡ position (is_argument_named name.now) self.now.arguments.items }
         ensures within { IfSome result (λ index. index < length self.now.arguments.items) }
     {
@@ -154,7 +154,7 @@ impl Directive {
         ensures { option_copied result
             ≡ option_map argument_value (first_argument_named name.now self.now.arguments.items) }
     {
-        let index = self.specified_argument_position(name)?;
+        let index = self.specified_argument_index(name)?;
         Some(&self.arguments[index].value)
     }
 
@@ -219,7 +219,7 @@ impl Directive {
         ensures not_specified { IsErrOf result SpecifiedArgumentError.NotSpecified
             ↔ (first_argument_named name.now self.old.arguments.items ≡ None) }
     {
-        match self.specified_argument_position(name) {
+        match self.specified_argument_index(name) {
             Some(index) => self.value_at(index),
             None => Err(SpecifiedArgumentError::NotSpecified),
         }

@@ -66,11 +66,11 @@ impl DirectiveDefinition {
         ensures { option_copied result
             ≡ first_input_value_definition_named name.now self.now.arguments.items }
     {
-        let index = self.argument_position(name)?;
+        let index = self.argument_index(name)?;
         Some(&self.arguments[index])
     }
 
-    fn argument_position(&self, name: &str) -> Option<usize>
+    fn argument_index(&self, name: &str) -> Option<usize>
         ensures index { result
             ≡ position (is_input_value_definition_named name.now) self.now.arguments.items }
         ensures within { IfSome result (λ index. index < length self.now.arguments.items) }
@@ -87,7 +87,7 @@ impl DirectiveDefinition {
         ensures value { option_copied_mut result
             ≡ first_input_value_definition_named name.now self.old.arguments.items }
     {
-        match self.argument_position(name) {
+        match self.argument_index(name) {
             Some(index) => Some(&mut self.arguments[index]),
             None => None,
         }

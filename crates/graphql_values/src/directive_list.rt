@@ -83,7 +83,7 @@ impl DirectiveList {
     pub fn get(&self, name: &str) -> Option<&Node<Directive>>
         ensures { option_copied result ≡ first_directive_named name.now self.now.0.items }
     {
-        let index = first_position(&self.0, name)?;
+        let index = first_index(&self.0, name)?;
         Some(&self.0[index])
     }
 
@@ -114,7 +114,7 @@ impl DirectiveList {
         if from > self.0.len() {
             return None;
         }
-        match first_position(&self.0[from..], name) {
+        match first_index(&self.0[from..], name) {
             Some(index) => Some(from + index),
             None => None,
         }
@@ -158,7 +158,7 @@ impl DirectiveList {
 }
 
 /// The index of the first directive of that name.
-fn first_position(directives: &[Node<Directive>], name: &str) -> Option<usize>
+fn first_index(directives: &[Node<Directive>], name: &str) -> Option<usize>
     ensures index { result ≡ position (is_directive_named name.now) directives.now }
     ensures within { IfSome result (λ index. index < length directives.now) }
 {

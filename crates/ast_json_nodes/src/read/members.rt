@@ -92,7 +92,7 @@ impl<'j, 't> JsonNode<'j, 't> {
         self.problem(AstJsonProblem::WrongType { found, wanted })
     }
 
-    /// The error, told from this node, which has the position in this member.
+    /// The error, told from this node, which has the path in this member.
     #[doc(hidden)]
     pub fn within(self, name: &str, error: AstJsonError) -> AstJsonError
         ensures memory { IsMemory error → IsMemory result }

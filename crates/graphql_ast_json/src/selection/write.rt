@@ -1,5 +1,5 @@
 //! Selections and their sets are written.
-ghost use Rattle.std.specs.Prelude.{IfOk, IsSomeAnd, MatchOption, option_map};
+ghost use Rattle.std.specs.Prelude.{IfOk, IsSomeAnd, MatchOption, None, option_map};
 ghost use Rattle.serde_json.specs.Data.{no_items};
 ghost use Rattle.serde_json.specs.Find.{as_array};
 ghost use Rattle.serde_json.specs.View.{view};
@@ -89,8 +89,9 @@ pub(crate) fn write_selection_set(
     alloc: Global,
     selections: &[Selection],
 ) -> Result<Json, AllocError>
-    ensures { IfOk result (λ json. (unknown : Unknown)
+    ensures ok { IfOk result (λ json. (unknown : Unknown)
         → IsSelectionSet unknown (selection_trees selections.now) (view json)) }
+    ensures stands { IfOk result (λ json. StandsAt None (view json)) }
 {
     let list = write_selections(alloc, selections)?;
     NodeWriter::new(alloc, None).with_member("SelectionSet", "selections", list)

@@ -17,33 +17,33 @@ use std::alloc::{AllocError, Global};
 /// The words that no enum value may be.
 const RESERVED: [&str; 3] = ["true", "false", "null"];
 
-/// A position within JSON, and where the innermost node stands that has it and tells its location.
+/// A path within JSON, and where the innermost node stands that has it and tells its location.
 #[derive(Drop)]
-pub(crate) struct Position {
+pub(crate) struct FoundPath {
     pub path: JsonPath,
     pub location: Option<SourceSpan>,
 }
 
-impl Position {
+impl FoundPath {
     /// The node itself.
-    fn of(node: JsonNode<'_, '_>) -> Position {
-        Position {
+    fn of(node: JsonNode<'_, '_>) -> FoundPath {
+        FoundPath {
             path: JsonPath::root(node.alloc),
             location: node.told_location(),
         }
     }
 
-    /// The same position, told from the node that has it in this member.
-    fn in_member(self, node: JsonNode<'_, '_>, name: &str) -> Result<Position, AllocError> {
-        Ok(Position {
+    /// The same path, told from the node that has it in this member.
+    fn in_member(self, node: JsonNode<'_, '_>, name: &str) -> Result<FoundPath, AllocError> {
+        Ok(FoundPath {
             path: self.path.in_member(node.alloc, name)?,
             location: self.location.or(node.told_location()),
         })
     }
 
-    /// The same position, told from the array that has it in this item.
-    fn in_item(self, alloc: Global, index: usize) -> Result<Position, AllocError> {
-        Ok(Position {
+    /// The same path, told from the array that has it in this item.
+    fn in_item(self, alloc: Global, index: usize) -> Result<FoundPath, AllocError> {
+        Ok(FoundPath {
             path: self.path.in_item(alloc, index)?,
             location: self.location,
         })
@@ -165,89 +165,89 @@ impl<'j, 't> Search<'j, 't> {
         if is_broken { Some(part) } else { None }
     }
 
-    /// The position of what breaks the condition in a node of this kind, without its parts.
+    /// The path to what breaks the condition in a node of this kind, without its parts.
     #[inline(never)]
     fn at_node(
         &self,
         json: AnyJson<'j, 't>,
         kind: &str,
         is_constant: bool,
-    ) -> Result<Option<Position>, AllocError> {
+    ) -> Result<Option<FoundPath>, AllocError> {
         match self.broken_part(json, kind, is_constant) {
-            Some((name, part)) => self.in_member(Position::of(self.node(part)), json, name),
+            Some((name, part)) => self.in_member(FoundPath::of(self.node(part)), json, name),
             None => Ok(None),
         }
     }
 
-    /// The same position, told from the node that has it in this member.
+    /// The same path, told from the node that has it in this member.
     #[inline(never)]
     fn in_member(
         &self,
-        position: Position,
+        found: FoundPath,
         json: AnyJson<'j, 't>,
         name: &str,
-    ) -> Result<Option<Position>, AllocError> {
-        Ok(Some(position.in_member(self.node(json), name)?))
+    ) -> Result<Option<FoundPath>, AllocError> {
+        Ok(Some(found.in_member(self.node(json), name)?))
     }
 
-    /// The same position, told from the array that has it in this item.
+    /// The same path, told from the array that has it in this item.
     #[inline(never)]
-    fn in_item(&self, position: Position, index: usize) -> Result<Option<Position>, AllocError> {
-        Ok(Some(position.in_item(self.root.alloc, index)?))
+    fn in_item(&self, found: FoundPath, index: usize) -> Result<Option<FoundPath>, AllocError> {
+        Ok(Some(found.in_item(self.root.alloc, index)?))
     }
 
-    /// The position in this node.
+    /// The path in this node.
     #[cycle(search)]
     fn in_node(
         &self,
         json: AnyJson<'j, 't>,
         is_constant: bool,
-    ) -> Result<Option<Position>, AllocError> {
+    ) -> Result<Option<FoundPath>, AllocError> {
         let kind = self.node(json).kind();
-        if let Some(position) = self.at_node(json, kind, is_constant)? {
-            return Ok(Some(position));
+        if let Some(found) = self.at_node(json, kind, is_constant)? {
+            return Ok(Some(found));
         }
         let is_constant = is_constant_in(kind, is_constant);
         for name in parts_of(kind) {
             if let Some(part) = find_member(json, name) {
-                if let Some(position) = self.find(part, is_constant)? {
-                    return self.in_member(position, json, name);
+                if let Some(found) = self.find(part, is_constant)? {
+                    return self.in_member(found, json, name);
                 }
             }
         }
         Ok(None)
     }
 
-    /// The position in this node, or in the nodes of this array.
+    /// The path in this node, or in the nodes of this array.
     #[cycle(search)]
     fn find(
         &self,
         json: AnyJson<'j, 't>,
         is_constant: bool,
-    ) -> Result<Option<Position>, AllocError> {
+    ) -> Result<Option<FoundPath>, AllocError> {
         let Some(items) = json.as_items() else {
             return self.in_node(json, is_constant);
         };
         for index in 0..items.len() {
-            if let Some(position) = self.in_node(items.at(index), is_constant)? {
-                return self.in_item(position, index);
+            if let Some(found) = self.in_node(items.at(index), is_constant)? {
+                return self.in_item(found, index);
             }
         }
         Ok(None)
     }
 }
 
-/// The position of the first flaw of the tree that a node is of, which breaks this condition.
-pub(crate) fn position_of(
+/// The path to the first flaw of the tree that a node is of, which breaks this condition.
+pub(crate) fn path_of(
     node: JsonNode<'_, '_>,
     condition: SideCondition,
-) -> Result<Position, AllocError> {
+) -> Result<FoundPath, AllocError> {
     let search = Search {
         root: node,
         condition,
     };
     match search.find(node.json, false)? {
-        Some(position) => Ok(position),
-        None => Ok(Position::of(node)),
+        Some(found) => Ok(found),
+        None => Ok(FoundPath::of(node)),
     }
 }

@@ -156,7 +156,8 @@ impl<'t> Written<'t, Stack<ValueEntry<'t>>> for DirectiveList {
         place: &Place<'_>,
         stack: &mut Stack<ValueEntry<'t>>,
     ) {
-        write_directives(out, place, stack, &self.0);
+        let DirectiveList(nodes) = self;
+        write_directives(out, place, stack, nodes);
     }
 }
 

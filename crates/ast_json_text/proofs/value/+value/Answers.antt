@@ -60,7 +60,7 @@ unfolding escape_byte
 write_list_value-returns g t c =
     let more = g.met.O.Target.more in
     let location = c.write_location.ensures in
-    let at = option_map location_json c.args.place.location in
+    let at = option_map location_json c.args.context.location in
     let made = c.write_items.ensures in
     let values : WritesMember g.O.Target.wrote c.write_location.new.out (codes ",\"values\":") c.write_items.new.out
     (λ json. (unknown : Unknown) → IsSomeAnd (as_array json) (AreValues unknown (value_trees c.args.items.now))) = record {
@@ -75,13 +75,13 @@ write_list_value-returns g t c =
       text =
           ended more (next more (codes "values") values.json (behind more (codes "loc") at
           (opened more (codes "kind") (string (codes "ListValue")) c.text.ensures) location.text) values.text) c.text-3.ensures;
-      plain = plain_object entries refl (plain_string, (plain_location c.args.place.location location.reach, (values.plain, tt)));
+      plain = plain_object entries refl (plain_string, (plain_location c.args.context.location location.reach, (values.plain, tt)));
       is = (
         λ unknown. (
-          is_node unknown (codes "ListValue") (codes "values" ∷ []) entries _ refl refl refl refl (located unknown c.args.place.location location.reach),
+          is_node unknown (codes "ListValue") (codes "values" ∷ []) entries _ refl refl refl refl (located unknown c.args.context.location location.reach),
           list_is entries (codes "values") values refl refl unknown,
         ),
-        stands_at entries c.args.place.location location.reach refl refl,
+        stands_at entries c.args.context.location location.reach refl refl,
       );
     }
 
@@ -142,7 +142,7 @@ unfolding escape_byte
 write_object_value-returns g t c =
     let more = g.met.O.Target.more in
     let location = c.write_location.ensures in
-    let at = option_map location_json c.args.place.location in
+    let at = option_map location_json c.args.context.location in
     let made = c.write_fields.ensures in
     let fields : WritesMember g.O.Target.wrote c.args.out.now (codes "{\"fields\":") c.write_fields.new.out
     (λ json. (unknown : Unknown) → IsSomeAnd (as_array json) (AreObjectFields unknown (object_field_trees c.args.fields.now))) = record {
@@ -158,13 +158,13 @@ write_object_value-returns g t c =
           ended more (behind more (codes "loc") at (next more (codes "kind") (string (codes "ObjectValue")) (opened more (codes "fields") fields.json
           fields.text)
           c.text-2.ensures) location.text) c.text-3.ensures;
-      plain = plain_object entries refl (fields.plain, (plain_string, (plain_location c.args.place.location location.reach, tt)));
+      plain = plain_object entries refl (fields.plain, (plain_string, (plain_location c.args.context.location location.reach, tt)));
       is = (
         λ unknown. (
-          is_node unknown (codes "ObjectValue") (codes "fields" ∷ []) entries _ refl refl refl refl (located unknown c.args.place.location location.reach),
+          is_node unknown (codes "ObjectValue") (codes "fields" ∷ []) entries _ refl refl refl refl (located unknown c.args.context.location location.reach),
           list_is entries (codes "fields") fields refl refl unknown,
         ),
-        stands_at entries c.args.place.location location.reach refl refl,
+        stands_at entries c.args.context.location location.reach refl refl,
       );
     }
 

@@ -15,7 +15,8 @@ loop-value-preserved g c = λ unknown.
     let value = c.value-item.result in
     subst₂ (λ taken jsons. Each Is (map tree taken) (items_view jsons))
     (sym (take_next values i value c.loop-value-test.true c.value-item.is)) (sym c.in_ok-push.ensures.ok)
-    (one_more_written Is tree (take i values) c.loop-value.list.items value c.in_ok-json.json (c.loop-value.invariant unknown) (c.in_ok-json.ensures unknown))
+    (one_more_written Is tree (take i values) c.loop-value.list.items value c.in_ok-json.json (c.loop-value.invariant unknown)
+    (c.in_ok-json.ensures.ok unknown))
 
 pub returns : goal.returns
 returns g c = λ unknown.

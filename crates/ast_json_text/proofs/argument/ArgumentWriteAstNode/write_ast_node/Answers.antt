@@ -17,21 +17,21 @@ returns g c =
     let in_name = c.write_member.ensures in
     let in_value = c.write_member-2.ensures in
     let entries : List Entry =
-    (codes "kind", Some (string (codes "Argument"))) ∷ (codes "loc", option_map location_json c.args.place.location) ∷ (codes "name", Some in_name.json)
+    (codes "kind", Some (string (codes "Argument"))) ∷ (codes "loc", option_map location_json c.args.context.location) ∷ (codes "name", Some in_name.json)
     ∷ (codes "value", Some in_value.json) ∷ [] in record {
       json = object (filled entries);
       text =
           ended more (next more (codes "value") in_value.json (next more (codes "name") in_name.json
-          (behind more (codes "loc") (option_map location_json c.args.place.location)
+          (behind more (codes "loc") (option_map location_json c.args.context.location)
           (opened more (codes "kind") (string (codes "Argument")) c.text.ensures) location.text) in_name.text) in_value.text) c.text-2.ensures;
-      plain = plain_object entries refl (plain_string, (plain_location c.args.place.location location.reach, (in_name.plain, (in_value.plain, tt))));
+      plain = plain_object entries refl (plain_string, (plain_location c.args.context.location location.reach, (in_name.plain, (in_value.plain, tt))));
       is = (
         λ unknown. (
           is_node unknown (codes "Argument") (codes "name" ∷ codes "value" ∷ [])
-              entries _ refl refl refl refl (located unknown c.args.place.location location.reach),
+              entries _ refl refl refl refl (located unknown c.args.context.location location.reach),
           member_is entries (codes "name") in_name refl refl unknown,
           member_is entries (codes "value") in_value refl refl unknown,
         ),
-        stands_at entries c.args.place.location location.reach refl refl,
+        stands_at entries c.args.context.location location.reach refl refl,
       );
     }

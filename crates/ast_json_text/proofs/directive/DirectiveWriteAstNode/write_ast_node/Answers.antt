@@ -18,20 +18,20 @@ returns g c =
     let in_name = c.write_member.ensures in
     let entries : List Entry =
     (codes "arguments", Some in_arguments.json) ∷ (codes "kind", Some (string (codes "Directive")))
-    ∷ (codes "loc", option_map location_json c.args.place.location) ∷ (codes "name", Some in_name.json) ∷ [] in record {
+    ∷ (codes "loc", option_map location_json c.args.context.location) ∷ (codes "name", Some in_name.json) ∷ [] in record {
       json = object (filled entries);
       text =
-          ended more (next more (codes "name") in_name.json (behind more (codes "loc") (option_map location_json c.args.place.location)
+          ended more (next more (codes "name") in_name.json (behind more (codes "loc") (option_map location_json c.args.context.location)
           (next more (codes "kind") (string (codes "Directive"))
           (opened more (codes "arguments") in_arguments.json in_arguments.text) c.text.ensures) location.text) in_name.text) c.text-2.ensures;
-      plain = plain_object entries refl (in_arguments.plain, (plain_string, (plain_location c.args.place.location location.reach, (in_name.plain, tt))));
+      plain = plain_object entries refl (in_arguments.plain, (plain_string, (plain_location c.args.context.location location.reach, (in_name.plain, tt))));
       is = (
         λ unknown. (
           is_node unknown (codes "Directive") (codes "name" ∷ codes "arguments" ∷ [])
-              entries _ refl refl refl refl (located unknown c.args.place.location location.reach),
+              entries _ refl refl refl refl (located unknown c.args.context.location location.reach),
           member_is entries (codes "name") in_name refl refl unknown,
           rw (sym c.deref.ensures.value) (optional_list_is entries (codes "arguments") in_arguments refl refl unknown),
         ),
-        stands_at entries c.args.place.location location.reach refl refl,
+        stands_at entries c.args.context.location location.reach refl refl,
       );
     }

@@ -22,12 +22,12 @@ returns g c =
     let in_repeatable = c.write_boolean.ensures in
     let entries : List Entry =
     (codes "arguments", Some in_arguments.json) ∷ (codes "description", in_description.json)
-    ∷ (codes "kind", Some (string (codes "DirectiveDefinition"))) ∷ (codes "loc", option_map location_json c.args.place.location)
+    ∷ (codes "kind", Some (string (codes "DirectiveDefinition"))) ∷ (codes "loc", option_map location_json c.args.context.location)
     ∷ (codes "locations", Some in_locations.json) ∷ (codes "name", Some in_name.json) ∷ (codes "repeatable", Some in_repeatable.json) ∷ [] in record {
       json = object (filled entries);
       text =
           ended more (next more (codes "repeatable") in_repeatable.json (next more (codes "name") in_name.json
-          (next more (codes "locations") in_locations.json (behind more (codes "loc") (option_map location_json c.args.place.location)
+          (next more (codes "locations") in_locations.json (behind more (codes "loc") (option_map location_json c.args.context.location)
           (next more (codes "kind") (string (codes "DirectiveDefinition")) (behind more (codes "description") in_description.json
           (opened more (codes "arguments") in_arguments.json in_arguments.text) in_description.text) c.text.ensures) location.text) in_locations.text)
           in_name.text) in_repeatable.text) c.text-2.ensures;
@@ -38,7 +38,7 @@ returns g c =
           (
             plain_string,
             (
-              plain_location c.args.place.location location.reach,
+              plain_location c.args.context.location location.reach,
               (
                 in_locations.plain,
                 (in_name.plain, (in_repeatable.plain, tt)),
@@ -50,13 +50,13 @@ returns g c =
       is = (
         λ unknown. (
           is_node unknown (codes "DirectiveDefinition") (codes "description" ∷ codes "name" ∷ codes "arguments" ∷ codes "repeatable" ∷ codes "locations" ∷ [])
-              entries _ refl refl refl refl (located unknown c.args.place.location location.reach),
+              entries _ refl refl refl refl (located unknown c.args.context.location location.reach),
           optional_is entries (codes "description") in_description refl refl unknown,
           member_is entries (codes "name") in_name refl refl unknown,
           rw (sym c.deref-2.ensures.value) (optional_list_is entries (codes "arguments") in_arguments refl refl unknown),
           subst (IsFlag c.args.self.now.repeatable) (sym (leaf_is entries (codes "repeatable") in_repeatable refl refl)) refl,
           rw (sym c.deref-3.ensures.value) (list_is entries (codes "locations") in_locations refl refl unknown),
         ),
-        stands_at entries c.args.place.location location.reach refl refl,
+        stands_at entries c.args.context.location location.reach refl refl,
       );
     }

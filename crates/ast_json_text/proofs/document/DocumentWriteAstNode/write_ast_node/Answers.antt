@@ -17,17 +17,17 @@ returns g c =
     let location = c.write_location.ensures in
     let entries : List Entry =
     (codes "definitions", Some in_definitions.json) ∷ (codes "kind", Some (string (codes "Document")))
-    ∷ (codes "loc", option_map location_json c.args.place.location) ∷ [] in record {
+    ∷ (codes "loc", option_map location_json c.args.context.location) ∷ [] in record {
       json = object (filled entries);
       text =
-          ended more (behind more (codes "loc") (option_map location_json c.args.place.location) (next more (codes "kind") (string (codes "Document"))
+          ended more (behind more (codes "loc") (option_map location_json c.args.context.location) (next more (codes "kind") (string (codes "Document"))
           (opened more (codes "definitions") in_definitions.json in_definitions.text) c.text.ensures) location.text) c.text-2.ensures;
-      plain = plain_object entries refl (in_definitions.plain, (plain_string, (plain_location c.args.place.location location.reach, tt)));
+      plain = plain_object entries refl (in_definitions.plain, (plain_string, (plain_location c.args.context.location location.reach, tt)));
       is = (
         λ unknown. (
-          is_node unknown (codes "Document") (codes "definitions" ∷ []) entries _ refl refl refl refl (located unknown c.args.place.location location.reach),
+          is_node unknown (codes "Document") (codes "definitions" ∷ []) entries _ refl refl refl refl (located unknown c.args.context.location location.reach),
           rw (sym c.deref.ensures.value) (list_is entries (codes "definitions") in_definitions refl refl unknown),
         ),
-        stands_at entries c.args.place.location location.reach refl refl,
+        stands_at entries c.args.context.location location.reach refl refl,
       );
     }

@@ -21,12 +21,12 @@ returns g c =
     let in_values = c.write_list.ensures in
     let entries : List Entry =
     (codes "description", in_description.json) ∷ (codes "directives", Some in_directives.json)
-    ∷ (codes "kind", Some (string (codes "EnumTypeDefinition"))) ∷ (codes "loc", option_map location_json c.args.place.location)
+    ∷ (codes "kind", Some (string (codes "EnumTypeDefinition"))) ∷ (codes "loc", option_map location_json c.args.context.location)
     ∷ (codes "name", Some in_name.json) ∷ (codes "values", Some in_values.json) ∷ [] in record {
       json = object (filled entries);
       text =
           ended more (next more (codes "values") in_values.json (next more (codes "name") in_name.json
-          (behind more (codes "loc") (option_map location_json c.args.place.location) (next more (codes "kind") (string (codes "EnumTypeDefinition"))
+          (behind more (codes "loc") (option_map location_json c.args.context.location) (next more (codes "kind") (string (codes "EnumTypeDefinition"))
           (first more (codes "directives") in_directives.json (lead more (codes "description") in_description.json
           (begun more c.text.ensures) in_description.text) in_directives.text) c.text-2.ensures) location.text) in_name.text) in_values.text)
           c.text-3.ensures;
@@ -37,7 +37,7 @@ returns g c =
           (
             plain_string,
             (
-              plain_location c.args.place.location location.reach,
+              plain_location c.args.context.location location.reach,
               (
                 in_name.plain,
                 (in_values.plain, tt),
@@ -49,7 +49,7 @@ returns g c =
       is = (
         λ unknown. (
           is_node unknown (codes "EnumTypeDefinition") (codes "description" ∷ enum_type_members)
-              entries _ refl refl refl refl (located unknown c.args.place.location location.reach),
+              entries _ refl refl refl refl (located unknown c.args.context.location location.reach),
           optional_is entries (codes "description") in_description refl refl unknown,
           (
             member_is entries (codes "name") in_name refl refl unknown,
@@ -57,6 +57,6 @@ returns g c =
             rw (sym c.deref.ensures.value) (optional_list_is entries (codes "values") in_values refl refl unknown),
           ),
         ),
-        stands_at entries c.args.place.location location.reach refl refl,
+        stands_at entries c.args.context.location location.reach refl refl,
       );
     }

@@ -20,25 +20,26 @@ returns g c =
     let in_values = c.write_list.ensures in
     let entries : List Entry =
     (codes "directives", Some in_directives.json) ∷ (codes "kind", Some (string (codes "EnumTypeExtension")))
-    ∷ (codes "loc", option_map location_json c.args.place.location) ∷ (codes "name", Some in_name.json) ∷ (codes "values", Some in_values.json)
+    ∷ (codes "loc", option_map location_json c.args.context.location) ∷ (codes "name", Some in_name.json) ∷ (codes "values", Some in_values.json)
     ∷ [] in record {
       json = object (filled entries);
       text =
           ended more (next more (codes "values") in_values.json (next more (codes "name") in_name.json
-          (behind more (codes "loc") (option_map location_json c.args.place.location) (next more (codes "kind") (string (codes "EnumTypeExtension"))
+          (behind more (codes "loc") (option_map location_json c.args.context.location) (next more (codes "kind") (string (codes "EnumTypeExtension"))
           (opened more (codes "directives") in_directives.json in_directives.text) c.text.ensures) location.text) in_name.text) in_values.text)
           c.text-2.ensures;
       plain = plain_object entries refl
-          (in_directives.plain, (plain_string, (plain_location c.args.place.location location.reach, (in_name.plain, (in_values.plain, tt)))));
+          (in_directives.plain, (plain_string, (plain_location c.args.context.location location.reach, (in_name.plain, (in_values.plain, tt)))));
       is = (
         λ unknown. (
-          is_node unknown (codes "EnumTypeExtension") (enum_type_members) entries _ refl refl refl refl (located unknown c.args.place.location location.reach),
+          is_node unknown (codes "EnumTypeExtension") (enum_type_members) entries _ refl refl refl refl
+              (located unknown c.args.context.location location.reach),
           (
             member_is entries (codes "name") in_name refl refl unknown,
             optional_list_is entries (codes "directives") in_directives refl refl unknown,
             rw (sym c.deref.ensures.value) (optional_list_is entries (codes "values") in_values refl refl unknown),
           ),
         ),
-        stands_at entries c.args.place.location location.reach refl refl,
+        stands_at entries c.args.context.location location.reach refl refl,
       );
     }

@@ -22,12 +22,12 @@ returns g c =
     let in_type = c.write_member-2.ensures in
     let entries : List Entry =
     (codes "arguments", Some in_arguments.json) ∷ (codes "description", in_description.json) ∷ (codes "directives", Some in_directives.json)
-    ∷ (codes "kind", Some (string (codes "FieldDefinition"))) ∷ (codes "loc", option_map location_json c.args.place.location)
+    ∷ (codes "kind", Some (string (codes "FieldDefinition"))) ∷ (codes "loc", option_map location_json c.args.context.location)
     ∷ (codes "name", Some in_name.json) ∷ (codes "type", Some in_type.json) ∷ [] in record {
       json = object (filled entries);
       text =
           ended more (next more (codes "type") in_type.json (next more (codes "name") in_name.json
-          (behind more (codes "loc") (option_map location_json c.args.place.location) (next more (codes "kind") (string (codes "FieldDefinition"))
+          (behind more (codes "loc") (option_map location_json c.args.context.location) (next more (codes "kind") (string (codes "FieldDefinition"))
           (next more (codes "directives") in_directives.json (behind more (codes "description") in_description.json
           (opened more (codes "arguments") in_arguments.json in_arguments.text) in_description.text) in_directives.text) c.text.ensures) location.text)
           in_name.text) in_type.text) c.text-2.ensures;
@@ -40,7 +40,7 @@ returns g c =
             (
               plain_string,
               (
-                plain_location c.args.place.location location.reach,
+                plain_location c.args.context.location location.reach,
                 (in_name.plain, (in_type.plain, tt)),
               ),
             ),
@@ -50,7 +50,7 @@ returns g c =
       is = (
         λ unknown. (
           is_node unknown (codes "FieldDefinition") (codes "description" ∷ field_members)
-              entries _ refl refl refl refl (located unknown c.args.place.location location.reach),
+              entries _ refl refl refl refl (located unknown c.args.context.location location.reach),
           optional_is entries (codes "description") in_description refl refl unknown,
           (
             member_is entries (codes "name") in_name refl refl unknown,
@@ -59,6 +59,6 @@ returns g c =
             optional_list_is entries (codes "directives") in_directives refl refl unknown,
           ),
         ),
-        stands_at entries c.args.place.location location.reach refl refl,
+        stands_at entries c.args.context.location location.reach refl refl,
       );
     }

@@ -22,13 +22,13 @@ returns g c =
     let in_typeCondition = c.write_member-3.ensures in
     let entries : List Entry =
     (codes "description", in_description.json) ∷ (codes "directives", Some in_directives.json)
-    ∷ (codes "kind", Some (string (codes "FragmentDefinition"))) ∷ (codes "loc", option_map location_json c.args.place.location)
+    ∷ (codes "kind", Some (string (codes "FragmentDefinition"))) ∷ (codes "loc", option_map location_json c.args.context.location)
     ∷ (codes "name", Some in_name.json) ∷ (codes "selectionSet", Some in_selectionSet.json) ∷ (codes "typeCondition", Some in_typeCondition.json)
     ∷ [] in record {
       json = object (filled entries);
       text =
           ended more (next more (codes "typeCondition") in_typeCondition.json (next more (codes "selectionSet") in_selectionSet.json
-          (next more (codes "name") in_name.json (behind more (codes "loc") (option_map location_json c.args.place.location)
+          (next more (codes "name") in_name.json (behind more (codes "loc") (option_map location_json c.args.context.location)
           (next more (codes "kind") (string (codes "FragmentDefinition")) (first more (codes "directives") in_directives.json
           (lead more (codes "description") in_description.json
           (begun more c.text.ensures) in_description.text) in_directives.text) c.text-2.ensures) location.text) in_name.text) in_selectionSet.text)
@@ -40,7 +40,7 @@ returns g c =
           (
             plain_string,
             (
-              plain_location c.args.place.location location.reach,
+              plain_location c.args.context.location location.reach,
               (
                 in_name.plain,
                 (in_selectionSet.plain, (in_typeCondition.plain, tt)),
@@ -52,7 +52,7 @@ returns g c =
       is = (
         λ unknown. (
           is_node unknown (codes "FragmentDefinition") (codes "description" ∷ fragment_definition_members)
-              entries _ refl refl refl refl (located unknown c.args.place.location location.reach),
+              entries _ refl refl refl refl (located unknown c.args.context.location location.reach),
           optional_is entries (codes "description") in_description refl refl unknown,
           (
             member_is entries (codes "name") in_name refl refl unknown,
@@ -61,6 +61,6 @@ returns g c =
             member_is entries (codes "selectionSet") in_selectionSet refl refl unknown,
           ),
         ),
-        stands_at entries c.args.place.location location.reach refl refl,
+        stands_at entries c.args.context.location location.reach refl refl,
       );
     }

@@ -21,12 +21,12 @@ returns g c =
     let in_type = c.write_member-2.ensures in
     let entries : List Entry =
     (codes "defaultValue", in_defaultValue.json) ∷ (codes "description", in_description.json) ∷ (codes "directives", Some in_directives.json)
-    ∷ (codes "kind", Some (string (codes "InputValueDefinition"))) ∷ (codes "loc", option_map location_json c.args.place.location)
+    ∷ (codes "kind", Some (string (codes "InputValueDefinition"))) ∷ (codes "loc", option_map location_json c.args.context.location)
     ∷ (codes "name", Some in_name.json) ∷ (codes "type", Some in_type.json) ∷ [] in record {
       json = object (filled entries);
       text =
           ended more (next more (codes "type") in_type.json (next more (codes "name") in_name.json
-          (behind more (codes "loc") (option_map location_json c.args.place.location) (next more (codes "kind") (string (codes "InputValueDefinition"))
+          (behind more (codes "loc") (option_map location_json c.args.context.location) (next more (codes "kind") (string (codes "InputValueDefinition"))
           (first more (codes "directives") in_directives.json (lead more (codes "description") in_description.json
           (lead more (codes "defaultValue") in_defaultValue.json
           (begun more c.text.ensures) in_defaultValue.text) in_description.text) in_directives.text) c.text-2.ensures) location.text) in_name.text)
@@ -40,7 +40,7 @@ returns g c =
             (
               plain_string,
               (
-                plain_location c.args.place.location location.reach,
+                plain_location c.args.context.location location.reach,
                 (in_name.plain, (in_type.plain, tt)),
               ),
             ),
@@ -50,13 +50,13 @@ returns g c =
       is = (
         λ unknown. (
           is_node unknown (codes "InputValueDefinition") (codes "description" ∷ codes "name" ∷ codes "type" ∷ codes "defaultValue" ∷ codes "directives" ∷ [])
-              entries _ refl refl refl refl (located unknown c.args.place.location location.reach),
+              entries _ refl refl refl refl (located unknown c.args.context.location location.reach),
           optional_is entries (codes "description") in_description refl refl unknown,
           member_is entries (codes "name") in_name refl refl unknown,
           member_is entries (codes "type") in_type refl refl unknown,
           optional_is entries (codes "defaultValue") in_defaultValue refl refl unknown,
           optional_list_is entries (codes "directives") in_directives refl refl unknown,
         ),
-        stands_at entries c.args.place.location location.reach refl refl,
+        stands_at entries c.args.context.location location.reach refl refl,
       );
     }

@@ -23,10 +23,10 @@ returns g c =
     let entries : List Entry =
     (codes "description", in_description.json) ∷ (codes "directives", Some in_directives.json) ∷ (codes "fields", Some in_fields.json)
     ∷ (codes "interfaces", Some in_interfaces.json) ∷ (codes "kind", Some (string (codes "InterfaceTypeDefinition")))
-    ∷ (codes "loc", option_map location_json c.args.place.location) ∷ (codes "name", Some in_name.json) ∷ [] in record {
+    ∷ (codes "loc", option_map location_json c.args.context.location) ∷ (codes "name", Some in_name.json) ∷ [] in record {
       json = object (filled entries);
       text =
-          ended more (next more (codes "name") in_name.json (behind more (codes "loc") (option_map location_json c.args.place.location)
+          ended more (next more (codes "name") in_name.json (behind more (codes "loc") (option_map location_json c.args.context.location)
           (next more (codes "kind") (string (codes "InterfaceTypeDefinition")) (next more (codes "interfaces") in_interfaces.json
           (next more (codes "fields") in_fields.json (first more (codes "directives") in_directives.json
           (lead more (codes "description") in_description.json
@@ -42,7 +42,7 @@ returns g c =
               in_interfaces.plain,
               (
                 plain_string,
-                (plain_location c.args.place.location location.reach, (in_name.plain, tt)),
+                (plain_location c.args.context.location location.reach, (in_name.plain, tt)),
               ),
             ),
           ),
@@ -51,7 +51,7 @@ returns g c =
       is = (
         λ unknown. (
           is_node unknown (codes "InterfaceTypeDefinition") (codes "description" ∷ implementing_type_members)
-              entries _ refl refl refl refl (located unknown c.args.place.location location.reach),
+              entries _ refl refl refl refl (located unknown c.args.context.location location.reach),
           optional_is entries (codes "description") in_description refl refl unknown,
           (
             member_is entries (codes "name") in_name refl refl unknown,
@@ -60,6 +60,6 @@ returns g c =
             rw (sym c.deref.ensures.value) (optional_list_is entries (codes "fields") in_fields refl refl unknown),
           ),
         ),
-        stands_at entries c.args.place.location location.reach refl refl,
+        stands_at entries c.args.context.location location.reach refl refl,
       );
     }

@@ -23,14 +23,14 @@ returns g c =
     let in_variableDefinitions = c.write_parameters.ensures in
     let entries : List Entry =
     (codes "description", in_description.json) ∷ (codes "directives", Some in_directives.json)
-    ∷ (codes "kind", Some (string (codes "OperationDefinition"))) ∷ (codes "loc", option_map location_json c.args.place.location)
+    ∷ (codes "kind", Some (string (codes "OperationDefinition"))) ∷ (codes "loc", option_map location_json c.args.context.location)
     ∷ (codes "name", in_name.json) ∷ (codes "operation", Some in_operation.json) ∷ (codes "selectionSet", Some in_selectionSet.json)
     ∷ (codes "variableDefinitions", Some in_variableDefinitions.json) ∷ [] in record {
       json = object (filled entries);
       text =
           ended more (next more (codes "variableDefinitions") in_variableDefinitions.json (next more (codes "selectionSet") in_selectionSet.json
           (next more (codes "operation") in_operation.json (behind more (codes "name") in_name.json
-          (behind more (codes "loc") (option_map location_json c.args.place.location) (next more (codes "kind") (string (codes "OperationDefinition"))
+          (behind more (codes "loc") (option_map location_json c.args.context.location) (next more (codes "kind") (string (codes "OperationDefinition"))
           (first more (codes "directives") in_directives.json (lead more (codes "description") in_description.json
           (begun more c.text.ensures) in_description.text) in_directives.text) c.text-2.ensures) location.text) in_name.text) in_operation.text)
           in_selectionSet.text) in_variableDefinitions.text) c.text-3.ensures;
@@ -41,7 +41,7 @@ returns g c =
           (
             plain_string,
             (
-              plain_location c.args.place.location location.reach,
+              plain_location c.args.context.location location.reach,
               (
                 in_name.plain,
                 (in_operation.plain, (in_selectionSet.plain, (in_variableDefinitions.plain, tt))),
@@ -53,7 +53,7 @@ returns g c =
       is = (
         λ unknown. (
           is_node unknown (codes "OperationDefinition") (codes "description" ∷ operation_definition_members)
-              entries _ refl refl refl refl (located unknown c.args.place.location location.reach),
+              entries _ refl refl refl refl (located unknown c.args.context.location location.reach),
           optional_is entries (codes "description") in_description refl refl unknown,
           (
             rw (sym c.name.ensures) (leaf_is entries (codes "operation") in_operation refl refl),
@@ -63,6 +63,6 @@ returns g c =
             member_is entries (codes "selectionSet") in_selectionSet refl refl unknown,
           ),
         ),
-        stands_at entries c.args.place.location location.reach refl refl,
+        stands_at entries c.args.context.location location.reach refl refl,
       );
     }

@@ -17,22 +17,22 @@ returns g c =
     let in_operation = c.write_text.ensures in
     let in_type = c.write_member.ensures in
     let entries : List Entry =
-    (codes "kind", Some (string (codes "OperationTypeDefinition"))) ∷ (codes "loc", option_map location_json c.args.place.location)
+    (codes "kind", Some (string (codes "OperationTypeDefinition"))) ∷ (codes "loc", option_map location_json c.args.context.location)
     ∷ (codes "operation", Some in_operation.json) ∷ (codes "type", Some in_type.json) ∷ [] in record {
       json = object (filled entries);
       text =
           ended more (next more (codes "type") in_type.json (next more (codes "operation") in_operation.json
-          (behind more (codes "loc") (option_map location_json c.args.place.location)
+          (behind more (codes "loc") (option_map location_json c.args.context.location)
           (opened more (codes "kind") (string (codes "OperationTypeDefinition")) c.text.ensures) location.text) in_operation.text) in_type.text)
           c.text-2.ensures;
-      plain = plain_object entries refl (plain_string, (plain_location c.args.place.location location.reach, (in_operation.plain, (in_type.plain, tt))));
+      plain = plain_object entries refl (plain_string, (plain_location c.args.context.location location.reach, (in_operation.plain, (in_type.plain, tt))));
       is = (
         λ unknown. (
           is_node unknown (codes "OperationTypeDefinition") (codes "operation" ∷ codes "type" ∷ [])
-              entries _ refl refl refl refl (located unknown c.args.place.location location.reach),
+              entries _ refl refl refl refl (located unknown c.args.context.location location.reach),
           rw (sym c.name.ensures) (leaf_is entries (codes "operation") in_operation refl refl),
           member_is entries (codes "type") in_type refl refl unknown,
         ),
-        stands_at entries c.args.place.location location.reach refl refl,
+        stands_at entries c.args.context.location location.reach refl refl,
       );
     }

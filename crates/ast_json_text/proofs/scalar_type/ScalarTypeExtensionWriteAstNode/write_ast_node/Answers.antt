@@ -19,22 +19,22 @@ returns g c =
     let in_name = c.write_member.ensures in
     let entries : List Entry =
     (codes "directives", Some in_directives.json) ∷ (codes "kind", Some (string (codes "ScalarTypeExtension")))
-    ∷ (codes "loc", option_map location_json c.args.place.location) ∷ (codes "name", Some in_name.json) ∷ [] in record {
+    ∷ (codes "loc", option_map location_json c.args.context.location) ∷ (codes "name", Some in_name.json) ∷ [] in record {
       json = object (filled entries);
       text =
-          ended more (next more (codes "name") in_name.json (behind more (codes "loc") (option_map location_json c.args.place.location)
+          ended more (next more (codes "name") in_name.json (behind more (codes "loc") (option_map location_json c.args.context.location)
           (next more (codes "kind") (string (codes "ScalarTypeExtension"))
           (opened more (codes "directives") in_directives.json in_directives.text) c.text.ensures) location.text) in_name.text) c.text-2.ensures;
-      plain = plain_object entries refl (in_directives.plain, (plain_string, (plain_location c.args.place.location location.reach, (in_name.plain, tt))));
+      plain = plain_object entries refl (in_directives.plain, (plain_string, (plain_location c.args.context.location location.reach, (in_name.plain, tt))));
       is = (
         λ unknown. (
           is_node unknown (codes "ScalarTypeExtension") (scalar_type_members)
-              entries _ refl refl refl refl (located unknown c.args.place.location location.reach),
+              entries _ refl refl refl refl (located unknown c.args.context.location location.reach),
           (
             member_is entries (codes "name") in_name refl refl unknown,
             optional_list_is entries (codes "directives") in_directives refl refl unknown,
           ),
         ),
-        stands_at entries c.args.place.location location.reach refl refl,
+        stands_at entries c.args.context.location location.reach refl refl,
       );
     }

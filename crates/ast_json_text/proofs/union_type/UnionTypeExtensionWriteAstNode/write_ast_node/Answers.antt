@@ -20,25 +20,25 @@ returns g c =
     let in_types = c.write_list.ensures in
     let entries : List Entry =
     (codes "directives", Some in_directives.json) ∷ (codes "kind", Some (string (codes "UnionTypeExtension")))
-    ∷ (codes "loc", option_map location_json c.args.place.location) ∷ (codes "name", Some in_name.json) ∷ (codes "types", Some in_types.json) ∷ [] in record {
+    ∷ (codes "loc", option_map location_json c.args.context.location) ∷ (codes "name", Some in_name.json) ∷ (codes "types", Some in_types.json) ∷ [] in record {
       json = object (filled entries);
       text =
           ended more (next more (codes "types") in_types.json (next more (codes "name") in_name.json
-          (behind more (codes "loc") (option_map location_json c.args.place.location) (next more (codes "kind") (string (codes "UnionTypeExtension"))
+          (behind more (codes "loc") (option_map location_json c.args.context.location) (next more (codes "kind") (string (codes "UnionTypeExtension"))
           (opened more (codes "directives") in_directives.json in_directives.text) c.text.ensures) location.text) in_name.text) in_types.text)
           c.text-2.ensures;
       plain = plain_object entries refl
-          (in_directives.plain, (plain_string, (plain_location c.args.place.location location.reach, (in_name.plain, (in_types.plain, tt)))));
+          (in_directives.plain, (plain_string, (plain_location c.args.context.location location.reach, (in_name.plain, (in_types.plain, tt)))));
       is = (
         λ unknown. (
           is_node unknown (codes "UnionTypeExtension") (union_type_members)
-              entries _ refl refl refl refl (located unknown c.args.place.location location.reach),
+              entries _ refl refl refl refl (located unknown c.args.context.location location.reach),
           (
             member_is entries (codes "name") in_name refl refl unknown,
             optional_list_is entries (codes "directives") in_directives refl refl unknown,
             rw (sym c.deref.ensures.value) (optional_list_is entries (codes "types") in_types refl refl unknown),
           ),
         ),
-        stands_at entries c.args.place.location location.reach refl refl,
+        stands_at entries c.args.context.location location.reach refl refl,
       );
     }

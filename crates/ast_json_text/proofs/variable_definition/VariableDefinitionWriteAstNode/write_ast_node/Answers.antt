@@ -22,12 +22,12 @@ returns g c =
     let in_variable = c.write_member-2.ensures in
     let entries : List Entry =
     (codes "defaultValue", in_defaultValue.json) ∷ (codes "description", in_description.json) ∷ (codes "directives", Some in_directives.json)
-    ∷ (codes "kind", Some (string (codes "VariableDefinition"))) ∷ (codes "loc", option_map location_json c.args.place.location)
+    ∷ (codes "kind", Some (string (codes "VariableDefinition"))) ∷ (codes "loc", option_map location_json c.args.context.location)
     ∷ (codes "type", Some in_type.json) ∷ (codes "variable", Some in_variable.json) ∷ [] in record {
       json = object (filled entries);
       text =
           ended more (next more (codes "variable") in_variable.json (next more (codes "type") in_type.json
-          (behind more (codes "loc") (option_map location_json c.args.place.location) (next more (codes "kind") (string (codes "VariableDefinition"))
+          (behind more (codes "loc") (option_map location_json c.args.context.location) (next more (codes "kind") (string (codes "VariableDefinition"))
           (first more (codes "directives") in_directives.json (lead more (codes "description") in_description.json
           (lead more (codes "defaultValue") in_defaultValue.json
           (begun more c.text.ensures) in_defaultValue.text) in_description.text) in_directives.text) c.text-2.ensures) location.text) in_type.text)
@@ -41,7 +41,7 @@ returns g c =
             (
               plain_string,
               (
-                plain_location c.args.place.location location.reach,
+                plain_location c.args.context.location location.reach,
                 (in_type.plain, (in_variable.plain, tt)),
               ),
             ),
@@ -51,7 +51,7 @@ returns g c =
       is = (
         λ unknown. (
           is_node unknown (codes "VariableDefinition") (codes "description" ∷ variable_definition_members)
-              entries _ refl refl refl refl (located unknown c.args.place.location location.reach),
+              entries _ refl refl refl refl (located unknown c.args.context.location location.reach),
           optional_is entries (codes "description") in_description refl refl unknown,
           (
             member_is entries (codes "variable") in_variable refl refl unknown,
@@ -60,6 +60,6 @@ returns g c =
             optional_list_is entries (codes "directives") in_directives refl refl unknown,
           ),
         ),
-        stands_at entries c.args.place.location location.reach refl refl,
+        stands_at entries c.args.context.location location.reach refl refl,
       );
     }

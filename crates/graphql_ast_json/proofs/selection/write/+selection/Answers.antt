@@ -32,9 +32,11 @@ write_selections-returns t c = λ unknown.
 pub write_selection_set-returns : goal.write_selection_set-returns
 write_selection_set-returns t c =
     let list = view c.in_ok-list.list in
-    let set = selection_trees c.args.selections.now in
-    both_then c.with_member.result c.with_member.ensures.node c.with_member.ensures.member (λ json node at unknown.
-    (node unknown, list_is (codes "selections") (view json) list (AreSelections unknown set) at (c.in_ok-list.ensures unknown)))
+    let set = selection_trees c.args.selections.now in record {
+      ok = both_then c.with_member.result c.with_member.ensures.node c.with_member.ensures.member (λ json node at unknown.
+          (node unknown, list_is (codes "selections") (view json) list (AreSelections unknown set) at (c.in_ok-list.ensures unknown)));
+      stands = rw c.new.ensures at c.with_member.ensures.stands;
+    }
 
 pub write_field-returns : goal.write_field-returns
 write_field-returns t c =
@@ -65,7 +67,7 @@ pub write_inline_fragment-returns : goal.write_inline_fragment-returns
 write_inline_fragment-returns t c =
     let fragment = c.args.fragment.now in
     let json = view c.into_json.result in
-    let set = given_set (selection_trees c.deref.result.now) (view c.in_ok-set.set) c.in_ok-put_json.ensures.ok c.in_ok-set.ensures in
+    let set = given_set (selection_trees c.deref.result.now) (view c.in_ok-set.set) c.in_ok-put_json.ensures.ok c.in_ok-set.ensures.ok in
     let w =
     ended c.into_json.ensures (gained (gained (gained (begun c.in_ok-begin.ensures) c.in_ok-put_optional.ensures)
     c.in_ok-put_directives.ensures) set) in record {

@@ -8,7 +8,7 @@ use Rattle.graphql_ast_json.proofs.write.NodeWriter.put.Goals as goal
 pub returns : goal.returns
 returns g c =
     let json = view c.in_ok-json.json in
-    let is = c.in_ok-json.ensures in
+    let is = c.in_ok-json.ensures.ok in
     one_then c.put_json.result c.put_json.ensures.ok (λ _ made. record {
       json = Some json;
       made = made;

@@ -9,7 +9,7 @@ pub returns-in-Some : goal.returns-in-Some
 returns-in-Some c =
     let test = is_argument_named c.args.name.now in
     let items = c.args.self.now.arguments.items in
-    let is_index = sym c.specified_argument_position.ensures.index ∙ c.in-Some.is in (
+    let is_index = sym c.specified_argument_index.ensures.index ∙ c.in-Some.is in (
       (
         refl,
         (λ w ok.
@@ -28,5 +28,5 @@ returns-in-Some c =
 
 pub returns-in-None : goal.returns-in-None
 returns-in-None c =
-    let none = not_found (is_argument_named c.args.name.now) c.args.self.now.arguments.items (sym c.specified_argument_position.ensures.index ∙ c.in-None.is) in
+    let none = not_found (is_argument_named c.args.name.now) c.args.self.now.arguments.items (sym c.specified_argument_index.ensures.index ∙ c.in-None.is) in
     ((refl, (λ w e. absurd cc), (refl, refl)), (tt, ((λ e. none), (λ e. refl))))

@@ -6,12 +6,12 @@ use Rattle.graphql_values.proofs.directive_definition.DirectiveDefinition.argume
 
 pub returns-in_err-index : goal.returns-in_err-index
 returns-in_err-index c =
-    let none = sym c.argument_position.ensures.index ∙ c.in_err-index.was in
+    let none = sym c.argument_index.ensures.index ∙ c.in_err-index.was in
     ap option_copied c.from_residual.ensures ∙ sym (not_found (is_input_value_definition_named c.args.name.now) c.args.self.now.arguments.items none)
 
 pub returns : goal.returns
 returns c =
-    let is_index = sym c.argument_position.ensures.index ∙ c.in_ok-index.was in
+    let is_index = sym c.argument_index.ensures.index ∙ c.in_ok-index.was in
     ap Some c.index.ensures
     ∙ sym
     (found_at_position (is_input_value_definition_named c.args.name.now) c.args.self.now.arguments.items _ is_index c.index.result.now)

@@ -7,7 +7,7 @@ pub returns-in-Some : goal.returns-in-Some
 returns-in-Some c =
     let test = is_input_value_definition_named c.args.name.now in
     let items = c.args.self.now.arguments.items in
-    let is_index = sym c.argument_position.ensures.index ∙ c.in-Some.is in (
+    let is_index = sym c.argument_index.ensures.index ∙ c.in-Some.is in (
       (
         refl,
         (λ node some. (changed_at_position test (λ _. node) items _ c.in-Some.index is_index (λ _. refl), refl, refl, refl, refl)),
@@ -20,5 +20,5 @@ pub returns-in-None : goal.returns-in-None
 returns-in-None c =
     let none =
     not_found (is_input_value_definition_named c.args.name.now) c.args.self.now.arguments.items
-    (sym c.argument_position.ensures.index ∙ c.in-None.is) in
+    (sym c.argument_index.ensures.index ∙ c.in-None.is) in
     ((refl, (λ node none. absurd cc), refl), sym none)

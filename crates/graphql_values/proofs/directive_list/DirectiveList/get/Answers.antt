@@ -6,12 +6,12 @@ use Rattle.graphql_values.proofs.directive_list.DirectiveList.get.Goals as goal
 
 pub returns-in_err-index : goal.returns-in_err-index
 returns-in_err-index c =
-    let found = rw c.deref.ensures.value at c.first_position.ensures.index in
+    let found = rw c.deref.ensures.value at c.first_index.ensures.index in
     ap option_copied c.from_residual.ensures ∙ sym (not_found (is_directive_named c.args.name.now) c.args.self.now.0.items (sym found ∙ c.in_err-index.was))
 
 pub returns : goal.returns
 returns c =
-    let found = rw c.deref.ensures.value at c.first_position.ensures.index in
+    let found = rw c.deref.ensures.value at c.first_index.ensures.index in
     ap Some c.index.ensures
     ∙ sym (found_at_position (is_directive_named c.args.name.now) c.args.self.now.0.items _
     (sym found ∙ c.in_ok-index.was) c.index.result.now)

@@ -73,7 +73,7 @@ fn check_ill_formed(rt: &impl Abort, alloc: Global) {
     check_written(rt, alloc, json, (Status::Done, ILL_FORMED_WRITTEN));
 }
 
-/// Allocations: 136.
+/// Allocations: 126.
 #[test]
 fn a_call_answers_or_memory_was_refused(rt: HostRuntime) {
     check_query(&rt, rt.alloc());

@@ -40,7 +40,7 @@ fn a_document_is_printed_or_memory_was_refused(rt: HostRuntime) {
 
 const JSON_WORDS: [&str; 2] = ["--json", "--allow-ill-formed"];
 
-/// Allocations: 53.
+/// Allocations: 52.
 #[test]
 fn json_is_written_or_memory_was_refused(rt: HostRuntime) {
     let json = "{\"definitions\":[],\"kind\":\"Document\"}\n";

@@ -9,6 +9,7 @@ use crate::schema_json::SchemaJson;
 use crate::texts::Texts;
 use crate::trees::Builder;
 use anyhow::{Result, bail};
+use ast_json_text::to_ast_json_text;
 use graphql_ast::ast::{
     Definition, Document, Field, ObjectTypeDefinition, OperationDefinition, Selection, SourceFile,
 };
@@ -157,6 +158,21 @@ pub fn write_json(alloc: Global, task: Task, digest: &mut Digest) -> Result<()> 
         for _ in 0..task.size {
             let operation = builder.operation()?;
             digest.add(&operation.to_ast_json(alloc)?.to_string(alloc)?);
+        }
+    }
+    Ok(())
+}
+
+/// The same results, with no value between a tree and its text.
+pub fn write_json_text(alloc: Global, task: Task, digest: &mut Digest) -> Result<()> {
+    let texts = Texts::plain(alloc, task.seed)?;
+    for index in 0..task.count {
+        let mut builder = Builder::new(alloc, &texts, task.seed_of(index));
+        let schema = builder.schema(task.size)?;
+        digest.add(&to_ast_json_text(alloc, &schema)?);
+        for _ in 0..task.size {
+            let operation = builder.operation()?;
+            digest.add(&to_ast_json_text(alloc, &operation)?);
         }
     }
     Ok(())

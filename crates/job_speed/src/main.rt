@@ -12,7 +12,8 @@
 //! - `operations`: operations are built, and printed on one line;
 //! - `rewrite`: documents are copied, changed, compared, tested and printed, and some have a flaw;
 //! - `all`: each of these;
-//! - `normalize`: schemas in AST JSON are written anew by a call of the C interface.
+//! - `normalize`: schemas in AST JSON are written anew by a call of the C interface;
+//! - `write_text`: what `write` writes, with no value of `serde_json` between.
 #![tactic(auto)]
 
 mod digest;
@@ -59,6 +60,7 @@ fn run(alloc: Global, job: &str, task: Task, digest: &mut Digest) -> Result<()> 
         "operations" => jobs::print_operations(alloc, task, digest),
         "rewrite" => jobs::rewrite(alloc, task, digest),
         "normalize" => jobs::normalize_json(alloc, task, digest),
+        "write_text" => jobs::write_json_text(alloc, task, digest),
         _ => bail!("no such job"),
     }
 }
@@ -70,7 +72,7 @@ fn main(rt: HostRuntime) -> Result<()> {
     let mut buffer = [0u8; 16];
     let (Some(job), Some(task)) = (word(&rt, 1, &mut buffer), read_task(&rt)) else {
         bail!(
-            "usage: job_speed read|sorted|write|build|operations|rewrite|all|normalize COUNT SIZE SEED"
+            "usage: job_speed read|sorted|write|build|operations|rewrite|all|normalize|write_text COUNT SIZE SEED"
         );
     };
     let mut digest = Digest::new();

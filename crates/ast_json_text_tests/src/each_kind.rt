@@ -1,5 +1,6 @@
 //! A worked tree of each kind: its text, in memory and as a sink takes it, is that of the value of `serde_json` that it is
 //! written as.
+use crate::sinks::check_sinks;
 use crate::strings::check_strings;
 use ast_json_text::{
     AsAstJson, WriteAstJson, send_ast_json, to_ast_json_text, to_ast_json_text_by_value,
@@ -142,4 +143,5 @@ fn each_kind_is_written_as_its_value_is(rt: HostRuntime) {
     check_documents(&rt, rt.alloc(), &mut refused, 0..VARIANTS);
     assert!(rt; refused.calls == 0);
     check_strings(&rt, rt.alloc());
+    check_sinks(&rt, rt.alloc());
 }

@@ -26,16 +26,15 @@ fn check_room(rt: &impl Abort, alloc: Global, document: &Document, whole: &[u8],
     assert!(rt; whole.starts_with(sink.bytes.as_slice()), "{room}");
 }
 
-#[test]
-fn before_a_fault_a_sink_has_taken_a_beginning(rt: HostRuntime) {
-    let alloc = rt.alloc();
-    let document = document(alloc).expect(&rt, "memory");
-    let whole = to_ast_json_text(alloc, &document).expect(&rt, "memory");
+/// Before a fault a sink has taken a beginning. The text of a kind of another crate is that of its value.
+pub(crate) fn check_sinks(rt: &impl Abort, alloc: Global) {
+    let document = document(alloc).expect(rt, "memory");
+    let whole = to_ast_json_text(alloc, &document).expect(rt, "memory");
     assert!(rt; whole.len() > 2048);
     for room in 0..=whole.len() {
-        check_room(&rt, alloc, &document, whole.as_bytes(), room);
+        check_room(rt, alloc, &document, whole.as_bytes(), room);
     }
     let outside = Outside { document };
-    let text = to_ast_json_text_by_value(alloc, &outside).expect(&rt, "memory");
+    let text = to_ast_json_text_by_value(alloc, &outside).expect(rt, "memory");
     assert!(rt; text.as_str() == whole.as_str(), "{text}");
 }

@@ -26,6 +26,44 @@ const ROWS: [(&str, &str); 8] = [
     ("\u{1f}\u{1f}", "\"\\u001f\\u001f\""),
 ];
 
+/// The same of each character that has an escape, alone.
+const ESCAPES: [(&str, &str); 34] = [
+    ("\u{0}", "\"\\u0000\""),
+    ("\u{1}", "\"\\u0001\""),
+    ("\u{2}", "\"\\u0002\""),
+    ("\u{3}", "\"\\u0003\""),
+    ("\u{4}", "\"\\u0004\""),
+    ("\u{5}", "\"\\u0005\""),
+    ("\u{6}", "\"\\u0006\""),
+    ("\u{7}", "\"\\u0007\""),
+    ("\u{8}", "\"\\b\""),
+    ("\t", "\"\\t\""),
+    ("\n", "\"\\n\""),
+    ("\u{b}", "\"\\u000b\""),
+    ("\u{c}", "\"\\f\""),
+    ("\r", "\"\\r\""),
+    ("\u{e}", "\"\\u000e\""),
+    ("\u{f}", "\"\\u000f\""),
+    ("\u{10}", "\"\\u0010\""),
+    ("\u{11}", "\"\\u0011\""),
+    ("\u{12}", "\"\\u0012\""),
+    ("\u{13}", "\"\\u0013\""),
+    ("\u{14}", "\"\\u0014\""),
+    ("\u{15}", "\"\\u0015\""),
+    ("\u{16}", "\"\\u0016\""),
+    ("\u{17}", "\"\\u0017\""),
+    ("\u{18}", "\"\\u0018\""),
+    ("\u{19}", "\"\\u0019\""),
+    ("\u{1a}", "\"\\u001a\""),
+    ("\u{1b}", "\"\\u001b\""),
+    ("\u{1c}", "\"\\u001c\""),
+    ("\u{1d}", "\"\\u001d\""),
+    ("\u{1e}", "\"\\u001e\""),
+    ("\u{1f}", "\"\\u001f\""),
+    ("\"", "\"\\\"\""),
+    ("\\", "\"\\\\\""),
+];
+
 fn check_row(rt: &impl Abort, alloc: Global, text: &str, wanted: &str) {
     let string = NodeStr::new_str(alloc, text).expect(rt, "memory");
     let found = to_ast_json_text(alloc, &string).expect(rt, "memory");
@@ -41,6 +79,9 @@ fn check_long(rt: &impl Abort, alloc: Global) {
     let string = NodeStr::new_str(alloc, text.as_str()).expect(rt, "memory");
     let found = to_ast_json_text(alloc, &string).expect(rt, "memory");
     assert_eq!(rt; found.len(), 6_000_046);
+    let mut refused = Refused::none();
+    check_text(rt, alloc, &mut refused, &string);
+    assert!(rt; refused.calls == 0);
 }
 
 fn check_location(rt: &impl Abort, alloc: Global, at: u32, wanted: &str) {
@@ -62,11 +103,16 @@ fn check_nested(rt: &impl Abort, alloc: Global, levels: u32) {
     assert!(rt; refused.calls == 0);
 }
 
-/// Each row, a long text, the locations at both ends, and lists in one another.
-pub(crate) fn check_strings(rt: &impl Abort, alloc: Global) {
-    for (text, wanted) in ROWS {
+fn check_rows(rt: &impl Abort, alloc: Global, rows: &[(&str, &str)]) {
+    for (text, wanted) in rows {
         check_row(rt, alloc, text, wanted);
     }
+}
+
+/// Each row, a long text, the locations at both ends, and lists in one another.
+pub(crate) fn check_strings(rt: &impl Abort, alloc: Global) {
+    check_rows(rt, alloc, &ROWS);
+    check_rows(rt, alloc, &ESCAPES);
     check_long(rt, alloc);
     check_location(rt, alloc, 0, "\"loc\":{\"end\":0,\"start\":0}");
     check_location(

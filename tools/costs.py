@@ -8,8 +8,8 @@ Without a word it counts prints and misses. Each number is that of one round: of
 - prints: instructions a byte that is printed to a text, of each tree of docs/COST.md in the default layout and on one line, with names by `Name::compact`
   and, in brackets, with names that have memory of their own;
 - misses: last-level read misses for 1,000 bytes of a document or a list of 1,000, with a cache of 1 MiB, by cachegrind;
-- trees: the memory of 200 objects, types and queries, in KiB, with what its allocator takes besides, by massif: the most that a program holds that builds 400,
-  less the most that one holds that builds 200, neither of which prints;
+- trees: the memory of 200 objects, types and queries, in KiB, with what its allocator takes besides: a hundredth of what a program that builds 40,000 holds, less
+  what one holds that builds 20,000, neither of which prints;
 - calls: of each operation of op_speed over that document in AST JSON the instructions, in millions and a byte, and the memory that it asks for, a byte: of
   the GraphQL that is printed of the tree, or of the AST JSON where that is read or written. Of a look-up the instructions an item of its list. The bytes
   that a call asks for are those that dhat counts, also where they are given back within it.
@@ -17,10 +17,10 @@ Without a word it counts prints and misses. Each number is that of one round: of
 It needs valgrind (`apt-get install valgrind` on Debian). The counts of one program don't depend on what else the machine does.
 """
 import argparse
+import os
 import re
 import subprocess
 import sys
-import tempfile
 from concurrent.futures import ThreadPoolExecutor
 from pathlib import Path
 
@@ -31,7 +31,6 @@ MISSES = [("objects", 1000), ("schema", 1000), ("queries", 1000)]
 CALLS = ["equal", "well_formed", "clone", "look_up", "print", "walk", "rebuild", "build", "build_drop", "build_print", "read", "write", "write_text"]
 FINDS = ["find_directive", "find_argument", "find_field", "find_enum_value", "find_variable", "find_type"]
 ITEMS = 10000
-HEAP = re.compile(r"mem_heap_B=(\d+)\nmem_heap_extra_B=(\d+)")
 INSTRUCTIONS = (["--tool=callgrind", "--callgrind-out-file=/dev/null"], re.compile(r"Collected : (\d+)"))
 MEMORY = (["--tool=dhat", "--dhat-out-file=/dev/null"], re.compile(r"Total: +([\d,]+) bytes"))
 READ_MISSES = (
@@ -92,24 +91,20 @@ def of_misses(pool):
         print(f"{tree} {count}: {1000 * compact[0] / compact[1]:.0f} ({1000 * own[0] / own[1]:.0f})", flush=True)
 
 
-def heap(tree, count, names):
-    """The most memory, in KiB, that a program holds which builds so many, and prints none of them: with what massif counts for its allocator."""
+def resident(tree, count, names):
+    """The most memory, in KiB, that a program holds which builds so many, and prints none of them."""
     words = [program("print_speed"), tree, count, 0, "default", "sink", names, "exact"]
-    with tempfile.NamedTemporaryFile() as out:
-        options = ["--tool=massif", "--peak-inaccuracy=0.0", f"--massif-out-file={out.name}"]
-        done = subprocess.run(["valgrind", *options, *map(str, words)], capture_output=True, text=True)
-        told = out.read().decode()
-    if done.returncode != 0:
-        sys.exit(f"{' '.join(map(str, words))} ended with status {done.returncode}:\n{done.stderr[-800:]}")
-    return max(int(held) + int(more) for held, more in HEAP.findall(told)) / 1024
+    child = subprocess.Popen(list(map(str, words)), stdout=subprocess.DEVNULL)
+    _, status, usage = os.wait4(child.pid, 0)
+    if status:
+        sys.exit(f"{' '.join(map(str, words))} ended with status {status}")
+    return usage.ru_maxrss
 
 
-def of_trees(pool):
+def of_trees():
     print("memory of a tree, KiB (names of their own)")
-    asked = [(tree, count, names) for tree, count in TREES for names in ["compact", "own"]]
-    found = {it: [pool.submit(heap, it[0], times * it[1], it[2]) for times in (1, 2)] for it in asked}
     for tree, count in TREES:
-        compact, own = (found[tree, count, names][1].result() - found[tree, count, names][0].result() for names in ["compact", "own"])
+        compact, own = ((resident(tree, 200 * count, names) - resident(tree, 100 * count, names)) / 100 for names in ["compact", "own"])
         print(f"{tree} {count}: {compact:.0f} ({own:.0f})", flush=True)
 
 
@@ -144,7 +139,7 @@ def main():
             elif word == "misses":
                 of_misses(pool)
             elif word == "trees":
-                of_trees(pool)
+                of_trees()
             elif word == "calls" and (document := next(what, None)):
                 of_calls(pool, document)
             else:

@@ -1,11 +1,11 @@
-//! Prints whose pieces begin and end at each place about the end of the buffer, which holds 1,024 bytes.
+//! Prints whose pieces begin and end at each place of the buffer, which holds 1,024 bytes.
 use crate::checks::check_made;
 use graphql_base::name::Name;
 use graphql_base::node::Node;
 use graphql_checks::trees::check_print;
 use graphql_text::engine::{Serialize, Syntax};
 use graphql_values::input_value_definition::InputValueDefinition;
-use graphql_values::literal::IntValue;
+use graphql_values::literal::{FloatValue, IntValue};
 use graphql_values::types::Type;
 use graphql_values::value::Value;
 use std::alloc::Global;
@@ -44,13 +44,27 @@ fn check_letters(rt: &impl Abort, alloc: Global, filler: usize, letters: &str) {
     check_piece(rt, alloc, filler, name, letters);
 }
 
+fn float_value(rt: &impl Abort, alloc: Global, text: &str) -> Node<Value> {
+    assert!(rt; FloatValue::valid_syntax(text));
+    let float = FloatValue::new_parsed(alloc, text).expect(rt, "memory");
+    Node::new(alloc, Value::Float(float)).expect(rt, "memory")
+}
+
+/// A float of so many digits before the point.
+fn check_float(rt: &impl Abort, alloc: Global, filler: usize, digits: &str) {
+    let text = format!(in alloc; "{digits}.5").expect(rt, "memory");
+    let float = float_value(rt, alloc, text.as_str());
+    check_piece(rt, alloc, filler, float, text.as_str());
+}
+
 fn check_digits(rt: &impl Abort, alloc: Global, filler: usize, length: usize) {
     let digits = "1".repeat(alloc, length).expect(rt, "memory");
     let int = int_value(rt, alloc, digits.as_str());
     check_piece(rt, alloc, filler, int, digits.as_str());
+    check_float(rt, alloc, filler, digits.as_str());
 }
 
-/// A string of so many letters, and but for none a name of as many and an int of as many digits.
+/// A string of so many letters, and but for none a name of as many, and an int and a float of as many digits.
 fn check_pieces(rt: &impl Abort, alloc: Global, filler: usize, length: usize) {
     let letters = "a".repeat(alloc, length).expect(rt, "memory");
     check_string(rt, alloc, filler, letters.as_str());
@@ -60,13 +74,21 @@ fn check_pieces(rt: &impl Abort, alloc: Global, filler: usize, length: usize) {
     }
 }
 
+fn check_about_the_end(rt: &impl Abort, alloc: Global, length: usize) {
+    for filler in 978..1024 {
+        check_pieces(rt, alloc, filler, length);
+    }
+}
+
+/// Pieces of each length up to 40 about the end, and those that no other test has at each fill level of the buffer.
 #[test]
 fn pieces_about_the_end_of_the_buffer(rt: HostRuntime) {
     for length in 0..41 {
-        for filler in 978..1024 {
-            check_pieces(&rt, rt.alloc(), filler, length);
-        }
+        check_about_the_end(&rt, rt.alloc(), length);
+        let letters = "a".repeat(rt.alloc(), length).expect(&rt, "memory");
+        check_long_pieces(&rt, rt.alloc(), letters.as_str());
     }
+    check_floats(&rt, rt.alloc());
 }
 
 /// Prints the tree behind these blanks: they stand as the indentation of the first line.
@@ -116,6 +138,41 @@ fn check_ints(rt: &impl Abort, alloc: Global) {
         add(rt, &mut digits, "1");
         let int = int_value(rt, alloc, digits.as_str());
         check_at_each_fill_level(rt, alloc, &*int, digits.as_str());
+    }
+}
+
+/// The same of the text alone, which is one of many.
+fn check_text_at_each_fill_level(rt: &impl Abort, alloc: Global, tree: &Value, text: &str) {
+    let mut blanks = String::new(alloc);
+    for _ in 0..=1024 {
+        let print = Serialize::new(tree).indent_prefix(blanks.as_str());
+        let printed = print.initial_indent_level(1).to_text(alloc);
+        let printed = printed.expect(rt, "memory");
+        let found = printed.as_str().strip_prefix(blanks.as_str());
+        assert!(rt; found == Some(text), "{printed}");
+        add(rt, &mut blanks, " ");
+    }
+}
+
+/// Floats of 3 digits and a point, and about as many as stand in place.
+fn check_floats(rt: &impl Abort, alloc: Global) {
+    for text in [
+        "1.50",
+        "111111111111111111111111111.5",
+        "1111111111111111111111111111.5",
+        "11111111111111111111111111111.5",
+    ] {
+        check_text_at_each_fill_level(rt, alloc, &*float_value(rt, alloc, text), text);
+    }
+}
+
+/// A string of these letters, and from 21 letters on a name, which is shared.
+fn check_long_pieces(rt: &impl Abort, alloc: Global, letters: &str) {
+    let string = Value::from_text(alloc, letters).expect(rt, "memory");
+    let quoted = format!(in alloc; "\"{letters}\"").expect(rt, "memory");
+    check_text_at_each_fill_level(rt, alloc, &string, quoted.as_str());
+    if letters.len() > 20 {
+        check_text_at_each_fill_level(rt, alloc, &*enum_value(rt, alloc, letters), letters);
     }
 }
 

@@ -17,3 +17,8 @@ pub(crate) fn one(alloc: Global) -> Result<Value, AllocError> {
 pub(crate) fn items(alloc: Global) -> Result<Value, AllocError> {
     value!(in alloc; [1, EXAMPLE, true, null])
 }
+
+/// `[[], 1.5]`
+pub(crate) fn nested(alloc: Global) -> Result<Value, AllocError> {
+    value!(in alloc; [[], 1.5])
+}

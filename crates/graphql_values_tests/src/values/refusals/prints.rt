@@ -1,9 +1,8 @@
 //! Trees that are copied, printed and displayed, or refused.
-use crate::checks::{check_displayed_or_refused, check_equal, check_print_or_refused};
+use crate::checks::{check_displayed_or_refused, check_print_or_refused};
 use crate::samples::{FORMS, definition, directive, directives, input, items, nested, value_of};
 use graphql_checks::refused::{check_cloned_or_refused, check_text_or_refused};
-use graphql_text::engine::{PrintError, Syntax};
-use graphql_text::sink::{TextSink, VecSink};
+use graphql_text::engine::Syntax;
 use graphql_values::ty;
 use std::alloc::{AllocError, Global};
 use std::fmt::Display;
@@ -75,37 +74,4 @@ fn a_type_is_made_copied_and_displayed_or_refused(rt: HostRuntime) {
     if let Ok(ty) = ty!(in rt.alloc(); [[I!]]) {
         check_displayed_or_refused(&rt, &ty, "[[I!]]");
     }
-}
-
-/// The sink grows several times for so many bytes.
-fn check_vector(rt: &impl Abort, printed: Result<(), PrintError>, sink: &VecSink, wanted: &[u8]) {
-    let bytes = sink.bytes();
-    check_equal(
-        rt,
-        sink.faults(),
-        u64::from(printed == Err(PrintError::Sink)),
-    );
-    match printed {
-        Ok(()) => assert!(rt; bytes == wanted),
-        Err(PrintError::Memory) => assert!(rt; bytes.is_empty()),
-        Err(PrintError::Sink) => assert!(rt;
-            bytes.len() < wanted.len() && wanted.starts_with(bytes)
-        ),
-        Err(PrintError::LevelOverflow) => assert!(rt; false, "level 400"),
-    }
-}
-
-/// Allocations: 12.
-#[test]
-fn a_vector_takes_a_beginning_or_all(rt: HostRuntime) {
-    let Ok(value) = nested(rt.alloc()) else {
-        return;
-    };
-    let print = value.serialize().initial_indent_level(400);
-    let Ok(wanted) = print.to_text(rt.alloc()) else {
-        return;
-    };
-    let mut sink = VecSink::new(rt.alloc());
-    let printed = print.print_to(&mut sink);
-    check_vector(&rt, printed, &sink, wanted.as_bytes());
 }

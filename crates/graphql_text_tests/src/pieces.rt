@@ -80,7 +80,7 @@ fn check_about_the_end(rt: &impl Abort, alloc: Global, length: usize) {
     }
 }
 
-/// Pieces of each length up to 40 about the end, and those that no other test has at each fill level of the buffer.
+/// Pieces of each length up to 40 about the end, and at each fill level of the buffer strings, long names and some floats.
 #[test]
 fn pieces_about_the_end_of_the_buffer(rt: HostRuntime) {
     for length in 0..41 {

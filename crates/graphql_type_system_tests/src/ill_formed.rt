@@ -138,25 +138,18 @@ fn placed_object(
 
 fn placed_objects(alloc: Global) -> Cases<ObjectTypeDefinition> {
     let (outer, middle, inner) = (at(10, 30), at(12, 28), at(15, 25));
-    Ok(vec![in alloc;
-        (
-            placed_object(alloc, outer, middle, inner)?,
-            Some((IsConstant, Some("w"), inner))
-        ),
-        (
-            placed_object(alloc, outer, middle, None)?,
-            Some((IsConstant, Some("w"), middle))
-        ),
-        (
-            placed_object(alloc, outer, None, inner)?,
-            Some((IsConstant, Some("w"), inner))
-        ),
-        (
-            placed_object(alloc, outer, None, None)?,
-            Some((IsConstant, Some("w"), outer))
-        ),
-        (placed_object(alloc, None, None, None)?, IN_A_DEFAULT),
-    ]?)
+    let rows = [
+        (outer, middle, inner, Some((IsConstant, Some("w"), inner))),
+        (outer, middle, None, Some((IsConstant, Some("w"), middle))),
+        (outer, None, inner, Some((IsConstant, Some("w"), inner))),
+        (outer, None, None, Some((IsConstant, Some("w"), outer))),
+        (None, None, None, IN_A_DEFAULT),
+    ];
+    let mut cases = Vec::new(alloc);
+    for (outer, middle, inner, flaw) in rows {
+        cases.push((placed_object(alloc, outer, middle, inner)?, flaw))?;
+    }
+    Ok(cases)
 }
 
 /// `extend enum null`, which adds nothing, where the name has a location.

@@ -19,15 +19,25 @@ fn schema(alloc: Global) -> Result<SchemaDefinition, AllocError> {
     })
 }
 
-fn auth(alloc: Global) -> Result<DirectiveDefinition, AllocError> {
+/// `role: Role! = USER`
+fn role_argument(alloc: Global) -> Result<Node<InputValueDefinition>, AllocError> {
     let mut role = InputValueDefinition::new(alloc, name!(role), Node::new(alloc, ty!(Role!))?);
     role.default_value = Some(Node::new(alloc, value!(in alloc; USER)?)?);
+    Node::new(alloc, role)
+}
+
+/// `scopes: [String!] = []`
+fn scopes_argument(alloc: Global) -> Result<Node<InputValueDefinition>, AllocError> {
     let strings = Node::new(alloc, ty!(in alloc; [String!])?)?;
     let mut scopes = InputValueDefinition::new(alloc, name!(scopes), strings);
     scopes.default_value = Some(Node::new(alloc, value!(in alloc; [])?)?);
+    Node::new(alloc, scopes)
+}
+
+fn auth(alloc: Global) -> Result<DirectiveDefinition, AllocError> {
     let mut auth = DirectiveDefinition::new(alloc, name!(auth));
     auth.description = Some(NodeStr::new_str(alloc, "Who may ask")?);
-    auth.arguments = vec![in alloc; Node::new(alloc, role)?, Node::new(alloc, scopes)?]?;
+    auth.arguments = vec![in alloc; role_argument(alloc)?, scopes_argument(alloc)?]?;
     auth.repeatable = true;
     auth.locations.push(DirectiveLocation::Object)?;
     auth.locations.push(DirectiveLocation::FieldDefinition)?;
@@ -75,13 +85,18 @@ fn priced(alloc: Global) -> Result<InterfaceTypeDefinition, AllocError> {
     Ok(priced)
 }
 
-/// `reviews(first: Int = 10, after: ID): [Review!]!`
-fn reviews(alloc: Global) -> Result<Node<FieldDefinition>, AllocError> {
+/// `first: Int = 10`
+fn first(alloc: Global) -> Result<Node<InputValueDefinition>, AllocError> {
     let mut first = InputValueDefinition::new(alloc, name!(first), Node::new(alloc, ty!(Int))?);
     first.default_value = Some(Node::new(alloc, value!(in alloc; 10)?)?);
+    Node::new(alloc, first)
+}
+
+/// `reviews(first: Int = 10, after: ID): [Review!]!`
+fn reviews(alloc: Global) -> Result<Node<FieldDefinition>, AllocError> {
     let after = InputValueDefinition::new(alloc, name!(after), Node::new(alloc, ty!(ID))?);
     let mut reviews = FieldDefinition::new(alloc, name!(reviews), ty!(in alloc; [Review!]!)?);
-    reviews.arguments = vec![in alloc; Node::new(alloc, first)?, Node::new(alloc, after)?]?;
+    reviews.arguments = vec![in alloc; first(alloc)?, Node::new(alloc, after)?]?;
     Node::new(alloc, reviews)
 }
 
@@ -158,17 +173,22 @@ fn search_result(alloc: Global) -> Result<UnionTypeDefinition, AllocError> {
     Ok(result)
 }
 
-fn currency(alloc: Global) -> Result<EnumTypeDefinition, AllocError> {
+/// `"Gone" DEM @deprecated(reason: "euro")`
+fn mark(alloc: Global) -> Result<Node<EnumValueDefinition>, AllocError> {
     let reason = Node::new(alloc, value!(in alloc; "euro")?)?;
     let mut deprecated = Directive::new(alloc, name!(deprecated));
     deprecated.arguments = vec![in alloc; Argument::new_node(alloc, name!(reason), reason)?]?;
     let mut mark = EnumValueDefinition::new(alloc, name!(DEM));
     mark.description = Some(NodeStr::new_str(alloc, "Gone")?);
     mark.directives = DirectiveList::of(alloc, deprecated)?;
+    Node::new(alloc, mark)
+}
+
+fn currency(alloc: Global) -> Result<EnumTypeDefinition, AllocError> {
     let mut currency = EnumTypeDefinition::new(alloc, name!(Currency));
     currency.values.push(Node::new(alloc, EnumValueDefinition::new(alloc, name!(EUR)))?)?;
     currency.values.push(Node::new(alloc, EnumValueDefinition::new(alloc, name!(USD)))?)?;
-    currency.values.push(Node::new(alloc, mark)?)?;
+    currency.values.push(mark(alloc)?)?;
     Ok(currency)
 }
 
